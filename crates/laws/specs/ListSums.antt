@@ -1,0 +1,106 @@
+-- Sums over the entries of a list, as sums over a range.
+use Prim.Native.Nat.{ℕ, zero, suc, _+_, _*_, _≤_, _<_}
+use native.Mathlib.Nat.{add-zero, zero-add, zero-mul, one-mul, add-assoc, le-step, lt-suc-self}
+use native.Mathlib.Omega.{arith}
+use mathlib.Core.Path.{_≡_, refl, sym, ap, ap₂, _∙_}
+use mathlib.Core.Bool.{Bool, true, false, cond}
+use mathlib.Core.List.{List, [], _∷_, _++_, map, flatMap}
+use lib.ListN.{length, getD}
+use Rattle.model.specs.Lists.{one, upto, keep, sumOver, sumPairs}
+use Rattle.laws.specs.Sums.{sum, sum-first}
+
+module _ {A : Type 0} where
+  -- each entry has the property P
+  pub data All (P : A → Type 0) : List A → Type 0 where
+    none : All P []
+    also : {x : A} {xs : List A} → P x → All P xs → All P (x ∷ xs)
+
+  pub all-append : {P : A → Type 0} {xs ys : List A} → All P xs → All P ys → All P (xs ++ ys)
+  all-append none q = q
+  all-append (also p ps) q = also p (all-append ps q)
+
+  pub sumOver-ext : {P : A → Type 0} (f g : A → ℕ) {xs : List A} → All P xs → ((x : A) → P x → f x ≡ g x) → sumOver f xs ≡ sumOver g xs
+  unfolding sumOver
+  sumOver-ext f g none h = refl
+  sumOver-ext f g (also {x} p ps) h = ap₂ (λ (a b : ℕ). a + b) (h x p) (sumOver-ext f g ps h)
+
+  pub sumOver-add : (f g : A → ℕ) (xs : List A) → sumOver (λ x. f x + g x) xs ≡ sumOver f xs + sumOver g xs
+  unfolding sumOver
+  sumOver-add f g [] = refl
+  sumOver-add f g (x ∷ xs) = rw (sumOver-add f g xs) (omega arith)
+
+  pub sumOver-append : (f : A → ℕ) (xs ys : List A) → sumOver f (xs ++ ys) ≡ sumOver f xs + sumOver f ys
+  unfolding sumOver
+  sumOver-append f [] ys = omega arith
+  sumOver-append f (x ∷ xs) ys = rw (sumOver-append f xs ys) (omega arith)
+
+  pub sumOver-keep : (f : A → ℕ) (p : A → Bool) (xs : List A) → sumOver f (keep p xs) ≡ sumOver (λ x. one (p x) * f x) xs
+  unfolding sumOver keep one
+  sumOver-keep f p [] = refl
+  sumOver-keep f p (x ∷ xs) = by-test (p x) (sumOver-keep f p xs)
+    where
+      by-test : (b : Bool) → sumOver f (keep p xs) ≡ sumOver (λ x. one (p x) * f x) xs
+          → sumOver f (cond b (x ∷ keep p xs) (keep p xs)) ≡ one b * f x + sumOver (λ x. one (p x) * f x) xs
+      by-test true e = omega arith
+      by-test false e = omega arith
+
+  -- by place
+  pub sumOver-places : (f : A → ℕ) (d : A) (xs : List A) → sumOver f xs ≡ sum (length xs) (λ i. f (getD xs i d))
+  unfolding sumOver sum
+  sumOver-places f d [] = refl
+  sumOver-places f d (x ∷ xs) = ap (λ (a : ℕ). f x + a) (sumOver-places f d xs) ∙ sym (sum-first (length xs) (λ i. f (getD (x ∷ xs) i d)))
+
+  -- each two entries twice are all pairs of entries, where f is symmetric and 0 at an entry and itself
+  pub sumPairs-twice : {P : A → Type 0} (f : A → A → ℕ) {xs : List A} → All P xs
+      → ((x y : A) → P x → P y → f x y ≡ f y x) → ((x : A) → P x → f x x ≡ 0)
+      → 2 * sumPairs f xs ≡ sumOver (λ x. sumOver (f x) xs) xs
+  unfolding sumOver sumPairs
+  sumPairs-twice f none s z = refl
+  sumPairs-twice f (also {x} {xs} p ps) s z =
+      rw (sumOver-add (λ y. f y x) (λ y. sumOver (f y) xs) xs, ← (sumPairs-twice f ps s z), z x p)
+      (omega (arith, sumOver-ext (λ y. f y x) (f x) ps (λ y q. s y x q p)))
+
+module _ {A B : Type 0} where
+  pub sumOver-map : (f : B → ℕ) (g : A → B) (xs : List A) → sumOver f (map g xs) ≡ sumOver (λ x. f (g x)) xs
+  unfolding sumOver
+  sumOver-map f g [] = refl
+  sumOver-map f g (x ∷ xs) = ap (λ (a : ℕ). f (g x) + a) (sumOver-map f g xs)
+
+  pub sumOver-flatMap : (f : B → ℕ) (g : A → List B) (xs : List A) → sumOver f (flatMap g xs) ≡ sumOver (λ x. sumOver f (g x)) xs
+  unfolding sumOver flatMap
+  sumOver-flatMap f g [] = refl
+  sumOver-flatMap f g (x ∷ xs) = sumOver-append f (g x) (flatMap g xs) ∙ ap (λ (a : ℕ). sumOver f (g x) + a) (sumOver-flatMap f g xs)
+
+  pub all-map : {P : A → Type 0} (Q : B → Type 0) (g : A → B) {xs : List A} → All P xs → ((x : A) → P x → Q (g x)) → All Q (map g xs)
+  all-map Q g none h = none
+  all-map Q g (also {x} p ps) h = also (h x p) (all-map Q g ps h)
+
+  pub all-flatMap : {P : A → Type 0} {Q : B → Type 0} (g : A → List B) {xs : List A} → All P xs → ((x : A) → P x → All Q (g x)) → All Q (flatMap g xs)
+  unfolding flatMap
+  all-flatMap g none h = none
+  all-flatMap g (also {x} p ps) h = all-append (h x p) (all-flatMap g ps h)
+
+-- the numbers below n
+pub sumOver-upto : (f : ℕ → ℕ) (n : ℕ) → sumOver f (upto n) ≡ sum n f
+unfolding sumOver upto sum
+sumOver-upto f zero = refl
+sumOver-upto f (suc n) = sumOver-append f (upto n) (n ∷ []) ∙ ap₂ (λ (a b : ℕ). a + b) (sumOver-upto f n) (add-zero (f n))
+
+module _ {A : Type 0} where
+  pub all-mono : {P Q : A → Type 0} {xs : List A} → All P xs → ((x : A) → P x → Q x) → All Q xs
+  all-mono none h = none
+  all-mono (also {x} p ps) h = also (h x p) (all-mono ps h)
+
+  pub all-keep : {P : A → Type 0} (p : A → Bool) {xs : List A} → All P xs → All P (keep p xs)
+  unfolding keep
+  all-keep p none = none
+  all-keep {P} p (also {x} {xs} q qs) = by-test (p x) (all-keep p qs)
+    where
+      by-test : (b : Bool) → All P (keep p xs) → All P (cond b (x ∷ keep p xs) (keep p xs))
+      by-test true r = also q r
+      by-test false r = r
+
+pub all-upto : (n : ℕ) → All (λ i. i < n) (upto n)
+unfolding upto
+all-upto zero = none
+all-upto (suc n) = all-append (all-mono (all-upto n) (λ i l. le-step l)) (also (lt-suc-self n) none)

@@ -1,0 +1,1 @@
+// Mathematics about the definitions of model; no code.

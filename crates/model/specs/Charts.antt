@@ -1,0 +1,139 @@
+-- Charts: fields, the eight questions, and the layout that an accepted chart gives.
+use Prim.Native.Nat.{ℕ, zero, suc, _+_, _*_, _^_, _%_, min, max}
+use mathlib.Core.Bool.{Bool, true, false, not, cond, _&&_}
+use mathlib.Core.List.{List, [], _∷_, _++_, map}
+use lib.ListN.{length, getD, take, drop, replicate}
+use lib.Dec.{eqb, leb, ltb}
+use Rattle.model.specs.declared.Edge.{Edge}
+use Rattle.model.specs.declared.Layout.{Layout}
+use Rattle.model.specs.declared.ChartRead.{ChartRead}
+use Rattle.model.specs.Lists.{upto, every, any, sumOver, noRepeats}
+use Rattle.model.specs.Crossings.{crossings}
+use Rattle.model.specs.Layouts.{capacity, emptyLayout, eachOnce}
+use Rattle.model.specs.Checks.{Check, checked}
+
+-- ---- fields
+
+-- "A chart is a run of fields: one-byte tag, two-byte length (high byte first), body."
+pub record Field : Type 0 where
+  pub tag : ℕ
+  pub body : List ℕ
+
+-- the fields at the start of the input, as far as they are complete, and whether the input ends with them
+pub record Fields : Type 0 where
+  pub complete : Bool
+  pub fields : List Field
+
+-- the length that a header gives to the body behind it
+unfoldable pub bodyLength : List ℕ → ℕ
+bodyLength s = 256 * getD s 1 0 + getD s 2 0
+
+-- is there a header, and as much behind it as it says?
+unfoldable pub startsWithField : List ℕ → Bool
+startsWithField s = leb 3 (length s) && leb (3 + bodyLength s) (length s)
+
+unfoldable pub firstField : List ℕ → Field
+firstField s = record { tag = getD s 0 0; body = take (bodyLength s) (drop 3 s) }
+
+-- at most k fields
+unfoldable pub fieldsIn : ℕ → List ℕ → Fields
+fieldsIn zero s = record { complete = eqb (length s) 0; fields = [] }
+fieldsIn (suc k) s =
+    elim (startsWithField s) [
+      | true ↦
+          (let rest = fieldsIn k (drop (3 + bodyLength s) s) in
+          record { complete = rest .complete; fields = firstField s ∷ rest .fields })
+      | false ↦ record { complete = eqb (length s) 0; fields = [] }
+    ]
+
+-- a field takes at least three bytes, so there are no more fields than bytes
+unfoldable pub fieldsOf : List ℕ → Fields
+fieldsOf s = fieldsIn (length s) s
+
+-- the body of the i-th field
+unfoldable pub bodyOf : List ℕ → ℕ → List ℕ
+bodyOf s i = getD (fieldsOf s .fields) i (record { tag = 0; body = [] }) .body
+
+-- ---- what the fields hold
+
+-- "Field 44 holds n in one byte."
+unfoldable pub chartSize : List ℕ → ℕ
+chartSize s = getD (bodyOf s 0) 0 0
+
+-- "Field 4C holds links, two bytes each, in any sequence, ends either way round.": each with its lower end first
+unfoldable pub edgesIn : List ℕ → List Edge
+edgesIn [] = []
+edgesIn (a ∷ []) = []
+edgesIn (a ∷ b ∷ rest) = record { low = min a b; high = max a b } ∷ edgesIn rest
+
+unfoldable pub chartEdges : List ℕ → List Edge
+chartEdges s = edgesIn (bodyOf s 1)
+
+-- "Field 52 holds the order, n bytes."
+unfoldable pub chartOrder : List ℕ → List ℕ
+chartOrder s = bodyOf s 2
+
+-- ---- the questions: "Each question is asked of the whole input before the next"
+
+-- the entries of two lists of numbers are the same
+unfoldable pub sameList : List ℕ → List ℕ → Bool
+sameList [] [] = true
+sameList [] (y ∷ ys) = false
+sameList (x ∷ xs) [] = false
+sameList (x ∷ xs) (y ∷ ys) = eqb x y && sameList xs ys
+
+unfoldable pub sameEdge : Edge → Edge → Bool
+sameEdge e f = eqb (e .low) (f .low) && eqb (e .high) (f .high)
+
+-- both ends of an edge below n, and different
+unfoldable pub edgeWithin : ℕ → Edge → Bool
+edgeWithin n e = ltb (e .low) (e .high) && ltb (e .high) n
+
+unfoldable pub chartChecks : List ℕ → List Check
+chartChecks s =
+    -- "Is the input at most 8,192 bytes? 1"
+    record { passes = leb (length s) 8192; code = 1 }
+    -- "Does it divide exactly into fields, each header and body complete? 2"
+    ∷ record { passes = fieldsOf s .complete; code = 2 }
+    -- "Are the tags 44, 4C, 52, each once, in that sequence? 3"
+    ∷ record { passes = sameList (map (λ f. f .tag) (fieldsOf s .fields)) (0x44 ∷ 0x4C ∷ 0x52 ∷ []); code = 3 }
+    -- "Is the body of 44 one byte, at most 64? 4"
+    ∷ record { passes = eqb (length (bodyOf s 0)) 1 && leb (chartSize s) capacity; code = 4 }
+    -- "Has the body of 4C an even length? 5"
+    ∷ record { passes = eqb (length (bodyOf s 1) % 2) 0; code = 5 }
+    -- "Are the ends of each link below n and different? 6"
+    ∷ record { passes = every (edgeWithin (chartSize s)) (chartEdges s); code = 6 }
+    -- "Is each pair written only once, either way round? 7"
+    ∷ record { passes = noRepeats sameEdge (chartEdges s); code = 7 }
+    -- "Has the body of 52 n bytes, holding each device once? 8"
+    ∷ record { passes = eqb (length (chartOrder s)) (chartSize s) && eachOnce (chartSize s) (chartOrder s); code = 8 }
+    ∷ []
+
+-- ---- the layout
+
+-- is one end of an edge u and the other v?
+unfoldable pub joins : ℕ → ℕ → Edge → Bool
+joins u v e = sameEdge e (record { low = min u v; high = max u v })
+
+-- the adjacency word of u: bit v is set exactly when an edge joins u and v
+unfoldable pub wordIn : List Edge → ℕ → ℕ
+wordIn es u = sumOver (λ v. cond (any (joins u v) es) (2 ^ v) 0) (upto capacity)
+
+-- "a ring read from a chart [carries] its true crossings"
+unfoldable pub chartLayout : List ℕ → Layout
+chartLayout s =
+    let n = chartSize s in
+    let adj = map (wordIn (chartEdges s)) (upto capacity) in
+    record {
+      n = n;
+      order = take capacity (chartOrder s ++ replicate capacity 0);
+      adjacency = adj;
+      count = crossings n (chartOrder s) adj;
+    }
+
+-- "a refusal returns the empty ring"
+unfoldable pub readOf : List ℕ → ChartRead
+readOf s =
+    checked (chartChecks s)
+    (record { refusal = 0; layout = chartLayout s })
+    (λ r. record { refusal = r; layout = emptyLayout })

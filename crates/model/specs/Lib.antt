@@ -1,0 +1,13 @@
+-- The definitions of document 01, one file a subject, in the order in which they build on each other.
+-- Whoever believes these files, and the contracts that cite them, need read no proof.
+pub mod Lists
+pub mod Crossings
+pub mod Layouts
+pub mod Checks
+pub mod Edits
+pub mod Reading
+pub mod GreedyAppend
+pub mod Sifting
+pub mod Charts
+pub mod Listing
+pub mod Starred

@@ -1,0 +1,135 @@
+-- The starred rings of document 01, "Rings worked by hand": one table, and one theorem about the definitions that covers it.
+use Prim.Native.Nat.{ℕ, _-_, _^_}
+use mathlib.Core.Bool.{Bool, true, false, Bool·beq, xor, _&&_}
+use mathlib.Core.List.{List, [], _∷_, _++_, map, flatMap}
+use lib.ListN.{length, take, replicate}
+use lib.Dec.{T, eqb}
+use Rattle.model.specs.declared.Edge.{Edge}
+use Rattle.model.specs.declared.Layout.{Layout}
+use Rattle.model.specs.Lists.{one, upto, every, any, keep, firstWith, sumOver, sumPairs, noRepeats, member, occurrences, place}
+use Rattle.model.specs.Crossings.{bit, linked, edges, between, alternate, crosses, crossings}
+use Rattle.model.specs.Layouts.{capacity, vertexOrder, crossingsOf, eachOnce, zeroFrom, symmetric, loopless, bitsBelow, valid, carried, changed, reordered}
+use Rattle.model.specs.Checks.{refusal, byRefusal, checked, isValid, isVertex, differ, limitFits}
+use Rattle.model.specs.Edits.{changedOr, insertAfter, movedAfter, moveChecks, moveOf}
+use Rattle.model.specs.Reading.{pairWith, orElse, firstPair, firstCrossingOf}
+use Rattle.model.specs.GreedyAppend.{unplaced, degreeIn, preferred, bestOf, nextVertex, closing, open′, frontCrossings, backCrossings, placeVertex, placeMore, placeAll, layChecks, layOf}
+use Rattle.model.specs.Sifting.{clockwiseFrom, candidates, least, leastCrossings, improves, siftedOrder, sifted, reduction, siftChecks, siftOf, moves, siftAll, siftRound, roundOf, afterRound, stopped, roundsUpTo, settleChecks, settleOf}
+use Rattle.model.specs.Charts.{sameList, sameEdge, joins, wordIn}
+
+-- ---- the table
+
+-- a ring: how many vertices, its edges and its order
+pub record Ring : Type 0 where
+  pub vertices : ℕ
+  pub links : List Edge
+  pub order : List ℕ
+
+-- what the table says of a ring
+pub data Claim : Type 0 where
+  -- its crossings
+  crossing : ℕ → Claim
+  -- the shown crossing pair, or no edge for "none"
+  showing : List Edge → Claim
+  -- move a behind b: the order
+  moving : ℕ → ℕ → List ℕ → Claim
+  -- lay from s: the order and the tally
+  laying : ℕ → List ℕ → ℕ → Claim
+  -- sift u: the order and the saving
+  sifting : ℕ → List ℕ → ℕ → Claim
+  -- settle with a limit: the rounds, "settled", the count and the order
+  settling : ℕ → ℕ → Bool → ℕ → List ℕ → Claim
+
+pub record Row : Type 0 where
+  pub ring : Ring
+  pub claims : List Claim
+
+-- the edge a-b, written lower end first
+infix 90 _to_
+unfoldable pub _to_ : ℕ → ℕ → Edge
+a to b = record { low = a; high = b }
+
+-- all edges between n vertices
+unfoldable pub complete : ℕ → List Edge
+complete n = edges n (replicate n (2 ^ n - 1))
+
+unfoldable pub first : Ring
+first = record { vertices = 4; links = 0 to 2 ∷ 1 to 3 ∷ []; order = 0 ∷ 1 ∷ 2 ∷ 3 ∷ [] }
+
+unfoldable pub starred : List Row
+starred =
+    record { ring = first; claims = crossing 1 ∷ showing (0 to 2 ∷ 1 to 3 ∷ []) ∷ [] }
+    ∷ record {
+      ring = record { vertices = 4; links = 0 to 2 ∷ 1 to 3 ∷ []; order = 0 ∷ 2 ∷ 1 ∷ 3 ∷ [] };
+      claims = crossing 0 ∷ showing [] ∷ [];
+    }
+    ∷ record {
+      ring = record { vertices = 4; links = 0 to 2 ∷ 0 to 3 ∷ []; order = 0 ∷ 1 ∷ 2 ∷ 3 ∷ [] };
+      claims = crossing 0 ∷ [];
+    }
+    ∷ record {
+      ring = record { vertices = 4; links = complete 4; order = 0 ∷ 1 ∷ 2 ∷ 3 ∷ [] };
+      claims = crossing 1 ∷ settling 1 1 true 1 (0 ∷ 1 ∷ 2 ∷ 3 ∷ []) ∷ [];
+    }
+    ∷ record {
+      ring = record { vertices = 5; links = complete 5; order = 0 ∷ 1 ∷ 2 ∷ 3 ∷ 4 ∷ [] };
+      claims = crossing 5 ∷ [];
+    }
+    ∷ record { ring = first; claims = sifting 0 (1 ∷ 0 ∷ 2 ∷ 3 ∷ []) 1 ∷ [] }
+    ∷ record {
+      ring = first;
+      claims = settling 1 1 false 0 (1 ∷ 0 ∷ 2 ∷ 3 ∷ []) ∷ settling 2 2 true 0 (1 ∷ 0 ∷ 2 ∷ 3 ∷ []) ∷ [];
+    }
+    ∷ record {
+      ring = record { vertices = 4; links = []; order = 0 ∷ 1 ∷ 2 ∷ 3 ∷ [] };
+      claims = moving 3 0 (0 ∷ 3 ∷ 1 ∷ 2 ∷ []) ∷ [];
+    }
+    ∷ record {
+      ring = record { vertices = 4; links = 0 to 1 ∷ 0 to 2 ∷ 1 to 3 ∷ 2 to 3 ∷ []; order = 0 ∷ 1 ∷ 2 ∷ 3 ∷ [] };
+      claims = laying 0 (2 ∷ 0 ∷ 1 ∷ 3 ∷ []) 0 ∷ [];
+    }
+    ∷ []
+
+-- ---- the theorem
+
+-- the layout of a ring of the table, with its true count
+unfoldable pub layoutOf : Ring → Layout
+layoutOf r =
+    let adj = map (wordIn (r .links)) (upto capacity) in
+    record {
+      n = r .vertices;
+      order = take capacity (r .order ++ replicate capacity 0);
+      adjacency = adj;
+      count = crossings (r .vertices) (r .order) adj;
+    }
+
+-- are two lists of edges the same?
+unfoldable pub sameEdges : List Edge → List Edge → Bool
+sameEdges es fs = sameList (ends es) (ends fs)
+  where
+    ends : List Edge → List ℕ
+    ends [] = []
+    ends (e ∷ es) = e .low ∷ e .high ∷ ends es
+
+-- does a call's answer have refusal code 0 and this order?
+unfoldable pub gives : ℕ → Layout → List ℕ → Bool
+gives refused l o = eqb refused 0 && sameList (vertexOrder l) o
+
+unfoldable pub holds : Layout → Claim → Bool
+holds l (crossing k) = eqb (crossingsOf l) k && eqb (l .count) k
+holds l (showing pair) =
+    let a = firstCrossingOf l in
+    eqb (a .refusal) 0 && sameEdges (a .pair) pair && Bool·beq (a .none) (eqb (length pair) 0)
+holds l (moving a b o) = let r = moveOf l a b in gives (r .refusal) (r .layout) o
+holds l (laying s o tally) = let r = layOf l s in gives (r .refusal) (r .layout) o && eqb (r .tally) tally
+holds l (sifting u o saving) = let r = siftOf l u in gives (r .refusal) (r .layout) o && eqb (r .reduction) saving
+holds l (settling limit rounds settled count o) =
+    let r = settleOf l limit in
+    gives (r .refusal) (r .layout) o
+    && eqb (r .rounds) rounds
+    && Bool·beq (r .converged) settled
+    && eqb (r .layout .count) count
+
+-- every claim of the table holds, by computation
+pub starred-holds : T (every (λ row. every (holds (layoutOf (row .ring))) (row .claims)) starred)
+unfolding starred first complete _to_ layoutOf sameEdges gives holds one upto every any keep firstWith sumOver sumPairs noRepeats member occurrences place bit linked edges between alternate crosses crossings vertexOrder crossingsOf eachOnce zeroFrom symmetric loopless bitsBelow valid carried changed reordered refusal byRefusal checked isValid isVertex differ limitFits changedOr insertAfter movedAfter moveChecks moveOf pairWith orElse firstPair firstCrossingOf unplaced degreeIn preferred bestOf nextVertex closing open′ frontCrossings backCrossings placeVertex placeMore placeAll layChecks layOf clockwiseFrom candidates least leastCrossings improves siftedOrder sifted reduction siftChecks siftOf moves siftAll siftRound roundOf afterRound stopped roundsUpTo settleChecks settleOf sameList sameEdge joins wordIn flatMap xor
+starred-holds = tt

@@ -1,0 +1,85 @@
+// The public types of the library. What the calls do with them is defined in specs/.
+
+// A circular layout (document 01: a ring). Vertices (devices) are 0 to n - 1. The first n places
+// of order hold them clockwise. Bit i of adjacency[v] (the neighbour word of v) is set exactly
+// when v and i are joined by an edge (a link). count is the carried count.
+pub struct Layout {
+    pub n: usize,
+    pub order: [u8; 64],
+    pub adjacency: [u64; 64],
+    pub count: u32,
+}
+
+// An edge (a link), the lower end first.
+pub struct Edge {
+    pub low: usize,
+    pub high: usize,
+}
+
+// What the calls answer. refusal is 0 for an accepted call, and otherwise the number of the first
+// check (question) that failed; the layout is then the one handed in, every other number is 0 and
+// every bool false.
+
+// Adding or removing an edge, moving a vertex (link, unlink, move).
+pub struct Changed {
+    pub refusal: u8,
+    pub layout: Layout,
+}
+
+// Adding a vertex (add): its number.
+pub struct Added {
+    pub refusal: u8,
+    pub layout: Layout,
+    pub vertex: usize,
+}
+
+// Greedy append (lay): the tally of crossings at the ends taken.
+pub struct Appended {
+    pub refusal: u8,
+    pub layout: Layout,
+    pub tally: u32,
+}
+
+// Sifting one vertex (sift): the reduction (saving), crossings before less crossings after.
+pub struct Sifted {
+    pub refusal: u8,
+    pub layout: Layout,
+    pub reduction: u32,
+}
+
+// A sifting round (round): the summed reduction, and how many vertices moved.
+pub struct Rounded {
+    pub refusal: u8,
+    pub layout: Layout,
+    pub reduction: u32,
+    pub moved: u32,
+}
+
+// Sifting rounds until a local minimum or the limit (settle): the summed reduction, the rounds run,
+// and whether the last of them moved no vertex (settled).
+pub struct Converged {
+    pub refusal: u8,
+    pub layout: Layout,
+    pub reduction: u32,
+    pub rounds: u32,
+    pub converged: bool,
+}
+
+// The carried count.
+pub struct Counted {
+    pub refusal: u8,
+    pub count: u32,
+}
+
+// The search for a crossing pair of edges (the shown crossing pair).
+pub enum FirstCrossing {
+    Pair(Edge, Edge),
+    Nothing,
+    Refused(u8),
+}
+
+// Reading a chart: a refused chart gives the empty layout.
+pub struct ChartRead {
+    pub refusal: u8,
+    pub layout: Layout,
+}
