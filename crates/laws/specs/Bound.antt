@@ -5,8 +5,8 @@ use native.Mathlib.Omega.{arith}
 use mathlib.Core.Path.{_≡_, refl, sym, ap, ap₂, _∙_}
 use lib.Dec.{ltb}
 use Rattle.model.specs.Lists.{one}
-use Rattle.laws.specs.Indicators.{Order, less, same, more, order, one-lt, one-ge}
-use Rattle.laws.specs.Sums.{sum, sum-ext, sum-zero, sum-const, sum-scale-right, sum-cut, sum-mono}
+use Rattle.laws.specs.Indicators.{Order, less, same, more, order, one-ge}
+use Rattle.laws.specs.Sums.{sum, sum-const, sum-cut, sum-below, sum-above, sum-mono}
 use Rattle.laws.specs.Pairs.{pairSum, pairSum-ext, pairSum-scale}
 use Rattle.laws.specs.Counting.{crossingSum, crossingSum-counted}
 
@@ -33,24 +33,6 @@ pairSum-mono n m F G nm h =
     le-trans (sum-mono n (λ j. one (ltb i j) * F i j) (λ j. one (ltb i j) * G i j) (λ j b. guarded i j (F i j) (G i j) (λ l. h i j l b))) (sum-more n m (λ j. one (ltb i j) * G i j) nm)))
     (sum-more n m (λ i. sum m (λ j. one (ltb i j) * G i j)) nm)
 
--- the numbers below j, and those above k
-pub count-below : (n j : ℕ) → j ≤ n → sum n (λ i. one (ltb i j)) ≡ j
-count-below n j h =
-    ap (λ (m : ℕ). sum m (λ i. one (ltb i j))) (sym (add-sub-of-le h))
-    ∙ sum-cut j (n - j) (λ i. one (ltb i j))
-    ∙ ap₂ (λ (x y : ℕ). x + y) (sum-ext j (λ i. one (ltb i j)) (λ i. 1) (λ i l. one-lt i j l) ∙ sum-const j 1)
-    (sum-zero (n - j) (λ i. one (ltb (j + i) j)) (λ i l. one-ge (j + i) j (omega arith)))
-    ∙ omega arith
-
-pub count-above : (n k : ℕ) → k < n → sum n (λ l. one (ltb k l)) ≡ n - suc k
-count-above n k h =
-    ap (λ (m : ℕ). sum m (λ i. one (ltb k i))) (sym (add-sub-of-le h))
-    ∙ sum-cut (suc k) (n - suc k) (λ i. one (ltb k i))
-    ∙ ap₂ (λ (x y : ℕ). x + y)
-    (sum-zero (suc k) (λ i. one (ltb k i)) (λ i l. one-ge k i (omega arith)))
-    (sum-ext (n - suc k) (λ i. one (ltb k (suc k + i))) (λ i. 1) (λ i l. one-lt k (suc k + i) (omega arith)) ∙ sum-const (n - suc k) 1)
-    ∙ omega arith
-
 -- places i < j < k < l below n, counted
 unfoldable pub quadruples : ℕ → ℕ
 quadruples n = pairSum n (λ j k. j * (n - suc k))
@@ -72,8 +54,9 @@ complete-sum n c =
     crossingSum-counted n (λ i j. c)
     ∙ pairSum-ext n (λ j k. sum n (λ i. one (ltb i j) * c) * sum n (λ l. one (ltb k l) * c)) (λ j k. c * c * (j * (n - suc k)))
     (λ j k l b.
-    ap₂ (λ (x y : ℕ). x * y) (sum-scale-right n c (λ i. one (ltb i j))) (sum-scale-right n c (λ i. one (ltb k i)))
-    ∙ ap₂ (λ (x y : ℕ). x * c * (y * c)) (count-below n j (omega arith)) (count-above n k b)
+    ap₂ (λ (x y : ℕ). x * y)
+    (sum-below n j (λ i. c) (omega arith) ∙ sum-const j c)
+    (sum-above n k (λ i. c) b ∙ sum-const (n - suc k) c)
     ∙ regroup j (n - suc k))
     ∙ pairSum-scale n (c * c) (λ j k. j * (n - suc k))
   where

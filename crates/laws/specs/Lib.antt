@@ -9,3 +9,5 @@ pub mod Counting
 pub mod EdgeCounts
 pub mod Bound
 pub mod Validity
+pub mod Bits
+pub mod MaskCount

@@ -1,13 +1,14 @@
 -- Sums over the entries of a list, as sums over a range.
-use Prim.Native.Nat.{ℕ, zero, suc, _+_, _*_, _≤_, _<_}
+use Prim.Native.Nat.{ℕ, zero, suc, _+_, _*_, _-_, _≤_, _<_, zero-le, suc-le-suc}
 use native.Mathlib.Nat.{add-zero, zero-add, zero-mul, one-mul, add-assoc, le-step, lt-suc-self}
 use native.Mathlib.Omega.{arith}
 use mathlib.Core.Path.{_≡_, refl, sym, ap, ap₂, _∙_}
 use mathlib.Core.Bool.{Bool, true, false, cond}
 use mathlib.Core.List.{List, [], _∷_, _++_, map, flatMap}
-use lib.ListN.{length, getD}
+use lib.ListN.{length, getD, take, drop, length-drop}
+use lib.Seq.{length-take-le, getD-take, getD-drop}
 use Rattle.model.specs.Lists.{one, upto, keep, sumOver, sumPairs}
-use Rattle.laws.specs.Sums.{sum, sum-first}
+use Rattle.laws.specs.Sums.{sum, sum-ext, sum-first}
 
 module _ {A : Type 0} where
   -- each entry has the property P
@@ -104,3 +105,32 @@ pub all-upto : (n : ℕ) → All (λ i. i < n) (upto n)
 unfolding upto
 all-upto zero = none
 all-upto (suc n) = all-append (all-mono (all-upto n) (λ i l. le-step l)) (also (lt-suc-self n) none)
+
+-- ---- parts of a list of numbers
+
+pub all-places : {P : ℕ → Type 0} (o : List ℕ) → ((i : ℕ) → i < length o → P (getD o i 0)) → All P o
+all-places [] h = none
+all-places (x ∷ xs) h = also (h 0 (suc-le-suc zero-le)) (all-places xs (λ i l. h (suc i) (suc-le-suc l)))
+
+module _ {P : ℕ → Type 0} where
+  pub all-take : (j : ℕ) {o : List ℕ} → All P o → All P (take j o)
+  all-take zero a = none
+  all-take (suc j) none = none
+  all-take (suc j) (also p ps) = also p (all-take j ps)
+
+  pub all-drop : (j : ℕ) {o : List ℕ} → All P o → All P (drop j o)
+  all-drop zero a = a
+  all-drop (suc j) none = none
+  all-drop (suc j) (also p ps) = all-drop j ps
+
+pub sumOver-take : (f : ℕ → ℕ) (o : List ℕ) (j : ℕ) → j ≤ length o → sumOver f (take j o) ≡ sum j (λ i. f (getD o i 0))
+sumOver-take f o j h =
+    sumOver-places f 0 (take j o)
+    ∙ ap (λ (m : ℕ). sum m (λ i. f (getD (take j o) i 0))) (length-take-le j o h)
+    ∙ sum-ext j (λ i. f (getD (take j o) i 0)) (λ i. f (getD o i 0)) (λ i l. ap f (getD-take j o i 0 l))
+
+pub sumOver-drop : (f : ℕ → ℕ) (o : List ℕ) (k : ℕ) → sumOver f (drop k o) ≡ sum (length o - k) (λ i. f (getD o (k + i) 0))
+sumOver-drop f o k =
+    sumOver-places f 0 (drop k o)
+    ∙ ap (λ (m : ℕ). sum m (λ i. f (getD (drop k o) i 0))) (length-drop k o)
+    ∙ sum-ext (length o - k) (λ i. f (getD (drop k o) i 0)) (λ i. f (getD o (k + i) 0)) (λ i l. ap f (getD-drop k o i 0))

@@ -1,17 +1,18 @@
 -- A list that holds each vertex once: places and vertices are inverse, and a sum over vertices is the sum over places.
 use Prim.Native.Nat.{ℕ, zero, suc, _+_, _*_, _≤_, _<_, zero-le, suc-le-suc}
-use native.Mathlib.Nat.{add-zero, zero-add, mul-one, mul-comm, le-step, lt-suc-self, not-suc-le-zero, le-of-suc-le-suc}
+use native.Mathlib.Nat.{add-zero, zero-add, mul-one, le-step, lt-suc-self, not-suc-le-zero, le-of-suc-le-suc}
 use native.Mathlib.Omega.{arith}
 use mathlib.Core.Path.{_≡_, refl, sym, ap, ap₂, _∙_, subst}
 use mathlib.Core.Bool.{Bool, true, false, cond}
-use mathlib.Core.List.{List, [], _∷_}
-use lib.ListN.{length, getD}
+use mathlib.Core.List.{List, [], _∷_, _++_}
+use lib.ListN.{length, getD, take, drop}
+use lib.Seq.{split-at, take-suc, drop-cons}
 use lib.Dec.{T, eqb, ltb, eqb→eq, eqb-refl}
 use borrow.Author.Tests.{eq-eqb, ne-eqb, eqb-true, eqb-false}
 use Rattle.model.specs.Lists.{one, upto, every, sumOver, occurrences, place}
 use Rattle.laws.specs.Indicators.{Order, less, same, more, order, one-eq, one-ne, one-lt, one-ge, one-le, one-sym}
-use Rattle.laws.specs.Sums.{sum, sum-ext, sum-zero, sum-add, sum-scale, sum-const, sum-swap, sum-at, all-one}
-use Rattle.laws.specs.ListSums.{sumOver-places}
+use Rattle.laws.specs.Sums.{sum, sum-ext, sum-zero, sum-add, sum-scale, sum-const, sum-swap, sum-at, sum-at-right, all-one}
+use Rattle.laws.specs.ListSums.{sumOver-append, sumOver-places}
 
 -- the vertex at a place
 abbrev pub at : List ℕ → ℕ → ℕ
@@ -26,6 +27,10 @@ pub record Permutation (n : ℕ) (o : List ℕ) : Type 0 where
 pub occurrences-places : (v : ℕ) (o : List ℕ) → occurrences v o ≡ sum (length o) (λ i. one (eqb v (at o i)))
 unfolding occurrences
 occurrences-places v o = sumOver-places (λ x. one (eqb v x)) 0 o
+
+pub occurrences-nil : (v : ℕ) → occurrences v [] ≡ 0
+unfolding occurrences sumOver
+occurrences-nil v = refl
 
 -- what occurs has a place, and stands there
 pub place-lt : (o : List ℕ) (v : ℕ) → 0 < occurrences v o → place o v < length o
@@ -121,7 +126,34 @@ module _ {n : ℕ} {o : List ℕ} (perm : Permutation n o) where
       spread v h = rw (sum-scale n (f v) (λ i. one (eqb v (at o i))), hits v h) (sym (mul-one (f v)))
 
       gather : (i : ℕ) → i < n → sum n (λ v. f v * one (eqb v (at o i))) ≡ f (at o i)
-      gather i h =
-          sum-ext n (λ v. f v * one (eqb v (at o i))) (λ v. one (eqb (at o i) v) * f v)
-          (λ v l. rw (one-sym v (at o i)) (mul-comm (f v) (one (eqb (at o i) v))))
-          ∙ sum-at n (at o i) f (at-lt i h)
+      gather i h = sum-at-right n (at o i) f (at-lt i h)
+
+  -- what stands before a place, at it and behind it
+  split : (j : ℕ) → j < n → (v : ℕ) → occurrences v o ≡ occurrences v (take j o) + (one (eqb v (at o j)) + occurrences v (drop (suc j) o))
+  unfolding occurrences sumOver
+  split j h v =
+      ap (occurrences v) (split-at o j 0 (omega (arith, perm .size)))
+      ∙ sumOver-append (λ x. one (eqb v x)) (take j o) (at o j ∷ drop (suc j) o)
+
+  pub before-next : (j : ℕ) → j < n → (v : ℕ) → occurrences v (take (suc j) o) ≡ occurrences v (take j o) + one (eqb v (at o j))
+  unfolding occurrences sumOver
+  before-next j h v =
+      ap (occurrences v) (take-suc o j 0 (omega (arith, perm .size)))
+      ∙ sumOver-append (λ x. one (eqb v x)) (take j o) (at o j ∷ [])
+      ∙ ap (λ (x : ℕ). occurrences v (take j o) + x) (add-zero (one (eqb v (at o j))))
+
+  pub from-next : (j : ℕ) → j < n → (v : ℕ) → occurrences v (drop j o) ≡ one (eqb v (at o j)) + occurrences v (drop (suc j) o)
+  unfolding occurrences sumOver
+  from-next j h v = ap (occurrences v) (drop-cons o j 0 (omega (arith, perm .size)))
+
+  pub alone-before : (j : ℕ) → j < n → occurrences (at o j) (take j o) ≡ 0
+  alone-before j h = omega (arith, split j h (at o j), perm .once (at o j) (at-lt j h), one-eq (at o j) (at o j) refl)
+
+  pub alone-after : (j : ℕ) → j < n → occurrences (at o j) (drop (suc j) o) ≡ 0
+  alone-after j h = omega (arith, split j h (at o j), perm .once (at o j) (at-lt j h), one-eq (at o j) (at o j) refl)
+
+  -- no number from n on occurs
+  pub none-beyond : (v : ℕ) → n ≤ v → occurrences v o ≡ 0
+  none-beyond v h =
+      occurrences-places v o
+      ∙ sum-zero (length o) (λ i. one (eqb v (at o i))) (λ i l. one-ne v (at o i) (λ e. omega (arith, at-lt i (rw (perm .size) at l))))

@@ -1,11 +1,11 @@
 -- Sums over the numbers below n.
-use Prim.Native.Nat.{ℕ, zero, suc, _+_, _*_, _≤_, _<_, zero-le}
-use native.Mathlib.Nat.{add-zero, zero-add, mul-zero, mul-add, add-suc, add-assoc, add-comm, add-le-add, le-refl, lt-suc-self, le-step, mul-comm, not-suc-le-zero, zero-mul, le-trans, le-add-right, le-add-left}
+use Prim.Native.Nat.{ℕ, zero, suc, _+_, _*_, _-_, _≤_, _<_, zero-le}
+use native.Mathlib.Nat.{add-zero, zero-add, mul-zero, mul-add, add-suc, add-assoc, add-comm, add-le-add, le-refl, lt-suc-self, le-step, mul-comm, not-suc-le-zero, zero-mul, one-mul, add-sub-of-le, le-trans, le-add-right, le-add-left}
 use native.Mathlib.Omega.{arith}
 use mathlib.Core.Path.{_≡_, refl, sym, ap, ap₂, _∙_}
-use lib.Dec.{eqb}
+use lib.Dec.{eqb, ltb}
 use Rattle.model.specs.Lists.{one}
-use Rattle.laws.specs.Indicators.{Order, less, same, more, order, one-eq, one-ne}
+use Rattle.laws.specs.Indicators.{Order, less, same, more, order, one-eq, one-ne, one-lt, one-ge, one-sym}
 
 unfoldable pub sum : ℕ → (ℕ → ℕ) → ℕ
 sum zero f = 0
@@ -109,6 +109,30 @@ sum-at (suc n) k f h =
           (omega (arith, ap f e))
       | more l ↦ absurd (omega arith)
     ]
+
+pub sum-at-right : (n k : ℕ) (f : ℕ → ℕ) → k < n → sum n (λ i. f i * one (eqb i k)) ≡ f k
+sum-at-right n k f h =
+    sum-ext n (λ i. f i * one (eqb i k)) (λ i. one (eqb k i) * f i) (λ i l. rw (one-sym i k) (mul-comm (f i) (one (eqb k i))))
+    ∙ sum-at n k f h
+
+-- the terms below j, and those above k
+pub sum-below : (n j : ℕ) (f : ℕ → ℕ) → j ≤ n → sum n (λ i. one (ltb i j) * f i) ≡ sum j f
+sum-below n j f h =
+    ap (λ (m : ℕ). sum m (λ i. one (ltb i j) * f i)) (sym (add-sub-of-le h))
+    ∙ sum-cut j (n - j) (λ i. one (ltb i j) * f i)
+    ∙ ap₂ (λ (x y : ℕ). x + y) (sum-ext j (λ i. one (ltb i j) * f i) f (λ i l. rw (one-lt i j l) (one-mul (f i))))
+    (sum-zero (n - j) (λ i. one (ltb (j + i) j) * f (j + i)) (λ i l. rw (one-ge (j + i) j (omega arith)) (zero-mul (f (j + i)))))
+    ∙ add-zero (sum j f)
+
+pub sum-above : (n k : ℕ) (f : ℕ → ℕ) → k < n → sum n (λ l. one (ltb k l) * f l) ≡ sum (n - suc k) (λ i. f (suc k + i))
+sum-above n k f h =
+    ap (λ (m : ℕ). sum m (λ i. one (ltb k i) * f i)) (sym (add-sub-of-le h))
+    ∙ sum-cut (suc k) (n - suc k) (λ i. one (ltb k i) * f i)
+    ∙ ap₂ (λ (x y : ℕ). x + y)
+    (sum-zero (suc k) (λ i. one (ltb k i) * f i) (λ i l. rw (one-ge k i (omega arith)) (zero-mul (f i))))
+    (sum-ext (n - suc k) (λ i. one (ltb k (suc k + i)) * f (suc k + i)) (λ i. f (suc k + i))
+    (λ i l. rw (one-lt k (suc k + i) (omega arith)) (one-mul (f (suc k + i)))))
+    ∙ zero-add (sum (n - suc k) (λ i. f (suc k + i)))
 
 -- larger terms, and a term is at most the sum
 pub sum-mono : (n : ℕ) (f g : ℕ → ℕ) → ((i : ℕ) → i < n → f i ≤ g i) → sum n f ≤ sum n g

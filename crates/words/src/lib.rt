@@ -1,0 +1,37 @@
+// Bits of a 64-bit word. A place of 64 or above is none of its bits: it is never set, and setting
+// or clearing it changes nothing.
+ghost use mathlib.Core.Path.{_≡_};
+ghost use mathlib.Core.Bool.{cond};
+ghost use lib.Dec.{eqb, ltb};
+ghost use Rattle.model.specs.Crossings.{bit};
+ghost use Rattle.model.specs.Edits.{withBit, withoutBit};
+ghost use Rattle.laws.specs.Bits.{maskedOnes};
+
+pub fn is_set(word: u64, i: usize) -> bool
+    ensures { λ r. ⌜ r ≡ eqb (bit word i) 1 ⌝ }
+{
+    if i < 64 { (word >> i) % 2 == 1 } else { false }
+}
+
+pub fn set(word: u64, i: usize) -> u64
+    ensures { λ r. ⌜ r ≡ cond (ltb i 64) (withBit word i) word ⌝ }
+{
+    if i < 64 { word | (1u64 << i) } else { word }
+}
+
+pub fn clear(word: u64, i: usize) -> u64
+    ensures { λ r. ⌜ r ≡ withoutBit word i ⌝ }
+{
+    if i < 64 {
+        word - (word & (1u64 << i))
+    } else {
+        word
+    }
+}
+
+// How many bits are set in both the word and the mask.
+pub fn count(word: u64, mask: u64) -> u32
+    ensures { λ r. ⌜ r ≡ maskedOnes word mask ⌝ }
+{
+    u64::count_ones(word & mask)
+}
