@@ -1,0 +1,62 @@
+//! Graphs with an order, of which charts and layouts are made.
+
+use crate::rng::Rng;
+
+/// Edges, each with its ends either way round, and an order of the vertices.
+pub struct Graph {
+    pub edges: Vec<(u8, u8)>,
+    pub order: Vec<u8>,
+}
+
+impl Graph {
+    /// A graph of n vertices with any number of edges up to the most, from
+    /// none to all.
+    pub fn random(rng: &mut Rng, n: usize, most_edges: usize) -> Graph {
+        let mut edges = all_pairs(n);
+        let m = edge_count(rng, n, edges.len());
+        rng.shuffle(&mut edges);
+        edges.truncate(m.min(most_edges));
+        for edge in &mut edges {
+            if rng.once_in(2) {
+                *edge = (edge.1, edge.0);
+            }
+        }
+        let mut order: Vec<u8> = (0..n as u8).collect();
+        if !rng.once_in(5) {
+            rng.shuffle(&mut order);
+        }
+        Graph { edges, order }
+    }
+
+    pub fn n(&self) -> usize {
+        self.order.len()
+    }
+
+    /// The adjacency words.
+    pub fn words(&self) -> [u64; 64] {
+        let mut words = [0; 64];
+        for &(a, b) in &self.edges {
+            words[usize::from(a)] |= 1 << b;
+            words[usize::from(b)] |= 1 << a;
+        }
+        words
+    }
+}
+
+/// All pairs of n vertices.
+pub fn all_pairs(n: usize) -> Vec<(u8, u8)> {
+    let pairs = |a: u8| (a + 1..n as u8).map(move |b| (a, b));
+    (0..n as u8).flat_map(pairs).collect()
+}
+
+/// How many of all edges there are: none, all, nearly all, few, or any.
+fn edge_count(rng: &mut Rng, n: usize, all: usize) -> usize {
+    match rng.below(10) {
+        0 => 0,
+        1 => all,
+        2 => all.saturating_sub(rng.within(1, 3)),
+        3 => rng.below(n + 1).min(all),
+        4 | 5 => (n + rng.below(n + 1)).min(all),
+        _ => rng.below(all + 1),
+    }
+}

@@ -1,0 +1,242 @@
+//! The calls of document 01, each with its questions in their order.
+
+use super::layout::{crossings, edges, first_pair, joined, list, valid, Edge, Layout};
+
+/// The refusal number and the answers. Only an accepted call changes the
+/// layout.
+pub type Reply<T> = (u8, T);
+
+/// Takes a out of the list and puts it directly after b.
+fn moved(order: &[usize], a: usize, b: usize) -> Vec<usize> {
+    let mut result: Vec<usize> = order.iter().copied().filter(|&v| v != a).collect();
+    let place = result.iter().position(|&v| v == b).expect("b is listed");
+    result.insert(place + 1, a);
+    result
+}
+
+/// Writes the list into the layout, and changes the count by crossings after
+/// less crossings before.
+fn set_order(layout: &mut Layout, order: &[usize]) {
+    let edges = edges(layout);
+    let before = crossings(&list(layout), &edges);
+    for (i, &v) in order.iter().enumerate() {
+        layout.order[i] = v as u8;
+    }
+    let after = crossings(order, &edges);
+    layout.count = layout.count.wrapping_add(after).wrapping_sub(before);
+}
+
+pub fn add(layout: &mut Layout) -> Reply<u64> {
+    if !valid(layout) {
+        return (11, 0);
+    }
+    if layout.n >= 64 {
+        return (16, 0);
+    }
+    layout.order[layout.n as usize] = layout.n as u8;
+    layout.n += 1;
+    (0, layout.n - 1)
+}
+
+/// The questions put to link, unlink and move before their own.
+fn refuse_two(layout: &Layout, a: u64, b: u64) -> u8 {
+    if !valid(layout) {
+        11
+    } else if a >= layout.n || b >= layout.n {
+        12
+    } else if a == b {
+        13
+    } else {
+        0
+    }
+}
+
+/// Link (`wanted` true) or unlink (`wanted` false).
+pub fn set_edge(layout: &mut Layout, a: u64, b: u64, wanted: bool) -> u8 {
+    let refusal = refuse_two(layout, a, b);
+    if refusal != 0 {
+        return refusal;
+    }
+    let (a, b) = (a as usize, b as usize);
+    if joined(&layout.words, a, b) == wanted {
+        return if wanted { 14 } else { 15 };
+    }
+    let order = list(layout);
+    let before = crossings(&order, &edges(layout));
+    layout.words[a] ^= 1 << b;
+    layout.words[b] ^= 1 << a;
+    let after = crossings(&order, &edges(layout));
+    layout.count = layout.count.wrapping_add(after).wrapping_sub(before);
+    0
+}
+
+pub fn move_behind(layout: &mut Layout, a: u64, b: u64) -> u8 {
+    let refusal = refuse_two(layout, a, b);
+    if refusal == 0 {
+        let order = moved(&list(layout), a as usize, b as usize);
+        set_order(layout, &order);
+    }
+    refusal
+}
+
+/// The questions put to a call that names one vertex.
+fn refuse_one(layout: &Layout, v: u64) -> u8 {
+    if !valid(layout) {
+        11
+    } else if v >= layout.n {
+        12
+    } else {
+        0
+    }
+}
+
+/// Greedy append (lay). Answers the tally.
+pub fn lay(layout: &mut Layout, s: u64) -> Reply<u32> {
+    let refusal = refuse_one(layout, s);
+    if refusal != 0 {
+        return (refusal, 0);
+    }
+    let mut order = vec![s as usize];
+    let mut tally = 0;
+    while let Some(v) = next_to_lay(layout, &order) {
+        let (front, back) = crossings_at_ends(layout, &order, v);
+        let place = if front < back { 0 } else { order.len() };
+        order.insert(place, v);
+        tally += if front < back { front } else { back };
+    }
+    set_order(layout, &order);
+    (0, tally)
+}
+
+/// The unplaced vertex with most placed, then fewest unplaced neighbours, then
+/// the lowest number.
+fn next_to_lay(layout: &Layout, placed: &[usize]) -> Option<usize> {
+    let mut best: Option<(usize, usize, usize)> = None;
+    for v in (0..layout.n as usize).filter(|v| !placed.contains(v)) {
+        let neighbours: Vec<usize> = (0..64).filter(|&w| joined(&layout.words, v, w)).collect();
+        let there = neighbours.iter().filter(|w| placed.contains(w)).count();
+        let missing = neighbours.len() - there;
+        let better =
+            best.is_none_or(|(most, fewest, _)| there > most || there == most && missing < fewest);
+        if better {
+            best = Some((there, missing, v));
+        }
+    }
+    best.map(|(_, _, v)| v)
+}
+
+/// The crossings of closing with open edges, v put in front and at the back.
+fn crossings_at_ends(layout: &Layout, placed: &[usize], v: usize) -> (u32, u32) {
+    let (mut front, mut back) = (0, 0);
+    let unplaced = |w: &usize| *w != v && !placed.contains(w);
+    let unplaced: Vec<usize> = (0..layout.n as usize).filter(unplaced).collect();
+    for (i, &p) in placed.iter().enumerate() {
+        for (j, &q) in placed.iter().enumerate() {
+            for &w in &unplaced {
+                if joined(&layout.words, v, p) && joined(&layout.words, q, w) {
+                    front += u32::from(j < i);
+                    back += u32::from(j > i);
+                }
+            }
+        }
+    }
+    (front, back)
+}
+
+/// The list after sifting u, and its crossings.
+fn sifted(order: &[usize], edges: &[Edge], u: usize) -> (Vec<usize>, u32) {
+    let place = order.iter().position(|&v| v == u).expect("u is listed");
+    let mut best = (order.to_vec(), crossings(order, edges));
+    for k in 1..order.len() {
+        let candidate = moved(order, u, order[(place + k) % order.len()]);
+        let found = crossings(&candidate, edges);
+        if found < best.1 {
+            best = (candidate, found);
+        }
+    }
+    best
+}
+
+/// Sifts these vertices one after the other. Answers the summed reduction
+/// (saving) and how many moved.
+fn sift_all(layout: &mut Layout, vertices: impl Iterator<Item = usize>) -> (u32, u32) {
+    let (mut saving, mut moves) = (0, 0);
+    let edges = edges(layout);
+    for u in vertices {
+        let before = list(layout);
+        let (after, reached) = sifted(&before, &edges, u);
+        if after != before {
+            saving += crossings(&before, &edges) - reached;
+            moves += 1;
+            set_order(layout, &after);
+        }
+    }
+    (saving, moves)
+}
+
+pub fn sift(layout: &mut Layout, u: u64) -> Reply<u32> {
+    let refusal = refuse_one(layout, u);
+    if refusal != 0 {
+        return (refusal, 0);
+    }
+    (0, sift_all(layout, std::iter::once(u as usize)).0)
+}
+
+/// A sifting round (round). Answers the reduction (saving) and the number of
+/// vertices that moved.
+pub fn round(layout: &mut Layout) -> Reply<(u32, u32)> {
+    if !valid(layout) {
+        return (11, (0, 0));
+    }
+    let n = layout.n as usize;
+    (0, sift_all(layout, 0..n))
+}
+
+/// Converging (settle). Answers the reduction (saving), the rounds run, and
+/// whether the last one moved nothing (settled).
+pub fn settle(layout: &mut Layout, limit: u64) -> Reply<(u32, u32, bool)> {
+    if !valid(layout) {
+        return (11, (0, 0, false));
+    }
+    if !(1..=1000).contains(&limit) {
+        return (17, (0, 0, false));
+    }
+    let mut saving = 0;
+    for rounds in 1.. {
+        let (_, (saved, moves)) = round(layout);
+        saving += saved;
+        if moves == 0 || u64::from(rounds) == limit {
+            return (0, (saving, rounds, moves == 0));
+        }
+    }
+    unreachable!("the limit is at most 1000")
+}
+
+pub fn count(layout: &Layout) -> Reply<u32> {
+    if valid(layout) {
+        (0, layout.count)
+    } else {
+        (11, 0)
+    }
+}
+
+pub fn order(layout: &Layout, buffer: &mut [u8]) -> u8 {
+    if !valid(layout) {
+        return 11;
+    }
+    if (buffer.len() as u64) < layout.n {
+        return 18;
+    }
+    for (i, v) in list(layout).into_iter().enumerate() {
+        buffer[i] = v as u8;
+    }
+    0
+}
+
+/// The shown crossing pair, none where no two edges cross.
+pub fn pair(layout: &Layout) -> Reply<Option<(Edge, Edge)>> {
+    if !valid(layout) {
+        return (11, None);
+    }
+    (0, first_pair(&list(layout), &edges(layout)))
+}

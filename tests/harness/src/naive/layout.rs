@@ -1,0 +1,135 @@
+//! The layout (document 01: ring), its validity (whole) and its crossings.
+
+/// A circular layout (document 01: ring), any values in its fields.
+#[derive(Clone, Debug, PartialEq)]
+pub struct Layout {
+    /// The number of vertices (devices).
+    pub n: u64,
+    pub order: [u8; 64],
+    /// Adjacency words (neighbour words).
+    pub words: [u64; 64],
+    /// The carried count.
+    pub count: u32,
+}
+
+/// An edge (link) between two vertices, lower end first.
+pub type Edge = (usize, usize);
+
+pub fn empty() -> Layout {
+    Layout {
+        n: 0,
+        order: [0; 64],
+        words: [0; 64],
+        count: 0,
+    }
+}
+
+pub fn joined(words: &[u64; 64], v: usize, w: usize) -> bool {
+    (words[v] >> w) & 1 == 1
+}
+
+/// Whether the layout is valid (whole).
+pub fn valid(layout: &Layout) -> bool {
+    if layout.n > 64 {
+        return false;
+    }
+    let n = layout.n as usize;
+    for v in 0..n {
+        let times = layout.order[..n].iter().filter(|&&w| w as usize == v);
+        if times.count() != 1 {
+            return false;
+        }
+    }
+    if layout.order[n..].iter().any(|&unused| unused != 0) {
+        return false;
+    }
+    for v in 0..64 {
+        for w in 0..64 {
+            let edge = joined(&layout.words, v, w);
+            if edge != joined(&layout.words, w, v) || edge && (v == w || v >= n || w >= n) {
+                return false;
+            }
+        }
+    }
+    true
+}
+
+/// The order of a valid layout as a list.
+pub fn list(layout: &Layout) -> Vec<usize> {
+    let used = &layout.order[..layout.n as usize];
+    used.iter().map(|&v| v as usize).collect()
+}
+
+/// The edges of a valid layout, sorted by lower, then higher end.
+pub fn edges(layout: &Layout) -> Vec<Edge> {
+    let n = layout.n as usize;
+    let mut edges = Vec::new();
+    for v in 0..n {
+        for w in v + 1..n {
+            if joined(&layout.words, v, w) {
+                edges.push((v, w));
+            }
+        }
+    }
+    edges
+}
+
+/// The places in which the first and the second ends of edges stand.
+struct Places {
+    first: Vec<u8>,
+    second: Vec<u8>,
+}
+
+fn places(order: &[usize], edges: &[Edge]) -> Places {
+    let mut place = [0; 64];
+    for (i, &v) in order.iter().enumerate() {
+        place[v] = i as u8;
+    }
+    Places {
+        first: edges.iter().map(|&(v, _)| place[v]).collect(),
+        second: edges.iter().map(|&(_, w)| place[w]).collect(),
+    }
+}
+
+/// The crossings of the edges in an order: the unordered pairs that cross.
+pub fn crossings(order: &[usize], edges: &[Edge]) -> u32 {
+    let places = places(order, edges);
+    let mut total = 0;
+    for i in 0..edges.len() {
+        let edge = (places.first[i], places.second[i]);
+        total += crossed(edge, &places.first[i + 1..], &places.second[i + 1..]);
+    }
+    total
+}
+
+/// How many of the later edges cross one, looked at one by one. In parts, so
+/// that a part's sum fits a byte; that is quicker.
+fn crossed((a, b): (u8, u8), first: &[u8], second: &[u8]) -> u32 {
+    let parts = first.chunks(255).zip(second.chunks(255));
+    let sum = |(first, second): (&[u8], &[u8])| -> u8 {
+        let later = first.iter().zip(second);
+        later.map(|(&c, &d)| u8::from(cross((a, b), (c, d)))).sum()
+    };
+    parts.map(|part| u32::from(sum(part))).sum()
+}
+
+/// Whether two edges, given by the places of their ends, cross: the four ends
+/// are all different, and those of one alternate with those of the other.
+fn cross((a, b): (u8, u8), (c, d): (u8, u8)) -> bool {
+    let different = (a != c) & (a != d) & (b != c) & (b != d);
+    let between = |x: u8| (a.min(b) < x) & (x < a.max(b));
+    different & (between(c) != between(d))
+}
+
+/// The first two edges that cross: lowest first edge, then lowest second one.
+pub fn first_pair(order: &[usize], edges: &[Edge]) -> Option<(Edge, Edge)> {
+    let Places { first, second } = places(order, edges);
+    for i in 0..edges.len() {
+        for j in i + 1..edges.len() {
+            if cross((first[i], second[i]), (first[j], second[j])) {
+                return Some((edges[i], edges[j]));
+            }
+        }
+    }
+    None
+}

@@ -1,0 +1,11 @@
+//! The reference side: document 01 word by word, nothing clever. Candidates
+//! are built as lists, and crossings are counted pair by pair.
+
+pub mod calls;
+pub mod chart;
+pub mod layout;
+pub mod list;
+pub mod play;
+
+#[cfg(test)]
+mod tests;

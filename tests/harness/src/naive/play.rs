@@ -1,0 +1,161 @@
+//! Plays a list of calls; the format is in tests/README.md.
+
+use super::calls;
+use super::chart;
+use super::layout::{empty, Layout};
+
+/// Plays the list from the empty layout and gives every line.
+pub fn play(list: &[u8]) -> String {
+    let mut player = Player {
+        list,
+        at: 0,
+        layout: empty(),
+    };
+    let mut lines = Vec::new();
+    while player.at < list.len() {
+        let before = player.layout.words;
+        match player.step() {
+            Step::Quiet => {}
+            Step::Said(said) => lines.push(line(&said, &player.layout, &before)),
+            Step::End => {
+                lines.push("end\n".to_string());
+                break;
+            }
+        }
+    }
+    lines.concat()
+}
+
+struct Player<'a> {
+    list: &'a [u8],
+    at: usize,
+    layout: Layout,
+}
+
+/// What a record does: nothing that is shown, a line, or the end.
+enum Step {
+    Quiet,
+    /// Name, refusal number and answers.
+    Said(String),
+    End,
+}
+
+impl Player<'_> {
+    /// The number at some place of the record that begins at `at`.
+    fn number(&self, which: usize) -> u64 {
+        let start = self.at + 8 * which;
+        let bytes = &self.list[start..start + 8];
+        bytes
+            .iter()
+            .rev()
+            .fold(0, |sum, &b| sum << 8 | u64::from(b))
+    }
+
+    fn step(&mut self) -> Step {
+        if self.list.len() - self.at < 32 {
+            return Step::End;
+        }
+        let [op, a, b] = [0, 1, 2].map(|i| self.number(i));
+        self.at += 32;
+        match op {
+            0 => {
+                self.layout = empty();
+                Step::Said("empty 0".to_string())
+            }
+            1 => self.chart(a),
+            2..=5 => {
+                self.set(op, a, b);
+                Step::Quiet
+            }
+            16..=26 => Step::Said(self.call(op, a, b)),
+            _ => Step::End,
+        }
+    }
+
+    fn chart(&mut self, length: u64) -> Step {
+        let left = (self.list.len() - self.at) as u128;
+        let padded = u128::from(length).div_ceil(32) * 32;
+        if padded > left {
+            return Step::End;
+        }
+        let bytes = &self.list[self.at..self.at + length as usize];
+        let (refusal, layout) = chart::read(bytes);
+        self.at += padded as usize;
+        self.layout = layout;
+        Step::Said(format!("chart {refusal}"))
+    }
+
+    fn set(&mut self, op: u64, a: u64, b: u64) {
+        if op == 2 {
+            self.layout.n = a;
+        } else if op == 3 && a < 64 {
+            self.layout.order[a as usize] = (b % 256) as u8;
+        } else if op == 4 && a < 64 {
+            self.layout.words[a as usize] = b;
+        } else if op == 5 {
+            self.layout.count = (a % (1 << 32)) as u32;
+        }
+    }
+
+    fn call(&mut self, op: u64, a: u64, b: u64) -> String {
+        let layout = &mut self.layout;
+        match op {
+            16 => one("add", calls::add(layout)),
+            17 => format!("link {}", calls::set_edge(layout, a, b, true)),
+            18 => format!("unlink {}", calls::set_edge(layout, a, b, false)),
+            19 => format!("move {}", calls::move_behind(layout, a, b)),
+            20 => one("lay", calls::lay(layout, a)),
+            21 => one("sift", calls::sift(layout, a)),
+            22 => {
+                let (refusal, (saving, moves)) = calls::round(layout);
+                format!("round {refusal} {saving} {moves}")
+            }
+            23 => {
+                let (refusal, (saving, rounds, settled)) = calls::settle(layout, a);
+                let settled = if settled { "yes" } else { "no" };
+                format!("settle {refusal} {saving} {rounds} {settled}")
+            }
+            24 => one("count", calls::count(layout)),
+            25 => order(layout, a, b),
+            _ => pair(layout),
+        }
+    }
+}
+
+/// A call with one number for an answer.
+fn one<T: std::fmt::Display>(name: &str, (refusal, answer): (u8, T)) -> String {
+    format!("{name} {refusal} {answer}")
+}
+
+fn order(layout: &Layout, length: u64, fill: u64) -> String {
+    let length = if length > 255 { 255 } else { length };
+    let mut buffer = vec![(fill % 256) as u8; length as usize];
+    let refusal = calls::order(layout, &mut buffer);
+    let mut said = format!("order {refusal} buffer");
+    for byte in buffer {
+        said += &format!(" {byte}");
+    }
+    said
+}
+
+fn pair(layout: &Layout) -> String {
+    match calls::pair(layout) {
+        (0, Some(((a, b), (c, d)))) => format!("pair 0 pair {a} {b} {c} {d}"),
+        (0, None) => "pair 0 none".to_string(),
+        (refusal, _) => format!("pair {refusal} refused"),
+    }
+}
+
+fn line(said: &str, layout: &Layout, words_before: &[u64; 64]) -> String {
+    let mut line = format!("{said} n {} order", layout.n);
+    for v in layout.order {
+        line += &format!(" {v}");
+    }
+    line += &format!(" count {} words", layout.count);
+    for (v, word) in layout.words.iter().enumerate() {
+        if *word != words_before[v] {
+            line += &format!(" {v} {word}");
+        }
+    }
+    line + "\n"
+}

@@ -1,0 +1,91 @@
+//! The command line.
+
+use std::path::PathBuf;
+
+use crate::side::Side;
+
+pub const USAGE: &str = "usage: compare SEED COUNT [--plant] [--keep DIR] \
+                         [--list COMMAND].. [--play COMMAND]..";
+
+pub struct Options {
+    pub seed: u64,
+    /// How many charts, and how many lists.
+    pub count: usize,
+    /// The sides that list charts.
+    pub list: Vec<Side>,
+    /// The sides that play lists of calls.
+    pub play: Vec<Side>,
+    /// Whether an answer of the first side is to be changed.
+    pub plant: bool,
+    /// Where an input on which sides differ is kept.
+    pub keep: PathBuf,
+}
+
+/// Reads the arguments; none where they are wrong.
+pub fn parse(mut arguments: impl Iterator<Item = String>) -> Option<Options> {
+    let mut options = Options {
+        seed: 0,
+        count: 0,
+        list: Vec::new(),
+        play: Vec::new(),
+        plant: false,
+        keep: std::env::temp_dir(),
+    };
+    let mut numbers = Vec::new();
+    while let Some(argument) = arguments.next() {
+        match argument.as_str() {
+            "--plant" => options.plant = true,
+            "--keep" => options.keep = arguments.next()?.into(),
+            "--list" => options.list.push(Side::shell(&arguments.next()?)),
+            "--play" => options.play.push(Side::shell(&arguments.next()?)),
+            "--second" => {
+                let path = arguments.next()?;
+                options.list.push(Side::program("second", &path, "list"));
+                options.play.push(Side::program("second", &path, "play"));
+            }
+            number => numbers.push(number.parse().ok()?),
+        }
+    }
+    let [seed, count] = numbers[..] else {
+        return None;
+    };
+    options.seed = seed;
+    options.count = usize::try_from(count).ok().filter(|&count| count > 0)?;
+    Some(options)
+}
+
+#[cfg(test)]
+mod tests {
+    use super::*;
+
+    fn parsed(line: &str) -> Option<Options> {
+        parse(line.split_whitespace().map(String::from))
+    }
+
+    #[test]
+    fn sides_are_added_in_their_sequence() {
+        let options = parsed("--second s 3 20 --list a --play b --play c").expect("options");
+        let names = |sides: &[Side]| -> Vec<String> {
+            sides.iter().map(|side| side.name.clone()).collect()
+        };
+        assert_eq!(names(&options.list), ["second", "a"]);
+        assert_eq!(names(&options.play), ["second", "b", "c"]);
+        assert_eq!((options.seed, options.count, options.plant), (3, 20, false));
+    }
+
+    #[test]
+    fn wrong_arguments_are_told() {
+        for line in [
+            "",
+            "1",
+            "1 0",
+            "1 -2",
+            "1 2 3",
+            "1 x",
+            "1 2 --keep",
+            "1 2 --any",
+        ] {
+            assert!(parsed(line).is_none(), "{line}");
+        }
+    }
+}

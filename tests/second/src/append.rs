@@ -1,0 +1,102 @@
+//! Greedy append (document 01: lay): Algorithm 1 of document 004 with the
+//! Connectivity insertion order and the Crossings choice of an end.
+
+use std::cmp::Reverse;
+use std::collections::{BTreeSet, VecDeque};
+
+use crate::circle::Circle;
+use crate::crossings::prefix_sums;
+
+/// What greedy append gives.
+#[derive(Clone, Debug, PartialEq, Eq)]
+pub struct Appended {
+    pub order: Vec<usize>,
+    /// The sum over all steps of the crossings at the end taken.
+    pub tally: u32,
+}
+
+/// Places `start`, then every other vertex at the end with fewer crossings of
+/// closing with open edges; on a tie, at the back.
+pub fn greedy_append(circle: &Circle, start: usize) -> Appended {
+    let mut queue = Queue::new(circle);
+    let mut layout = VecDeque::from([start]);
+    let mut tally = 0;
+    queue.place(start);
+    while let Some(v) = queue.first() {
+        queue.place(v);
+        let (front, back) = end_crossings(&queue, &layout, v);
+        if front < back {
+            layout.push_front(v);
+        } else {
+            layout.push_back(v);
+        }
+        tally += front.min(back);
+    }
+    Appended {
+        order: layout.into(),
+        tally,
+    }
+}
+
+/// The crossings of the edges that v closes with open ones, v put in front and
+/// v put at the back. The queue has v as placed already, so that its own edges
+/// are not among the open ones.
+fn end_crossings(queue: &Queue, layout: &VecDeque<usize>, v: usize) -> (u32, u32) {
+    let open: Vec<u32> = layout.iter().map(|&q| queue.unplaced(q)).collect();
+    let before = prefix_sums(&open);
+    let total = before[layout.len()];
+    let (mut front, mut back) = (0, 0);
+    for (place, p) in layout.iter().enumerate() {
+        if queue.circle.neighbours(v).contains(p) {
+            front += before[place];
+            back += total - before[place + 1];
+        }
+    }
+    (front, back)
+}
+
+/// The unplaced vertices by most placed neighbours, then fewest unplaced
+/// neighbours, then lowest number: the priority queue of Theorem 2.
+struct Queue<'a> {
+    circle: &'a Circle,
+    /// Each vertex's number of placed neighbours.
+    placed: Vec<u32>,
+    waiting: BTreeSet<(Reverse<u32>, u32, usize)>,
+}
+
+impl Queue<'_> {
+    fn new(circle: &Circle) -> Queue<'_> {
+        let mut queue = Queue {
+            circle,
+            placed: vec![0; circle.n()],
+            waiting: BTreeSet::new(),
+        };
+        queue.waiting = (0..circle.n()).map(|v| queue.key(v)).collect();
+        queue
+    }
+
+    fn first(&self) -> Option<usize> {
+        self.waiting.first().map(|&(_, _, v)| v)
+    }
+
+    /// How many neighbours of v are unplaced.
+    fn unplaced(&self, v: usize) -> u32 {
+        self.circle.neighbours(v).len() as u32 - self.placed[v]
+    }
+
+    fn key(&self, v: usize) -> (Reverse<u32>, u32, usize) {
+        (Reverse(self.placed[v]), self.unplaced(v), v)
+    }
+
+    /// Takes v out, and moves its unplaced neighbours forward.
+    fn place(&mut self, v: usize) {
+        self.waiting.remove(&self.key(v));
+        for &w in self.circle.neighbours(v) {
+            let was_waiting = self.waiting.remove(&self.key(w));
+            self.placed[w] += 1;
+            if was_waiting {
+                self.waiting.insert(self.key(w));
+            }
+        }
+    }
+}

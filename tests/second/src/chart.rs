@@ -1,0 +1,64 @@
+//! Reading chart files.
+
+use std::collections::BTreeSet;
+
+use crate::circle::Circle;
+use crate::crossings::crossings;
+use crate::layout::{Layout, PLACES};
+
+/// The longest input that passes the first check.
+pub const MAX_BYTES: usize = 8192;
+
+/// Reads a chart into a layout that carries its crossings, or gives the number
+/// of the first check (document 01: question) that fails.
+pub fn read(input: &[u8]) -> Result<Layout, u8> {
+    if input.len() > MAX_BYTES {
+        return Err(1);
+    }
+    let fields = fields(input).ok_or(2)?;
+    let [(0x44, size), (0x4C, edges), (0x52, order)] = fields[..] else {
+        return Err(3);
+    };
+    let n = match *size {
+        [n] if usize::from(n) <= PLACES => n,
+        _ => return Err(4),
+    };
+    let edges = read_edges(edges, n)?;
+    let mut sorted = order.to_vec();
+    sorted.sort_unstable();
+    if !sorted.into_iter().eq(0..n) {
+        return Err(8);
+    }
+    let mut layout = Layout::new(order, &edges);
+    layout.count = crossings(&Circle::new(&layout));
+    Ok(layout)
+}
+
+/// Divides the input into fields of tag and body.
+fn fields(mut rest: &[u8]) -> Option<Vec<(u8, &[u8])>> {
+    let mut fields = Vec::new();
+    while !rest.is_empty() {
+        let (&[tag, high, low], after) = rest.split_first_chunk()?;
+        let length = usize::from(u16::from_be_bytes([high, low]));
+        let (body, after) = after.split_at_checked(length)?;
+        fields.push((tag, body));
+        rest = after;
+    }
+    Some(fields)
+}
+
+/// The edges, ends as written.
+fn read_edges(body: &[u8], n: u8) -> Result<Vec<(u8, u8)>, u8> {
+    if !body.len().is_multiple_of(2) {
+        return Err(5);
+    }
+    let edges: Vec<(u8, u8)> = body.chunks(2).map(|ends| (ends[0], ends[1])).collect();
+    if edges.iter().any(|&(a, b)| a >= n || b >= n || a == b) {
+        return Err(6);
+    }
+    let pairs: BTreeSet<_> = edges.iter().map(|&(a, b)| (a.min(b), a.max(b))).collect();
+    if pairs.len() < edges.len() {
+        return Err(7);
+    }
+    Ok(edges)
+}

@@ -1,0 +1,165 @@
+//! Playing a list of calls. The format of lists and of answer lines is in
+//! tests/README.md.
+
+use crate::calls::{self, Answer, Crossing};
+use crate::chart;
+use crate::layout::{Layout, PLACES};
+use crate::list::yes_or_no;
+
+/// Bytes in a record; a chart is padded to a multiple of it.
+const RECORD: usize = 32;
+
+/// A record: the op and its three numbers.
+type Record = [u64; 4];
+
+/// What one record does.
+struct Told {
+    name: &'static str,
+    refusal: u8,
+    answers: String,
+    layout: Layout,
+}
+
+/// Plays a list from the empty layout and gives all answer lines.
+pub fn play(mut list: &[u8]) -> String {
+    let mut layout = Layout::EMPTY;
+    let mut lines = String::new();
+    while !list.is_empty() {
+        let Some(record) = take_record(&mut list) else {
+            return lines + "end\n";
+        };
+        if set_field(&mut layout, record) {
+            continue;
+        }
+        let Some(told) = start(record, &mut list).or_else(|| call(layout, record)) else {
+            return lines + "end\n";
+        };
+        lines += &line(&told, &layout);
+        layout = told.layout;
+    }
+    lines
+}
+
+/// The next record, if all of it is there.
+fn take_record(list: &mut &[u8]) -> Option<Record> {
+    let (bytes, rest) = list.split_at_checked(RECORD)?;
+    *list = rest;
+    let mut record = [0; 4];
+    for (number, bytes) in record.iter_mut().zip(bytes.chunks(8)) {
+        *number = u64::from_le_bytes(bytes.try_into().ok()?);
+    }
+    Some(record)
+}
+
+/// The next chart, if all of it and of its padding is there.
+fn take_chart<'a>(list: &mut &'a [u8], length: u64) -> Option<&'a [u8]> {
+    let length = usize::try_from(length).ok()?;
+    let padded = length.checked_next_multiple_of(RECORD)?;
+    let (chart, rest) = list.split_at_checked(padded)?;
+    *list = rest;
+    Some(&chart[..length])
+}
+
+/// Sets one field, if that is what the record asks for. A place that is not
+/// there sets nothing.
+fn set_field(layout: &mut Layout, [op, a, b, _]: Record) -> bool {
+    let place = usize::try_from(a).unwrap_or(usize::MAX);
+    match op {
+        2 => layout.n = a,
+        3 => set_place(&mut layout.order, place, b as u8),
+        4 => set_place(&mut layout.adjacency, place, b),
+        5 => layout.count = a as u32,
+        _ => return false,
+    }
+    true
+}
+
+fn set_place<T>(places: &mut [T], place: usize, value: T) {
+    if let Some(held) = places.get_mut(place) {
+        *held = value;
+    }
+}
+
+/// Starts from the empty layout or from a chart.
+fn start([op, a, _, _]: Record, list: &mut &[u8]) -> Option<Told> {
+    let (name, read) = match op {
+        0 => ("empty", Ok(Layout::EMPTY)),
+        1 => ("chart", chart::read(take_chart(list, a)?)),
+        _ => return None,
+    };
+    Some(Told {
+        name,
+        refusal: read.err().unwrap_or(0),
+        answers: String::new(),
+        layout: read.unwrap_or(Layout::EMPTY),
+    })
+}
+
+/// Makes one call.
+fn call(layout: Layout, [op, a, b, _]: Record) -> Option<Told> {
+    let limit = u32::try_from(a).unwrap_or(u32::MAX);
+    Some(match op {
+        16 => told("add", calls::add_vertex(layout), |v| format!(" {v}")),
+        17 => told("link", calls::add_edge(layout, a, b), |()| String::new()),
+        18 => told("unlink", calls::remove_edge(layout, a, b), |()| {
+            String::new()
+        }),
+        19 => told("move", calls::move_after(layout, a, b), |()| String::new()),
+        20 => told("lay", calls::greedy_append(layout, a), |t| format!(" {t}")),
+        21 => told("sift", calls::sift(layout, a), |r| format!(" {r}")),
+        22 => told("round", calls::sifting_round(layout), |r| {
+            format!(" {} {}", r.reduction, r.moved)
+        }),
+        23 => told("settle", calls::converge(layout, limit), |c| {
+            let converged = yes_or_no(c.converged);
+            format!(" {} {} {converged}", c.reduction, c.rounds)
+        }),
+        24 => told("count", calls::count(layout), |c| format!(" {c}")),
+        25 => read_order(layout, a, b),
+        26 => told("pair", calls::first_crossing(layout), pair_text),
+        _ => return None,
+    })
+}
+
+/// The call `order`, into a buffer filled beforehand.
+fn read_order(layout: Layout, length: u64, fill: u64) -> Told {
+    let mut buffer = vec![fill as u8; length.min(255) as usize];
+    let answer = calls::order(layout, &mut buffer);
+    let bytes = numbers(buffer);
+    told("order", answer, |()| format!(" buffer{bytes}"))
+}
+
+fn pair_text(crossing: Crossing) -> String {
+    match crossing {
+        Crossing::Pair((a, b), (c, d)) => format!(" pair {a} {b} {c} {d}"),
+        Crossing::None => " none".to_string(),
+        Crossing::Refused => " refused".to_string(),
+    }
+}
+
+fn told<T>(name: &'static str, answer: Answer<T>, text: impl FnOnce(T) -> String) -> Told {
+    Told {
+        name,
+        refusal: answer.refusal,
+        answers: text(answer.value),
+        layout: answer.layout,
+    }
+}
+
+/// Each number with a space before it.
+fn numbers(bytes: impl IntoIterator<Item = u8>) -> String {
+    bytes.into_iter().map(|byte| format!(" {byte}")).collect()
+}
+
+/// The answer line, with the words that differ from those before.
+fn line(told: &Told, before: &Layout) -> String {
+    let Told { name, refusal, .. } = told;
+    let Layout { n, count, .. } = told.layout;
+    let words: String = (0..PLACES)
+        .filter(|&v| told.layout.adjacency[v] != before.adjacency[v])
+        .map(|v| format!(" {v} {}", told.layout.adjacency[v]))
+        .collect();
+    let answers = &told.answers;
+    let order = numbers(told.layout.order);
+    format!("{name} {refusal}{answers} n {n} order{order} count {count} words{words}\n")
+}

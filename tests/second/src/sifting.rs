@@ -1,0 +1,101 @@
+//! Circular sifting: Algorithm 2 of document 004, with the places that
+//! document 01 chooses.
+
+use std::cmp::Ordering;
+
+use crate::circle::Circle;
+
+/// What a sifting round (document 01: round) answers.
+#[derive(Clone, Copy, Debug, Default, PartialEq, Eq)]
+pub struct Round {
+    /// The summed reduction (document 01: saving).
+    pub reduction: u32,
+    /// How many vertices moved.
+    pub moved: u32,
+}
+
+/// What converging (document 01: settling) answers.
+#[derive(Clone, Copy, Debug, Default, PartialEq, Eq)]
+pub struct Convergence {
+    pub reduction: u32,
+    /// The rounds run, an unchanged last one included.
+    pub rounds: u32,
+    /// Whether the last round moved nothing (document 01: settled).
+    pub converged: bool,
+}
+
+/// The change of the crossing count when u, standing directly before v, is
+/// swapped with it (Lemma 1). The other vertices stand as in `circle`; where u
+/// stands there does not matter. The adjacency lists, each without the other
+/// one's vertex, are read clockwise from v and merged, and the length of the
+/// remaining suffix is added or subtracted.
+pub fn swap_change(circle: &Circle, u: usize, v: usize) -> i64 {
+    let list = |of: usize, without: usize| {
+        let others = circle.neighbours_from(of, v).filter(move |&w| w != without);
+        others.map(|w| circle.distance(v, w))
+    };
+    let joined = i64::from(circle.neighbours(u).contains(&v));
+    let mut left_of_u = circle.neighbours(u).len() as i64 - joined;
+    let mut left_of_v = circle.neighbours(v).len() as i64 - joined;
+    let (mut xs, mut ys) = (list(u, v), list(v, u));
+    let (mut next_x, mut next_y) = (xs.next(), ys.next());
+    let mut change = 0;
+    while let (Some(x), Some(y)) = (next_x, next_y) {
+        let order = x.cmp(&y);
+        if order != Ordering::Greater {
+            change -= left_of_v;
+        }
+        if order != Ordering::Less {
+            change += left_of_u;
+        }
+        if order != Ordering::Greater {
+            left_of_u -= 1;
+            next_x = xs.next();
+        }
+        if order != Ordering::Less {
+            left_of_v -= 1;
+            next_y = ys.next();
+        }
+    }
+    change
+}
+
+/// Sifts u: moves it behind the first of the other vertices, clockwise, that
+/// gives least crossings, if those are fewer than now. Answers the reduction.
+pub fn sift(circle: &mut Circle, u: usize) -> u32 {
+    let (mut change, mut least, mut best) = (0, 0, None);
+    for v in circle.others(u) {
+        change += swap_change(circle, u, v);
+        if change < least {
+            (least, best) = (change, Some(v));
+        }
+    }
+    debug_assert_eq!(change, 0, "a full turn changes nothing");
+    if let Some(v) = best {
+        circle.move_after(u, v);
+    }
+    least.unsigned_abs() as u32
+}
+
+/// Sifts every vertex once, in rising number.
+pub fn sifting_round(circle: &mut Circle) -> Round {
+    let mut round = Round::default();
+    for u in 0..circle.n() {
+        let reduction = sift(circle, u);
+        round.reduction += reduction;
+        round.moved += u32::from(reduction > 0);
+    }
+    round
+}
+
+/// Runs sifting rounds until one moves nothing, or `limit` of them are run.
+pub fn converge(circle: &mut Circle, limit: u32) -> Convergence {
+    let mut run = Convergence::default();
+    while !run.converged && run.rounds < limit {
+        let round = sifting_round(circle);
+        run.reduction += round.reduction;
+        run.rounds += 1;
+        run.converged = round.moved == 0;
+    }
+    run
+}

@@ -1,0 +1,68 @@
+//! Layouts and charts for the tests. Not every test file uses all of them.
+#![allow(dead_code)]
+
+use second::circle::Circle;
+use second::crossings::crossings;
+use second::layout::Layout;
+
+/// The edges of the first ring worked by hand in document 01.
+pub const FIRST: [(u8, u8); 2] = [(0, 2), (1, 3)];
+
+/// A layout that carries its crossings.
+pub fn layout(order: &[u8], edges: &[(u8, u8)]) -> Layout {
+    let mut layout = Layout::new(order, edges);
+    layout.count = crossings(&Circle::new(&layout));
+    layout
+}
+
+/// The first ring: edges 0-2 and 1-3, order 0 1 2 3.
+pub fn first_ring() -> Layout {
+    layout(&[0, 1, 2, 3], &FIRST)
+}
+
+/// Vertices 0 to n - 1 in rising order.
+pub fn rising(n: u8) -> Vec<u8> {
+    (0..n).collect()
+}
+
+/// All pairs of n vertices, lower end first.
+pub fn all_edges(n: u8) -> Vec<(u8, u8)> {
+    let pairs = |a| (a + 1..n).map(move |b| (a, b));
+    (0..n).flat_map(pairs).collect()
+}
+
+/// n vertices in rising order with all edges.
+pub fn complete(n: u8) -> Layout {
+    layout(&rising(n), &all_edges(n))
+}
+
+/// The order without its unused places.
+pub fn order(layout: &Layout) -> &[u8] {
+    &layout.order[..layout.n as usize]
+}
+
+/// Every graph of n vertices, as its edges.
+pub fn all_graphs(n: u8) -> impl Iterator<Item = Vec<(u8, u8)>> {
+    let pairs = all_edges(n);
+    (0u32..1 << pairs.len()).map(move |chosen| {
+        let numbered = pairs.iter().enumerate();
+        let kept = numbered.filter(|(i, _)| chosen >> i & 1 == 1);
+        kept.map(|(_, &edge)| edge).collect()
+    })
+}
+
+/// A field of a chart.
+pub fn field(tag: u8, body: &[u8]) -> Vec<u8> {
+    let length = u16::try_from(body.len()).expect("a body fits its length");
+    [&[tag], &length.to_be_bytes()[..], body].concat()
+}
+
+/// A chart of three fields, each body as given.
+pub fn chart(size: &[u8], edges: &[u8], order: &[u8]) -> Vec<u8> {
+    [field(0x44, size), field(0x4C, edges), field(0x52, order)].concat()
+}
+
+/// The body of a field of edges.
+pub fn edge_bytes(edges: &[(u8, u8)]) -> Vec<u8> {
+    edges.iter().flat_map(|&(a, b)| [a, b]).collect()
+}

@@ -1,0 +1,116 @@
+//! The incremental sums against counts from nothing, over every graph of five
+//! vertices.
+
+mod common;
+
+use common::{all_graphs, layout, order};
+use second::calls;
+use second::circle::Circle;
+use second::crossings::crossings;
+use second::layout::Layout;
+use second::sifting::{swap_change, Convergence, Round};
+
+const ORDERS: [[u8; 5]; 3] = [[0, 1, 2, 3, 4], [3, 1, 4, 0, 2], [2, 0, 1, 4, 3]];
+
+fn all_layouts() -> impl Iterator<Item = Layout> {
+    all_graphs(5).flat_map(|edges| ORDERS.map(|order| layout(&order, &edges)))
+}
+
+/// The pairs of edges whose ends alternate, counted one by one.
+fn pairwise(circle: &Circle) -> u32 {
+    let mut total = 0;
+    let edges = circle.edges();
+    let ends = |(a, b)| {
+        let (a, b) = (circle.position(a), circle.position(b));
+        (a.min(b), a.max(b))
+    };
+    for &first in &edges {
+        for &second in &edges {
+            let ((a, b), (c, d)) = (ends(first), ends(second));
+            total += u32::from(a < c && c < b && b < d);
+        }
+    }
+    total
+}
+
+#[test]
+fn the_sweep_counts_what_crosses() {
+    for layout in all_layouts() {
+        let circle = Circle::new(&layout);
+        assert_eq!(crossings(&circle), pairwise(&circle), "{layout:?}");
+    }
+}
+
+#[test]
+fn a_swap_changes_the_count_by_its_sum() {
+    for layout in all_layouts() {
+        let circle = Circle::new(&layout);
+        for place in 0..5 {
+            let (u, v) = (circle.order()[place], circle.order()[(place + 1) % 5]);
+            let mut swapped = circle.order().to_vec();
+            swapped.swap(place, (place + 1) % 5);
+            let mut after = circle.clone();
+            after.reorder(swapped);
+            let change = i64::from(crossings(&after)) - i64::from(crossings(&circle));
+            assert_eq!(swap_change(&circle, u, v), change, "{layout:?} {u} {v}");
+        }
+    }
+}
+
+/// Strictly fewer only, then the lowest k.
+#[test]
+fn a_sift_takes_the_first_best_place() {
+    for layout in all_layouts() {
+        for u in 0..5 {
+            let others = Circle::new(&layout).others(u);
+            let candidates = others.iter().map(|&v| {
+                let moved = calls::move_after(layout, u as u64, v as u64);
+                moved.layout
+            });
+            let best = candidates.min_by_key(|c| c.count).unwrap();
+            let due = if best.count < layout.count {
+                best
+            } else {
+                layout
+            };
+            let sifted = calls::sift(layout, u as u64);
+            assert_eq!(sifted.layout, due, "{layout:?} {u}");
+            assert_eq!(sifted.value, layout.count - due.count);
+        }
+    }
+}
+
+#[test]
+fn a_round_sifts_by_number_and_settling_repeats_it() {
+    for start in all_layouts() {
+        let (mut layout, mut due) = (start, Convergence::default());
+        while !due.converged {
+            let mut round = Round::default();
+            let before = layout;
+            for u in 0..5 {
+                let sifted = calls::sift(layout, u);
+                round.reduction += sifted.value;
+                round.moved += u32::from(order(&sifted.layout) != order(&layout));
+                layout = sifted.layout;
+            }
+            let answer = calls::sifting_round(before);
+            assert_eq!((answer.layout, answer.value), (layout, round));
+            due.reduction += round.reduction;
+            due.rounds += 1;
+            due.converged = round.moved == 0;
+        }
+        let run = calls::converge(start, 1000);
+        assert_eq!((run.layout, run.value), (layout, due));
+    }
+}
+
+#[test]
+fn a_tally_is_never_more_than_the_crossings_laid() {
+    for layout in all_layouts() {
+        for start in 0..5 {
+            let laid = calls::greedy_append(layout, start);
+            assert!(laid.value <= laid.layout.count, "{layout:?} {start}");
+            assert!(laid.layout.is_valid());
+        }
+    }
+}

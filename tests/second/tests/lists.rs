@@ -1,0 +1,136 @@
+//! The format of lists of calls and of answer lines, see tests/README.md.
+
+mod common;
+
+use common::rising;
+use second::play::play;
+
+/// A record of an op and its numbers, the missing ones 0.
+fn record(numbers: &[u64]) -> Vec<u8> {
+    let mut padded = numbers.to_vec();
+    padded.resize(4, 0);
+    padded.iter().flat_map(|n| n.to_le_bytes()).collect()
+}
+
+fn records(list: &[&[u64]]) -> Vec<u8> {
+    list.iter().flat_map(|numbers| record(numbers)).collect()
+}
+
+/// A start from a chart.
+fn chart(bytes: &[u8]) -> Vec<u8> {
+    let mut list = record(&[1, bytes.len() as u64]);
+    list.extend(bytes);
+    list.resize(list.len().next_multiple_of(32), 0);
+    list
+}
+
+fn first_ring() -> Vec<u8> {
+    chart(&common::chart(&[4], &[0, 2, 1, 3], &rising(4)))
+}
+
+/// An order of 64 places, the last ones 0.
+fn places(order: &str) -> String {
+    let used = order.split_whitespace().count();
+    format!("{order}{}", " 0".repeat(64 - used))
+}
+
+/// The last line of a list that starts from the first ring.
+fn last_line(calls: &[&[u64]]) -> String {
+    let lines = play(&[first_ring(), records(calls)].concat());
+    lines.lines().last().expect("a line").to_string()
+}
+
+#[test]
+fn the_worked_example() {
+    let list = [first_ring(), record(&[21, 0])].concat();
+    assert_eq!(list.len(), 96);
+    let due = format!(
+        "chart 0 n 4 order {} count 1 words 0 4 1 8 2 1 3 2\n\
+         sift 0 1 n 4 order {} count 0 words\n",
+        places("0 1 2 3"),
+        places("1 0 2 3")
+    );
+    assert_eq!(play(&list), due);
+}
+
+#[test]
+fn each_call_has_its_answers() {
+    let order = places("0 1 2 3");
+    let rest = format!("n 4 order {order} count 1 words");
+    let line = |name: &str| format!("{name} {rest}");
+    assert_eq!(last_line(&[&[18, 1, 2]]), line("unlink 15"));
+    assert_eq!(last_line(&[&[17, 1, 1]]), line("link 13"));
+    assert_eq!(last_line(&[&[19, 1, 64]]), line("move 12"));
+    assert_eq!(last_line(&[&[24]]), line("count 0 1"));
+    assert_eq!(last_line(&[&[26]]), line("pair 0 pair 0 2 1 3"));
+    assert_eq!(last_line(&[&[23, 0]]), line("settle 17 0 0 no"));
+    let limit = last_line(&[&[23, (1 << 32) + 1]]);
+    assert_eq!(limit, line("settle 17 0 0 no"));
+    let buffer = last_line(&[&[25, 6, 0x1FF]]);
+    assert_eq!(buffer, line("order 0 buffer 0 1 2 3 255 255"));
+    assert_eq!(last_line(&[&[25, 3, 7]]), line("order 18 buffer 7 7 7"));
+    let turned = places("1 0 2 3");
+    let rest = format!("n 4 order {turned} count 0 words");
+    assert_eq!(last_line(&[&[22]]), format!("round 0 1 1 {rest}"));
+    assert_eq!(last_line(&[&[23, 1]]), format!("settle 0 1 1 no {rest}"));
+    assert_eq!(last_line(&[&[23, 2]]), format!("settle 0 1 2 yes {rest}"));
+    let unlinked = format!("unlink 0 n 4 order {order} count 0 words 1 0 3 0");
+    assert_eq!(last_line(&[&[18, 3, 1]]), unlinked);
+    let added = format!("add 0 4 n 5 order {} count 1 words", places("0 1 2 3 4"));
+    assert_eq!(last_line(&[&[16]]), added);
+}
+
+#[test]
+fn a_buffer_has_at_most_255_bytes() {
+    let line = last_line(&[&[25, u64::MAX, 5]]);
+    let buffer = line.split(" n ").next().expect("a buffer");
+    assert_eq!(buffer.split(' ').count(), 3 + 255);
+}
+
+#[test]
+fn fields_are_set_without_a_word() {
+    let list = records(&[
+        &[2, 3],
+        &[3, 0, 258],
+        &[3, 1, 1],
+        &[3, 64, 9],
+        &[4, 0, 2],
+        &[4, 1, 1],
+        &[4, u64::MAX, 9],
+        &[5, (1 << 32) + 7],
+        &[24],
+    ]);
+    let due = format!("count 0 7 n 3 order {} count 7 words\n", places("2 1 0"));
+    assert_eq!(play(&list), due);
+    let spoilt = play(&records(&[&[2, u64::MAX], &[26], &[0]]));
+    let zeros = places("");
+    let zeros = zeros.trim_start();
+    let due = format!(
+        "pair 11 refused n {} order {zeros} count 0 words\n\
+         empty 0 n 0 order {zeros} count 0 words\n",
+        u64::MAX
+    );
+    assert_eq!(spoilt, due);
+}
+
+#[test]
+fn a_start_shows_the_words_that_differ_from_those_before() {
+    assert!(last_line(&[&[0]]).ends_with("count 0 words 0 0 1 0 2 0 3 0"));
+    let twice = play(&[first_ring(), first_ring()].concat());
+    assert!(twice.ends_with("count 1 words\n"), "{twice}");
+}
+
+#[test]
+fn a_list_ends_at_an_unknown_op_or_where_it_is_cut() {
+    assert_eq!(play(&[]), "");
+    assert_eq!(play(&record(&[6])), "end\n");
+    assert_eq!(play(&records(&[&[27], &[24]])), "end\n");
+    assert_eq!(play(&record(&[256 + 24])), "end\n");
+    assert_eq!(play(&record(&[24])[..31]), "end\n");
+    assert_eq!(play(&record(&[1, 1])), "end\n");
+    assert_eq!(play(&record(&[1, u64::MAX])), "end\n");
+    let whole = first_ring();
+    assert_eq!(play(&whole[..whole.len() - 1]), "end\n");
+    let lines = play(&[whole, record(&[9])].concat());
+    assert!(lines.ends_with("words 0 4 1 8 2 1 3 2\nend\n"), "{lines}");
+}
