@@ -1,6 +1,6 @@
 -- The bits of a word: what setting and clearing one does to the others, and counts of ones as sums.
 use Prim.Native.Nat.{ℕ, zero, suc, _+_, _*_, _-_, _/_, _%_, _^_, _≤_, _<_, min}
-use native.Mathlib.Nat.{add-zero, mul-one, zero-mul, one-mul, pow-suc, pow-succ', div-one, mod-lt, mod-le, div-add-mod', div-mul-le-self, div-div-eq-div-mul, div-eq-of-lt, zero-mod, mul-le-mul-right, zero-lt-suc, le-trans, lt-of-lt-of-le, le-antisymm, suc-inj}
+use native.Mathlib.Nat.{add-zero, mul-one, zero-mul, one-mul, pow-suc, pow-succ', div-one, mod-lt, mod-le, div-add-mod', div-mul-le-self, div-div-eq-div-mul, div-eq-of-lt, zero-mod, mul-le-mul-right, zero-lt-suc, le-trans, lt-of-lt-of-le, le-of-eq, le-of-suc-le-suc, mul-le-mul}
 use native.Mathlib.Omega.{arith}
 use mathlib.Core.Path.{_≡_, refl, sym, ap, ap₂, _∙_, subst}
 use lib.Arith.{lt-one, digits-div, digits-mod}
@@ -11,7 +11,7 @@ use lib.Dec.{lit<}
 use native.Mathlib.Numerals.{add-one, one-add}
 use Rattle.model.specs.Crossings.{bit}
 use Rattle.model.specs.Edits.{withBit, withoutBit}
-use Rattle.laws.specs.Sums.{sum, sum-ext, sum-first}
+use Rattle.laws.specs.Sums.{sum, sum-ext, sum-const, sum-first, sum-mono}
 
 pub bit-lt : (w i : ℕ) → bit w i < 2
 unfolding bit
@@ -83,6 +83,12 @@ maskedOnes w m = sum 64 (λ i. bit w i * bit m i)
 pub ones-masked : (k w m : ℕ) → w < 2 ^ k → ones (bitAnd w m) ≡ sum k (λ i. bit w i * bit m i)
 ones-masked k w m h =
     ones-sum k (bitAnd w m) (omega (arith, and-le-l w m)) ∙ sum-ext k (bit (bitAnd w m)) (λ i. bit w i * bit m i) (λ i l. bit-and w m i)
+
+pub maskedOnes-le : (w m : ℕ) → maskedOnes w m ≤ 64
+unfolding maskedOnes
+maskedOnes-le w m =
+    le-trans (sum-mono 64 (λ i. bit w i * bit m i) (λ i. 1) (λ i l. mul-le-mul (le-of-suc-le-suc (bit-lt w i)) (le-of-suc-le-suc (bit-lt m i))))
+    (le-of-eq (sum-const 64 1))
 
 -- ---- one bit changed
 

@@ -1,6 +1,7 @@
 // Bits of a 64-bit word. A place of 64 or above is none of its bits: it is never set, and setting
 // or clearing it changes nothing.
 ghost use mathlib.Core.Path.{_≡_};
+ghost use Prim.Native.Nat.{_-_, _^_, min};
 ghost use mathlib.Core.Bool.{cond};
 ghost use lib.Dec.{eqb, ltb};
 ghost use Rattle.model.specs.Crossings.{bit};
@@ -34,4 +35,11 @@ pub fn count(word: u64, mask: u64) -> u32
     ensures { λ r. ⌜ r ≡ maskedOnes word mask ⌝ }
 {
     u64::count_ones(word & mask)
+}
+
+// The n lowest bits set; all 64 for an n above 64.
+pub fn low_bits(n: usize) -> u64
+    ensures { λ r. ⌜ r ≡ 2 ^ min n 64 - 1 ⌝ }
+{
+    if n < 64 { (1u64 << n) - 1 } else { u64::MAX }
 }

@@ -1,0 +1,5 @@
+// Circular layouts: validity, the crossing count, the calls that edit a layout and those that only
+// read it. One file for each.
+mod counter;
+
+pub use counter::count_crossings;
