@@ -1,5 +1,6 @@
 -- Mathematics about the definitions of model, over any weight function.
 pub mod Indicators
+pub mod Every
 pub mod Sums
 pub mod ListSums
 pub mod Permutations

@@ -1,45 +1,59 @@
 -- What a valid layout has: an order that holds each vertex once, and symmetric edges. So its crossings are the sum over places, and bounded.
 use Prim.Native.Nat.{ℕ, zero, suc, _+_, _*_, _≤_, _<_}
-use native.Mathlib.Nat.{le-antisymm, le-trans, le-of-eq, min-le-left, mul-one, not-suc-le-zero}
+use native.Mathlib.Nat.{le-antisymm, le-trans, le-of-eq, min-le-left, mul-one, not-suc-le-zero, le-of-suc-le-suc}
 use native.Mathlib.Omega.{arith}
+use native.Mathlib.Decide.{ℕ-discrete}
+use native.Mathlib.Numerals.{add-one}
 use mathlib.Core.Path.{_≡_, refl, sym, ap, ap₂, _∙_, subst}
-use mathlib.Core.Bool.{Bool, true, false, Bool·beq, not, _&&_}
+use mathlib.Core.Bool.{Bool, true, false, Bool·beq, not, cond, _&&_}
 use mathlib.Core.List.{List, [], _∷_, _++_}
-use lib.ListN.{length, take, length-take}
+use lib.ListN.{length, getD, take, length-take}
+use lib.Seq.{getD-take}
+use borrow.Author.Tests.{le-leb, lt-leb, eq-eqb, ne-eqb, eqb-true}
 use lib.Dec.{T, eqb, leb, ltb, leb→le, eqb→eq}
 use Rattle.model.specs.declared.Layout.{Layout}
 use Rattle.model.specs.Lists.{one, upto, every, occurrences}
-use Rattle.model.specs.Crossings.{linked, crossings}
+use Rattle.model.specs.Crossings.{bit, linked, crossings}
+use Rattle.model.specs.Edits.{withBit}
+use Rattle.laws.specs.Bits.{bit-lt, bit-beyond, set-same, set-other}
 use Rattle.model.specs.Layouts.{capacity, vertexOrder, crossingsOf, eachOnce, zeroFrom, symmetric, loopless, bitsBelow, valid}
-use Rattle.laws.specs.Indicators.{Order, less, same, more, order, and-left, and-right, one-le}
-use Rattle.laws.specs.Sums.{sum, sum-ext, sum-const, sum-swap, sum-mono}
-use Rattle.laws.specs.Permutations.{at, Permutation, occurrences-places, sum-hits}
+use Rattle.laws.specs.Indicators.{one-eq, one-ne, one-lt, T-true, Order, less, same, more, order, and-left, and-right, one-le}
+use Rattle.laws.specs.Every.{every-upto, upto-every, upto-fails, every-keep}
+use Rattle.laws.specs.Sums.{sum, sum-ext, sum-const, sum-swap, sum-mono, all-one}
+use Rattle.laws.specs.ListSums.{sumOver-take}
+use Rattle.laws.specs.Permutations.{at, Permutation, at-lt, occurrences-places, sum-hits}
 use Rattle.laws.specs.Pairs.{pairSum, Symmetric}
 use Rattle.laws.specs.Counting.{crossingSum, placed, crossingSum-counted}
 use Rattle.laws.specs.EdgeCounts.{weight, crossings-sum}
-use Rattle.laws.specs.Bound.{crossingSum-bound}
+use Rattle.laws.specs.Bound.{sum-more, crossingSum-bound}
 
--- ---- a test of every number below n
+-- ---- Booleans
 
-every-append : {A : Type 0} (p : A → Bool) (xs ys : List A) → every p (xs ++ ys) ≡ (every p xs && every p ys)
-unfolding every
-every-append p [] ys = refl
-every-append p (x ∷ xs) ys = ap (λ (b : Bool). p x && b) (every-append p xs ys) ∙ and-assoc (p x) (every p xs) (every p ys)
-  where
-    and-assoc : (a b c : Bool) → (a && (b && c)) ≡ (a && b && c)
-    and-assoc true b c = refl
-    and-assoc false b c = refl
+bool-ext : (a b : Bool) → (T a → T b) → (T b → T a) → a ≡ b
+bool-ext true true f g = refl
+bool-ext true false f g = absurd (f tt)
+bool-ext false true f g = absurd (g tt)
+bool-ext false false f g = refl
 
-pub every-upto : (p : ℕ → Bool) (n : ℕ) → T (every p (upto n)) → (i : ℕ) → i < n → T (p i)
-unfolding every upto
-every-upto p zero t i h = absurd (not-suc-le-zero h)
-every-upto p (suc n) t i h =
-    let u : T (every p (upto n) && (p n && true)) = subst T (every-append p (upto n) (n ∷ [])) t in
-    elim (order i n) [
-      | less l ↦ every-upto p n (and-left (every p (upto n)) (p n && true) u) i l
-      | same e ↦ subst (λ (k : ℕ). T (p k)) (sym e) (and-left (p n) true (and-right (every p (upto n)) (p n && true) u))
-      | more l ↦ absurd (omega arith)
-    ]
+beq-self : (a : Bool) → T (Bool·beq a a)
+beq-self true = tt
+beq-self false = tt
+
+beq-comm : (a b : Bool) → Bool·beq a b ≡ Bool·beq b a
+beq-comm true true = refl
+beq-comm true false = refl
+beq-comm false true = refl
+beq-comm false false = refl
+
+not-T-false : (b : Bool) → (T b → ⊥) → b ≡ false
+not-T-false true f = absurd (f tt)
+not-T-false false f = refl
+
+-- a bit that is not 1 is 0
+pub not-one-bit : (b : ℕ) → b < 2 → eqb b 1 ≡ false → b ≡ 0
+not-one-bit zero h f = refl
+not-one-bit (suc zero) h f = absurd (subst T f tt)
+not-one-bit (suc (suc b)) h f = absurd (omega arith)
 
 -- ---- the clauses of validity
 
@@ -88,6 +102,30 @@ symmetric-weight n adj s d =
       diagonal = λ v a. not-one (linked adj v v) (every-upto (λ x. not (linked adj x x)) n d v a);
     }
 
+-- the places from n on, one by one
+zero-from-upto : (n : ℕ) (xs : List ℕ) → zeroFrom n xs ≡ every (λ i. cond (leb n i) (eqb (getD xs i 0) 0) true) (upto capacity)
+unfolding zeroFrom
+zero-from-upto n xs = every-keep (λ i. eqb (getD xs i 0) 0) (leb n) (upto capacity)
+
+pub zero-from : (n : ℕ) (xs : List ℕ) → ((i : ℕ) → n ≤ i → i < capacity → getD xs i 0 ≡ 0) → T (zeroFrom n xs)
+zero-from n xs h =
+    subst T (sym (zero-from-upto n xs))
+    (upto-every (λ i. cond (leb n i) (eqb (getD xs i 0) 0) true) capacity
+    (λ i l. elim (order i n) [ less b ↦ rw (lt-leb n i b) tt | same e ↦ passes i l (omega arith) | more b ↦ passes i l (omega arith) ]))
+  where
+  passes : (i : ℕ) → i < capacity → n ≤ i → T (cond (leb n i) (eqb (getD xs i 0) 0) true)
+  passes i l b = rw (le-leb n i b, eq-eqb (getD xs i 0) 0 (h i b l)) tt
+
+pub zero-from-at : (n : ℕ) (xs : List ℕ) → T (zeroFrom n xs) → (i : ℕ) → n ≤ i → i < capacity → getD xs i 0 ≡ 0
+zero-from-at n xs t i b l =
+    eqb→eq (getD xs i 0) 0
+    (rw (le-leb n i b) at (every-upto (λ i. cond (leb n i) (eqb (getD xs i 0) 0) true) capacity (subst T (zero-from-upto n xs) t) i l))
+
+pub zero-from-fails : (n : ℕ) (xs : List ℕ) (i : ℕ) → n ≤ i → i < capacity → (getD xs i 0 ≡ 0 → ⊥) → zeroFrom n xs ≡ false
+zero-from-fails n xs i b l d =
+    zero-from-upto n xs
+    ∙ upto-fails (λ i. cond (leb n i) (eqb (getD xs i 0) 0) true) capacity i l (rw (le-leb n i b) (ne-eqb (getD xs i 0) 0 d))
+
 pub record Sound (l : Layout) : Type 0 where
   pub small : l .n ≤ capacity
   pub permutation : Permutation (l .n) (vertexOrder l)
@@ -129,3 +167,109 @@ module _ (l : Layout) (t : T (valid l)) where
       le-trans (le-of-eq crossings-rising)
       (crossingSum-bound (l .n) 1 (placeWeight l) (sound l t .small)
       (λ i j a b. one-le (linked (l .adjacency) (at (vertexOrder l) i) (at (vertexOrder l) j))))
+
+-- ---- symmetry asked of each two vertices once
+
+-- the edges from u to lower vertices stand in the words of both ends
+unfoldable pub symmetricRow : List ℕ → ℕ → Bool
+symmetricRow adj u = every (λ v. Bool·beq (linked adj u v) (linked adj v u)) (upto u)
+
+-- that is all of the symmetry
+pub symmetric-rows : (n : ℕ) (adj : List ℕ) → symmetric n adj ≡ every (symmetricRow adj) (upto n)
+unfolding symmetric symmetricRow
+symmetric-rows n adj =
+    bool-ext (symmetric n adj) (every (symmetricRow adj) (upto n))
+    (λ t. upto-every (symmetricRow adj) n (λ u l. upto-every (pairs u) u (λ v m. every-upto (pairs u) n (every-upto (λ u. every (pairs u) (upto n)) n t u l) v (omega arith))))
+    (λ t. upto-every (λ u. every (pairs u) (upto n)) n (λ u l. upto-every (pairs u) n (λ v m. both t u v l m)))
+  where
+  pairs : ℕ → ℕ → Bool
+  pairs u v = Bool·beq (linked adj u v) (linked adj v u)
+  both : T (every (symmetricRow adj) (upto n)) → (u v : ℕ) → u < n → v < n → T (pairs u v)
+  both t u v l m =
+      elim (order v u)
+      [ less b ↦ every-upto (pairs u) u (every-upto (symmetricRow adj) n t u l) v b
+      | same e ↦ rw e (beq-self (linked adj u u))
+      | more b ↦ subst T (beq-comm (linked adj v u) (linked adj u v)) (every-upto (pairs v) v (every-upto (symmetricRow adj) n t v m) u b) ]
+
+-- ---- each vertex once, found by going through the places with a set of the vertices seen
+
+-- seen holds the vertices at the places before p, each below n and met once
+pub record SeenUpTo (n : ℕ) (xs : List ℕ) (seen p : ℕ) : Type 0 where
+  pub inside : p ≤ n
+  pub mask : (v : ℕ) → bit seen v ≡ sum p (λ i. one (eqb v (at xs i)))
+  pub below : (i : ℕ) → i < p → at xs i < n
+
+module _ (n : ℕ) (xs : List ℕ) where
+  pub seen-none : SeenUpTo n xs 0 0
+  unfolding sum
+  seen-none =
+      record { inside = omega arith; mask = λ v. bit-beyond 0 0 v (omega arith) (omega arith); below = λ i l. absurd (not-suc-le-zero l) }
+
+  pub seen-next : {seen p wider v : ℕ} → SeenUpTo n xs seen p → p < n → v ≡ at xs p → v < n
+      → wider ≡ withBit seen v → eqb (bit seen v) 1 ≡ false → SeenUpTo n xs wider (p + 1)
+  unfolding sum
+  seen-next {seen} {p} {wider} {v} s h e b w f =
+      rw (add-one p)
+      (record
+      { inside = h
+      ; mask = λ u. ap (λ (x : ℕ). bit x u) w ∙ met u
+      ; below = λ i l. elim (order i p) [ less m ↦ s .below i m | same m ↦ rw (m, ← e) b | more m ↦ absurd (omega arith) ]
+      })
+    where
+    new : bit seen v ≡ 0
+    new = not-one-bit (bit seen v) (bit-lt seen v) f
+    met : (u : ℕ) → bit (withBit seen v) u ≡ sum p (λ i. one (eqb u (at xs i))) + one (eqb u (at xs p))
+    met u =
+        elim (ℕ-discrete u v)
+        [ yes d ↦ rw d (set-same seen v ∙ omega (arith, sym (s .mask v) ∙ new, one-eq v (at xs p) e))
+        | no d ↦ set-other seen v u d ∙ omega (arith, s .mask u, one-ne u (at xs p) (λ k. d (k ∙ sym e))) ]
+
+  -- how often v occurs in the first n places
+  occurs : (v : ℕ) → n ≤ length xs → occurrences v (take n xs) ≡ sum n (λ i. one (eqb v (at xs i)))
+  unfolding occurrences
+  occurs v h = sumOver-take (λ x. one (eqb v x)) xs n h
+
+  once-if : n ≤ length xs → T (eachOnce n (take n xs)) → Permutation n (take n xs)
+  once-if h t = each-once n (take n xs) (le-trans (le-of-eq (length-take n xs)) (min-le-left n (length xs))) t
+
+  pub seen-all : {seen p : ℕ} → n ≤ length xs → SeenUpTo n xs seen p → n ≤ p → true ≡ eachOnce n (take n xs)
+  unfolding eachOnce
+  seen-all {seen} {p} h s l =
+      sym (T-true (eachOnce n (take n xs)) (upto-every (λ v. eqb (occurrences v (take n xs)) 1) n (λ v b. once v b)))
+    where
+    end : p ≡ n
+    end = le-antisymm (s .inside) l
+    count : (v : ℕ) → occurrences v (take n xs) ≡ bit seen v
+    count v = occurs v h ∙ ap (λ (m : ℕ). sum m (λ i. one (eqb v (at xs i)))) (sym end) ∙ sym (s .mask v)
+    total : sum n (λ v. occurrences v (take n xs)) ≡ n
+    total =
+        sum-ext n (λ v. occurrences v (take n xs)) (λ v. sum n (λ i. one (eqb v (at xs i)))) (λ v b. occurs v h)
+        ∙ sum-swap n n (λ v i. one (eqb v (at xs i)))
+        ∙ sum-ext n (λ i. sum n (λ v. one (eqb v (at xs i)))) (λ i. 1) (λ i b. sum-hits n (at xs i) ∙ one-lt (at xs i) n (s .below i (rw end b)))
+        ∙ sum-const n 1 ∙ mul-one n
+    once : (v : ℕ) → v < n → T (eqb (occurrences v (take n xs)) 1)
+    once v b =
+        rw
+        (eq-eqb (occurrences v (take n xs)) 1
+        (all-one n (λ u. occurrences u (take n xs)) (λ u m. rw (count u) (le-of-suc-le-suc (bit-lt seen u))) total v b))
+        tt
+
+  -- a place holds no vertex
+  pub not-a-vertex : {p : ℕ} → n ≤ length xs → p < n → n ≤ at xs p → false ≡ eachOnce n (take n xs)
+  not-a-vertex {p} h l m =
+      sym (not-T-false (eachOnce n (take n xs)) (λ t. omega (arith, at-lt (once-if h t) p l, getD-take n xs p 0 l)))
+
+  -- a place holds a vertex that was seen before
+  pub seen-again : {seen p v : ℕ} → n ≤ length xs → SeenUpTo n xs seen p → p < n → v ≡ at xs p → v < n → eqb (bit seen v) 1 ≡ true
+      → false ≡ eachOnce n (take n xs)
+  unfolding sum
+  seen-again {seen} {p} {v} h s l e b f =
+      sym (not-T-false (eachOnce n (take n xs))
+      (λ t. omega
+      ( arith
+      , once-if h t .once v b
+      , occurs v h
+      , sum-more (suc p) n (λ i. one (eqb v (at xs i))) l
+      , s .mask v
+      , eqb-true (bit seen v) 1 f
+      , one-eq v (at xs p) e )))

@@ -1,0 +1,89 @@
+-- A test of every number below n, or from n on, against the numbers one by one.
+use Prim.Native.Nat.{ℕ, zero, suc, _+_, _≤_, _<_}
+use native.Mathlib.Nat.{le-step, lt-suc-self, not-suc-le-zero}
+use native.Mathlib.Omega.{arith}
+use mathlib.Core.Path.{_≡_, refl, sym, ap, ap₂, _∙_, subst}
+use mathlib.Core.Bool.{Bool, true, false, cond, _&&_}
+use mathlib.Core.List.{List, [], _∷_, _++_}
+use lib.Dec.{T}
+use borrow.Author.Count.{below-more}
+use Rattle.model.specs.Lists.{upto, every, keep}
+use Rattle.laws.specs.Indicators.{Order, less, same, more, order, T-true, and-left, and-right}
+
+and-assoc : (a b c : Bool) → (a && (b && c)) ≡ (a && b && c)
+and-assoc true b c = refl
+and-assoc false b c = refl
+
+and-intro : (a b : Bool) → T a → T b → T (a && b)
+and-intro true b s t = t
+and-intro false b s t = s
+
+and-false : (a : Bool) → (a && false) ≡ false
+and-false true = refl
+and-false false = refl
+
+every-append : {A : Type 0} (p : A → Bool) (xs ys : List A) → every p (xs ++ ys) ≡ (every p xs && every p ys)
+unfolding every
+every-append p [] ys = refl
+every-append p (x ∷ xs) ys = ap (λ (b : Bool). p x && b) (every-append p xs ys) ∙ and-assoc (p x) (every p xs) (every p ys)
+
+every-next : (p : ℕ → Bool) (n : ℕ) → every p (upto (suc n)) ≡ (every p (upto n) && p n)
+unfolding every upto
+every-next p n = every-append p (upto n) (n ∷ []) ∙ ap (λ (b : Bool). every p (upto n) && b) (last (p n))
+  where
+  last : (b : Bool) → (b && true) ≡ b
+  last true = refl
+  last false = refl
+
+-- every number below n passes exactly if each does
+pub every-upto : (p : ℕ → Bool) (n : ℕ) → T (every p (upto n)) → (i : ℕ) → i < n → T (p i)
+every-upto p zero t i h = absurd (not-suc-le-zero h)
+every-upto p (suc n) t i h =
+    let u : T (every p (upto n) && p n) = subst T (every-next p n) t in
+    elim (order i n)
+    [ less l ↦ every-upto p n (and-left (every p (upto n)) (p n) u) i l
+    | same e ↦ subst (λ (k : ℕ). T (p k)) (sym e) (and-right (every p (upto n)) (p n) u)
+    | more l ↦ absurd (omega arith) ]
+
+pub upto-every : (p : ℕ → Bool) (n : ℕ) → ((i : ℕ) → i < n → T (p i)) → T (every p (upto n))
+unfolding every upto
+upto-every p zero h = tt
+upto-every p (suc n) h =
+    subst T (sym (every-next p n)) (and-intro (every p (upto n)) (p n) (upto-every p n (λ i l. h i (le-step l))) (h n (lt-suc-self n)))
+
+pub upto-fails : (p : ℕ → Bool) (n i : ℕ) → i < n → p i ≡ false → every p (upto n) ≡ false
+upto-fails p n i h e = not-true (every p (upto n)) (λ t. subst T e (every-upto p n t i h))
+  where
+  not-true : (b : Bool) → (T b → ⊥) → b ≡ false
+  not-true true f = absurd (f tt)
+  not-true false f = refl
+
+-- a test of some numbers is a test that the others pass anyway
+pub every-keep : {A : Type 0} (p q : A → Bool) (xs : List A) → every p (keep q xs) ≡ every (λ x. cond (q x) (p x) true) xs
+unfolding every keep
+every-keep p q [] = refl
+every-keep p q (x ∷ xs) = by-test (q x) (every-keep p q xs)
+  where
+  by-test : (b : Bool) → every p (keep q xs) ≡ every (λ y. cond (q y) (p y) true) xs
+      → every p (cond b (x ∷ keep q xs) (keep q xs)) ≡ (cond b (p x) true && every (λ y. cond (q y) (p y) true) xs)
+  by-test true e = ap (λ (b : Bool). p x && b) e
+  by-test false e = e
+
+-- ---- a loop that tests one number after the other
+
+-- every number below k has passed
+abbrev pub PassedUpTo : (ℕ → Bool) → ℕ → ℕ → Type 0
+PassedUpTo p n k = (k ≤ n) × ((i : ℕ) → i < k → T (p i))
+
+module _ (p : ℕ → Bool) where
+  pub passed-none : (n : ℕ) → PassedUpTo p n 0
+  passed-none n = (omega arith, λ i l. absurd (not-suc-le-zero l))
+
+  pub passed-next : {n k : ℕ} {t : Bool} → PassedUpTo p n k → k < n → t ≡ p k → t ≡ true → PassedUpTo p n (k + 1)
+  passed-next {n} {k} s l e t = (omega arith, below-more (λ i. T (p i)) k (s .1) (subst T (sym t ∙ e) tt))
+
+  pub passed-all : {n k : ℕ} → PassedUpTo p n k → n ≤ k → true ≡ every p (upto n)
+  passed-all {n} {k} s l = sym (T-true (every p (upto n)) (upto-every p n (λ i b. s .1 i (omega arith))))
+
+  pub failed-at : {n k : ℕ} {t : Bool} → k < n → t ≡ p k → t ≡ false → false ≡ every p (upto n)
+  failed-at {n} {k} l e f = sym (upto-fails p n k l (sym e ∙ f))
