@@ -7,7 +7,9 @@ use lib.Arith.{lt-one, digits-div, digits-mod}
 use lib.Pow.{pow-mono, shr-lt, shl-exact}
 use lib.Bits.{bitAnd, bitOr, and-shr, and-mod, and-high, and-le-l, or-add-and, or-lt}
 use lib.Count.{ones, ones-step, ones-le}
-use lib.Dec.{lit<}
+use lib.Dec.{lit<, ltb}
+use mathlib.Core.Bool.{Bool, cond}
+use borrow.Author.Tests.{lt-ltb}
 use native.Mathlib.Numerals.{add-one, one-add}
 use Rattle.model.specs.Crossings.{bit}
 use Rattle.model.specs.Edits.{withBit, withoutBit}
@@ -171,3 +173,7 @@ shifted-one i h = shl-exact 1 i 64 (lit< tt) (omega arith) ∙ one-mul (2 ^ i)
 pub clear-beyond : (k w i : ℕ) → w < 2 ^ k → k ≤ i → withoutBit w i ≡ w
 unfolding withoutBit
 clear-beyond k w i h l = rw (bit-beyond k w i h l) (omega arith)
+
+-- what setting a bit gives, at a place of the word
+pub set-within : {r : ℕ} (w i : ℕ) → i < 64 → r ≡ cond (ltb i 64) (withBit w i) w → r ≡ withBit w i
+set-within w i h e = e ∙ ap (λ (t : Bool). cond t (withBit w i) w) (lt-ltb i 64 h)

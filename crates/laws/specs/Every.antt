@@ -31,19 +31,20 @@ every-next : (p : ℕ → Bool) (n : ℕ) → every p (upto (suc n)) ≡ (every 
 unfolding every upto
 every-next p n = every-append p (upto n) (n ∷ []) ∙ ap (λ (b : Bool). every p (upto n) && b) (last (p n))
   where
-  last : (b : Bool) → (b && true) ≡ b
-  last true = refl
-  last false = refl
+    last : (b : Bool) → (b && true) ≡ b
+    last true = refl
+    last false = refl
 
 -- every number below n passes exactly if each does
 pub every-upto : (p : ℕ → Bool) (n : ℕ) → T (every p (upto n)) → (i : ℕ) → i < n → T (p i)
 every-upto p zero t i h = absurd (not-suc-le-zero h)
 every-upto p (suc n) t i h =
     let u : T (every p (upto n) && p n) = subst T (every-next p n) t in
-    elim (order i n)
-    [ less l ↦ every-upto p n (and-left (every p (upto n)) (p n) u) i l
-    | same e ↦ subst (λ (k : ℕ). T (p k)) (sym e) (and-right (every p (upto n)) (p n) u)
-    | more l ↦ absurd (omega arith) ]
+    elim (order i n) [
+      | less l ↦ every-upto p n (and-left (every p (upto n)) (p n) u) i l
+      | same e ↦ subst (λ (k : ℕ). T (p k)) (sym e) (and-right (every p (upto n)) (p n) u)
+      | more l ↦ absurd (omega arith)
+    ]
 
 pub upto-every : (p : ℕ → Bool) (n : ℕ) → ((i : ℕ) → i < n → T (p i)) → T (every p (upto n))
 unfolding every upto
@@ -54,9 +55,9 @@ upto-every p (suc n) h =
 pub upto-fails : (p : ℕ → Bool) (n i : ℕ) → i < n → p i ≡ false → every p (upto n) ≡ false
 upto-fails p n i h e = not-true (every p (upto n)) (λ t. subst T e (every-upto p n t i h))
   where
-  not-true : (b : Bool) → (T b → ⊥) → b ≡ false
-  not-true true f = absurd (f tt)
-  not-true false f = refl
+    not-true : (b : Bool) → (T b → ⊥) → b ≡ false
+    not-true true f = absurd (f tt)
+    not-true false f = refl
 
 -- a test of some numbers is a test that the others pass anyway
 pub every-keep : {A : Type 0} (p q : A → Bool) (xs : List A) → every p (keep q xs) ≡ every (λ x. cond (q x) (p x) true) xs
@@ -64,10 +65,10 @@ unfolding every keep
 every-keep p q [] = refl
 every-keep p q (x ∷ xs) = by-test (q x) (every-keep p q xs)
   where
-  by-test : (b : Bool) → every p (keep q xs) ≡ every (λ y. cond (q y) (p y) true) xs
-      → every p (cond b (x ∷ keep q xs) (keep q xs)) ≡ (cond b (p x) true && every (λ y. cond (q y) (p y) true) xs)
-  by-test true e = ap (λ (b : Bool). p x && b) e
-  by-test false e = e
+    by-test : (b : Bool) → every p (keep q xs) ≡ every (λ y. cond (q y) (p y) true) xs
+        → every p (cond b (x ∷ keep q xs) (keep q xs)) ≡ (cond b (p x) true && every (λ y. cond (q y) (p y) true) xs)
+    by-test true e = ap (λ (b : Bool). p x && b) e
+    by-test false e = e
 
 -- ---- a loop that tests one number after the other
 

@@ -6,7 +6,7 @@ use native.Mathlib.Omega.{arith}
 use mathlib.Core.Path.{_≡_, refl, sym, ap, _∙_}
 use mathlib.Core.Bool.{Bool, true, false, not, _&&_, _||_}
 use lib.Dec.{T, eqb, ltb, leb}
-use borrow.Author.Tests.{eq-eqb, ne-eqb, lt-ltb, le-ltb}
+use borrow.Author.Tests.{eq-eqb, ne-eqb, lt-ltb, le-ltb, not-true, not-false}
 use Rattle.model.specs.Lists.{one}
 
 -- which of two numbers is the lower
@@ -72,3 +72,10 @@ and-left false b t = t
 pub and-right : (a b : Bool) → T (a && b) → T b
 and-right true b t = t
 and-right false b t = absurd t
+
+-- a test that a call found to hold, and one that it found not to, where code asks for the opposite
+pub passed : {r p : Bool} → r ≡ p → not r ≡ false → p ≡ true
+passed {r} {p} e f = sym e ∙ not-false r f
+
+pub failed : {r p : Bool} → r ≡ p → not r ≡ true → p ≡ false
+failed {r} {p} e t = sym e ∙ not-true r t

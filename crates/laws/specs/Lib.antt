@@ -12,3 +12,6 @@ pub mod Bound
 pub mod Validity
 pub mod Bits
 pub mod MaskCount
+pub mod Recount
+pub mod Refusals
+pub mod EdgeEdits

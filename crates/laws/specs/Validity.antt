@@ -113,8 +113,8 @@ zero-from n xs h =
     (upto-every (λ i. cond (leb n i) (eqb (getD xs i 0) 0) true) capacity
     (λ i l. elim (order i n) [ less b ↦ rw (lt-leb n i b) tt | same e ↦ passes i l (omega arith) | more b ↦ passes i l (omega arith) ]))
   where
-  passes : (i : ℕ) → i < capacity → n ≤ i → T (cond (leb n i) (eqb (getD xs i 0) 0) true)
-  passes i l b = rw (le-leb n i b, eq-eqb (getD xs i 0) 0 (h i b l)) tt
+    passes : (i : ℕ) → i < capacity → n ≤ i → T (cond (leb n i) (eqb (getD xs i 0) 0) true)
+    passes i l b = rw (le-leb n i b, eq-eqb (getD xs i 0) 0 (h i b l)) tt
 
 pub zero-from-at : (n : ℕ) (xs : List ℕ) → T (zeroFrom n xs) → (i : ℕ) → n ≤ i → i < capacity → getD xs i 0 ≡ 0
 zero-from-at n xs t i b l =
@@ -182,14 +182,16 @@ symmetric-rows n adj =
     (λ t. upto-every (symmetricRow adj) n (λ u l. upto-every (pairs u) u (λ v m. every-upto (pairs u) n (every-upto (λ u. every (pairs u) (upto n)) n t u l) v (omega arith))))
     (λ t. upto-every (λ u. every (pairs u) (upto n)) n (λ u l. upto-every (pairs u) n (λ v m. both t u v l m)))
   where
-  pairs : ℕ → ℕ → Bool
-  pairs u v = Bool·beq (linked adj u v) (linked adj v u)
-  both : T (every (symmetricRow adj) (upto n)) → (u v : ℕ) → u < n → v < n → T (pairs u v)
-  both t u v l m =
-      elim (order v u)
-      [ less b ↦ every-upto (pairs u) u (every-upto (symmetricRow adj) n t u l) v b
-      | same e ↦ rw e (beq-self (linked adj u u))
-      | more b ↦ subst T (beq-comm (linked adj v u) (linked adj u v)) (every-upto (pairs v) v (every-upto (symmetricRow adj) n t v m) u b) ]
+    pairs : ℕ → ℕ → Bool
+    pairs u v = Bool·beq (linked adj u v) (linked adj v u)
+
+    both : T (every (symmetricRow adj) (upto n)) → (u v : ℕ) → u < n → v < n → T (pairs u v)
+    both t u v l m =
+        elim (order v u) [
+          | less b ↦ every-upto (pairs u) u (every-upto (symmetricRow adj) n t u l) v b
+          | same e ↦ rw e (beq-self (linked adj u u))
+          | more b ↦ subst T (beq-comm (linked adj v u) (linked adj u v)) (every-upto (pairs v) v (every-upto (symmetricRow adj) n t v m) u b)
+        ]
 
 -- ---- each vertex once, found by going through the places with a set of the vertices seen
 
@@ -210,19 +212,21 @@ module _ (n : ℕ) (xs : List ℕ) where
   unfolding sum
   seen-next {seen} {p} {wider} {v} s h e b w f =
       rw (add-one p)
-      (record
-      { inside = h
-      ; mask = λ u. ap (λ (x : ℕ). bit x u) w ∙ met u
-      ; below = λ i l. elim (order i p) [ less m ↦ s .below i m | same m ↦ rw (m, ← e) b | more m ↦ absurd (omega arith) ]
+      (record {
+        inside = h;
+        mask = λ u. ap (λ (x : ℕ). bit x u) w ∙ met u;
+        below = λ i l. elim (order i p) [ less m ↦ s .below i m | same m ↦ rw (m, ← e) b | more m ↦ absurd (omega arith) ];
       })
     where
-    new : bit seen v ≡ 0
-    new = not-one-bit (bit seen v) (bit-lt seen v) f
-    met : (u : ℕ) → bit (withBit seen v) u ≡ sum p (λ i. one (eqb u (at xs i))) + one (eqb u (at xs p))
-    met u =
-        elim (ℕ-discrete u v)
-        [ yes d ↦ rw d (set-same seen v ∙ omega (arith, sym (s .mask v) ∙ new, one-eq v (at xs p) e))
-        | no d ↦ set-other seen v u d ∙ omega (arith, s .mask u, one-ne u (at xs p) (λ k. d (k ∙ sym e))) ]
+      new : bit seen v ≡ 0
+      new = not-one-bit (bit seen v) (bit-lt seen v) f
+
+      met : (u : ℕ) → bit (withBit seen v) u ≡ sum p (λ i. one (eqb u (at xs i))) + one (eqb u (at xs p))
+      met u =
+          elim (ℕ-discrete u v) [
+            | yes d ↦ rw d (set-same seen v ∙ omega (arith, sym (s .mask v) ∙ new, one-eq v (at xs p) e))
+            | no d ↦ set-other seen v u d ∙ omega (arith, s .mask u, one-ne u (at xs p) (λ k. d (k ∙ sym e)))
+          ]
 
   -- how often v occurs in the first n places
   occurs : (v : ℕ) → n ≤ length xs → occurrences v (take n xs) ≡ sum n (λ i. one (eqb v (at xs i)))
@@ -237,22 +241,25 @@ module _ (n : ℕ) (xs : List ℕ) where
   seen-all {seen} {p} h s l =
       sym (T-true (eachOnce n (take n xs)) (upto-every (λ v. eqb (occurrences v (take n xs)) 1) n (λ v b. once v b)))
     where
-    end : p ≡ n
-    end = le-antisymm (s .inside) l
-    count : (v : ℕ) → occurrences v (take n xs) ≡ bit seen v
-    count v = occurs v h ∙ ap (λ (m : ℕ). sum m (λ i. one (eqb v (at xs i)))) (sym end) ∙ sym (s .mask v)
-    total : sum n (λ v. occurrences v (take n xs)) ≡ n
-    total =
-        sum-ext n (λ v. occurrences v (take n xs)) (λ v. sum n (λ i. one (eqb v (at xs i)))) (λ v b. occurs v h)
-        ∙ sum-swap n n (λ v i. one (eqb v (at xs i)))
-        ∙ sum-ext n (λ i. sum n (λ v. one (eqb v (at xs i)))) (λ i. 1) (λ i b. sum-hits n (at xs i) ∙ one-lt (at xs i) n (s .below i (rw end b)))
-        ∙ sum-const n 1 ∙ mul-one n
-    once : (v : ℕ) → v < n → T (eqb (occurrences v (take n xs)) 1)
-    once v b =
-        rw
-        (eq-eqb (occurrences v (take n xs)) 1
-        (all-one n (λ u. occurrences u (take n xs)) (λ u m. rw (count u) (le-of-suc-le-suc (bit-lt seen u))) total v b))
-        tt
+      end : p ≡ n
+      end = le-antisymm (s .inside) l
+
+      count : (v : ℕ) → occurrences v (take n xs) ≡ bit seen v
+      count v = occurs v h ∙ ap (λ (m : ℕ). sum m (λ i. one (eqb v (at xs i)))) (sym end) ∙ sym (s .mask v)
+
+      total : sum n (λ v. occurrences v (take n xs)) ≡ n
+      total =
+          sum-ext n (λ v. occurrences v (take n xs)) (λ v. sum n (λ i. one (eqb v (at xs i)))) (λ v b. occurs v h)
+          ∙ sum-swap n n (λ v i. one (eqb v (at xs i)))
+          ∙ sum-ext n (λ i. sum n (λ v. one (eqb v (at xs i)))) (λ i. 1) (λ i b. sum-hits n (at xs i) ∙ one-lt (at xs i) n (s .below i (rw end b)))
+          ∙ sum-const n 1 ∙ mul-one n
+
+      once : (v : ℕ) → v < n → T (eqb (occurrences v (take n xs)) 1)
+      once v b =
+          rw
+          (eq-eqb (occurrences v (take n xs)) 1
+          (all-one n (λ u. occurrences u (take n xs)) (λ u m. rw (count u) (le-of-suc-le-suc (bit-lt seen u))) total v b))
+          tt
 
   -- a place holds no vertex
   pub not-a-vertex : {p : ℕ} → n ≤ length xs → p < n → n ≤ at xs p → false ≡ eachOnce n (take n xs)
@@ -265,11 +272,12 @@ module _ (n : ℕ) (xs : List ℕ) where
   unfolding sum
   seen-again {seen} {p} {v} h s l e b f =
       sym (not-T-false (eachOnce n (take n xs))
-      (λ t. omega
-      ( arith
-      , once-if h t .once v b
-      , occurs v h
-      , sum-more (suc p) n (λ i. one (eqb v (at xs i))) l
-      , s .mask v
-      , eqb-true (bit seen v) 1 f
-      , one-eq v (at xs p) e )))
+      (λ t. omega (
+        arith,
+        once-if h t .once v b,
+        occurs v h,
+        sum-more (suc p) n (λ i. one (eqb v (at xs i))) l,
+        s .mask v,
+        eqb-true (bit seen v) 1 f,
+        one-eq v (at xs p) e,
+      )))

@@ -1,7 +1,13 @@
 // Circular layouts: validity, the crossing count, the calls that edit a layout and those that only
-// read it. One file for each.
+// read it. One file for each subject.
+mod checks;
 mod counter;
+mod edges;
+mod recount;
 mod validity;
 
 pub use counter::count_crossings;
+pub use edges::add_edge;
+pub use edges::remove_edge;
+pub use recount::recounted;
 pub use validity::is_valid;

@@ -2,12 +2,13 @@ use borrow.Author.Needs.{needs}
 use Prim.Native.Nat.{ℕ, _-_}
 use native.Mathlib.Omega.{arith}
 use mathlib.Core.Path.{_≡_, ap, ap₂, _∙_}
-use mathlib.Core.Bool.{Bool, cond}
-use borrow.Author.Tests.{le-leb, lt-leb, lt-ltb}
+use borrow.Author.Tests.{le-leb, lt-leb}
 use Rattle.model.specs.Edits.{withBit, withoutBit}
+use Rattle.laws.specs.Bits.{set-within}
 use Rattle.laws.specs.MaskCount.{maskFrom, CountUpTo, count-start, count-next, count-end}
 use Prim.Native.Nat.{ℕ, _*_, _-_}
 use mathlib.Core.Path.{_≡_, ap, ap₂, sym, _∙_}
+use Rattle.laws.specs.Bits.{set-within}
 use Rattle.laws.specs.MaskCount.{maskFrom, CountUpTo, count-start, count-next, count-end}
 use Rattle.layout.proofs.counter.count_crossings.Statement.{statement}
 use Rattle.layout.proofs.counter.count_crossings.Tie as tie
@@ -61,9 +62,7 @@ loop-again c =
     let v = c .before .before .before .vertex-at in
     count-next (at-loop .loop .inv) (c .before .before .before .before .loop-test .taken)
     (c .before .before .clear .ensures ∙ ap (withoutBit (at-loop .loop .«from»)) (v .ensures .0))
-    (c .set .ensures
-    ∙ ap (λ (t : Bool). cond t (withBit (at-loop .loop .before) (v .result)) (at-loop .loop .before)) (lt-ltb (v .result) 64 (v .ensures .1))
-    ∙ ap (withBit (at-loop .loop .before)) (v .ensures .0))
+    (set-within _ _ (v .ensures .1) (c .set .ensures) ∙ ap (withBit (at-loop .loop .before)) (v .ensures .0))
     (c .before .count-row .ensures .0)
     (c .before .count-row .ensures .1)
 

@@ -1,11 +1,8 @@
 use borrow.Author.Needs.{needs}
 use Prim.Native.Nat.{ℕ, _-_, _<_}
 use native.Mathlib.Omega.{arith}
-use mathlib.Core.Path.{_≡_, refl, sym, ap, _∙_}
-use mathlib.Core.Bool.{Bool, cond}
-use lib.ListN.{getD}
-use borrow.Author.Tests.{lt-ltb}
-use Rattle.model.specs.Edits.{withBit}
+use mathlib.Core.Path.{_≡_, refl, sym, _∙_}
+use Rattle.laws.specs.Bits.{set-within}
 use Rattle.laws.specs.Validity.{SeenUpTo, seen-none, seen-next, seen-all, seen-again, not-a-vertex}
 use Rattle.layout.proofs.validity.each_once.Statement.{statement}
 use Rattle.layout.proofs.validity.each_once.Tie as tie
@@ -45,15 +42,10 @@ add-p c = omega arith
 loop-less : tie.Need-loop-less Inv-loop μ-loop
 loop-less c = omega arith
 
--- the vertex at the place
-abbrev vertex : (c : tie.After-set Inv-loop μ-loop) → ℕ
-vertex c = getD (c .before .before .before .before .before .before .before .before .args .order .now) (c .before .before .before .before .before .before .loop .p) 0
-
 loop-again : tie.Need-loop-again Inv-loop μ-loop
 loop-again c =
     seen-next (c .before .before .before .before .before .before .before .before .args .n) (c .before .before .before .before .before .before .before .before .args .order .now) (c .before .before .before .before .before .before .loop .inv) (c .before .before .before .before .before .loop-test .taken) refl (c .before .before .before .if1 .left)
-    (c .set .ensures
-    ∙ ap (λ (t : Bool). cond t (withBit (c .before .before .before .before .before .before .loop .seen) (vertex c)) (c .before .before .before .before .before .before .loop .seen)) (lt-ltb (vertex c) 64 (omega arith)))
+    (set-within _ _ (omega arith) (c .set .ensures))
     (sym (c .before .before .is-set .ensures) ∙ c .before .if2 .left)
 
 returns-3 : tie.Need-returns-3 Inv-loop μ-loop

@@ -1,17 +1,9 @@
 use borrow.Author.Needs.{needs}
-use mathlib.Core.Path.{_≡_, sym, _∙_}
-use mathlib.Core.Bool.{Bool, true, false, not}
-use borrow.Author.Tests.{le-leb, lt-leb, not-true, not-false}
+use borrow.Author.Tests.{le-leb, lt-leb}
+use Rattle.laws.specs.Indicators.{passed, failed}
 use Rattle.model.specs.Layouts.{valid, vertexOrder}
 use Rattle.layout.proofs.validity.is_valid.Statement.{statement}
 use Rattle.layout.proofs.validity.is_valid.Tie as tie
-
--- a clause that a call found to hold, and one that it found not to
-passed : {r p : Bool} → r ≡ p → not r ≡ false → p ≡ true
-passed {r} {p} e f = sym e ∙ not-false r f
-
-failed : {r p : Bool} → r ≡ p → not r ≡ true → p ≡ false
-failed {r} {p} e t = sym e ∙ not-true r t
 
 returns : tie.Need-returns
 unfolding valid vertexOrder
@@ -25,10 +17,11 @@ each-once-requires c κs = search needs
 
 returns-2 : tie.Need-returns-2
 unfolding valid vertexOrder
-returns-2 c = 
-    rw
-    ( le-leb (c .before .before .before .before .before .before .args .l .n) 64 (c .before .before .before .if1 .left)
-    , failed (c .before .each-once .ensures) (c .if2 .taken) )
+returns-2 c =
+    rw (
+      le-leb (c .before .before .before .before .before .before .args .l .n) 64 (c .before .before .before .if1 .left),
+      failed (c .before .each-once .ensures) (c .if2 .taken),
+    )
 
 slice-aggregate-zero-bytes-from : tie.Need-slice-aggregate-zero-bytes-from
 slice-aggregate-zero-bytes-from c = search needs
@@ -38,11 +31,12 @@ zero-bytes-from-requires c κs = search needs
 
 returns-3 : tie.Need-returns-3
 unfolding valid vertexOrder
-returns-3 c = 
-    rw
-    ( le-leb (c .before .before .before .before .before .before .before .before .before .args .l .n) 64 (c .before .before .before .before .before .before .if1 .left)
-    , passed (c .before .before .before .before .each-once .ensures) (c .before .before .before .if2 .left)
-    , failed (c .before .zero-bytes-from .ensures) (c .if3 .taken) )
+returns-3 c =
+    rw (
+      le-leb (c .before .before .before .before .before .before .before .before .before .args .l .n) 64 (c .before .before .before .before .before .before .if1 .left),
+      passed (c .before .before .before .before .each-once .ensures) (c .before .before .before .if2 .left),
+      failed (c .before .zero-bytes-from .ensures) (c .if3 .taken),
+    )
 
 slice-aggregate-symmetric : tie.Need-slice-aggregate-symmetric
 slice-aggregate-symmetric c = search needs
@@ -52,12 +46,13 @@ symmetric-requires c κs = search needs
 
 returns-4 : tie.Need-returns-4
 unfolding valid vertexOrder
-returns-4 c = 
-    rw
-    ( le-leb (c .before .before .before .before .before .before .before .before .before .before .before .before .args .l .n) 64 (c .before .before .before .before .before .before .before .before .before .if1 .left)
-    , passed (c .before .before .before .before .before .before .before .each-once .ensures) (c .before .before .before .before .before .before .if2 .left)
-    , passed (c .before .before .before .before .zero-bytes-from .ensures) (c .before .before .before .if3 .left)
-    , failed (c .before .symmetric .ensures) (c .if4 .taken) )
+returns-4 c =
+    rw (
+      le-leb (c .before .before .before .before .before .before .before .before .before .before .before .before .args .l .n) 64 (c .before .before .before .before .before .before .before .before .before .if1 .left),
+      passed (c .before .before .before .before .before .before .before .each-once .ensures) (c .before .before .before .before .before .before .if2 .left),
+      passed (c .before .before .before .before .zero-bytes-from .ensures) (c .before .before .before .if3 .left),
+      failed (c .before .symmetric .ensures) (c .if4 .taken),
+    )
 
 slice-aggregate-loopless : tie.Need-slice-aggregate-loopless
 slice-aggregate-loopless c = search needs
@@ -67,13 +62,14 @@ loopless-requires c κs = search needs
 
 returns-5 : tie.Need-returns-5
 unfolding valid vertexOrder
-returns-5 c = 
-    rw
-    ( le-leb (c .before .before .before .before .before .before .before .before .before .before .before .before .before .before .before .args .l .n) 64 (c .before .before .before .before .before .before .before .before .before .before .before .before .if1 .left)
-    , passed (c .before .before .before .before .before .before .before .before .before .before .each-once .ensures) (c .before .before .before .before .before .before .before .before .before .if2 .left)
-    , passed (c .before .before .before .before .before .before .before .zero-bytes-from .ensures) (c .before .before .before .before .before .before .if3 .left)
-    , passed (c .before .before .before .before .symmetric .ensures) (c .before .before .before .if4 .left)
-    , failed (c .before .loopless .ensures) (c .if5 .taken) )
+returns-5 c =
+    rw (
+      le-leb (c .before .before .before .before .before .before .before .before .before .before .before .before .before .before .before .args .l .n) 64 (c .before .before .before .before .before .before .before .before .before .before .before .before .if1 .left),
+      passed (c .before .before .before .before .before .before .before .before .before .before .each-once .ensures) (c .before .before .before .before .before .before .before .before .before .if2 .left),
+      passed (c .before .before .before .before .before .before .before .zero-bytes-from .ensures) (c .before .before .before .before .before .before .if3 .left),
+      passed (c .before .before .before .before .symmetric .ensures) (c .before .before .before .if4 .left),
+      failed (c .before .loopless .ensures) (c .if5 .taken),
+    )
 
 slice-aggregate-bits-below : tie.Need-slice-aggregate-bits-below
 slice-aggregate-bits-below c = search needs
@@ -83,14 +79,15 @@ bits-below-requires c κs = search needs
 
 returns-6 : tie.Need-returns-6
 unfolding valid vertexOrder
-returns-6 c = 
-    rw
-    ( le-leb (c .before .before .before .before .before .before .before .before .before .before .before .before .before .before .before .before .before .before .args .l .n) 64 (c .before .before .before .before .before .before .before .before .before .before .before .before .before .before .before .if1 .left)
-    , passed (c .before .before .before .before .before .before .before .before .before .before .before .before .before .each-once .ensures) (c .before .before .before .before .before .before .before .before .before .before .before .before .if2 .left)
-    , passed (c .before .before .before .before .before .before .before .before .before .before .zero-bytes-from .ensures) (c .before .before .before .before .before .before .before .before .before .if3 .left)
-    , passed (c .before .before .before .before .before .before .before .symmetric .ensures) (c .before .before .before .before .before .before .if4 .left)
-    , passed (c .before .before .before .before .loopless .ensures) (c .before .before .before .if5 .left)
-    , failed (c .before .bits-below .ensures) (c .if6 .taken) )
+returns-6 c =
+    rw (
+      le-leb (c .before .before .before .before .before .before .before .before .before .before .before .before .before .before .before .before .before .before .args .l .n) 64 (c .before .before .before .before .before .before .before .before .before .before .before .before .before .before .before .if1 .left),
+      passed (c .before .before .before .before .before .before .before .before .before .before .before .before .before .each-once .ensures) (c .before .before .before .before .before .before .before .before .before .before .before .before .if2 .left),
+      passed (c .before .before .before .before .before .before .before .before .before .before .zero-bytes-from .ensures) (c .before .before .before .before .before .before .before .before .before .if3 .left),
+      passed (c .before .before .before .before .before .before .before .symmetric .ensures) (c .before .before .before .before .before .before .if4 .left),
+      passed (c .before .before .before .before .loopless .ensures) (c .before .before .before .if5 .left),
+      failed (c .before .bits-below .ensures) (c .if6 .taken),
+    )
 
 slice-aggregate-zero-words-from : tie.Need-slice-aggregate-zero-words-from
 slice-aggregate-zero-words-from c = search needs
@@ -100,14 +97,15 @@ zero-words-from-requires c κs = search needs
 
 returns-7 : tie.Need-returns-7
 unfolding valid vertexOrder
-returns-7 c = 
-    rw
-    ( le-leb (c .before .before .before .before .before .before .before .before .before .before .before .before .before .before .before .before .before .before .before .before .args .l .n) 64 (c .before .before .before .before .before .before .before .before .before .before .before .before .before .before .before .before .before .if1 .left)
-    , passed (c .before .before .before .before .before .before .before .before .before .before .before .before .before .before .before .each-once .ensures) (c .before .before .before .before .before .before .before .before .before .before .before .before .before .before .if2 .left)
-    , passed (c .before .before .before .before .before .before .before .before .before .before .before .before .zero-bytes-from .ensures) (c .before .before .before .before .before .before .before .before .before .before .before .if3 .left)
-    , passed (c .before .before .before .before .before .before .before .before .before .symmetric .ensures) (c .before .before .before .before .before .before .before .before .if4 .left)
-    , passed (c .before .before .before .before .before .before .loopless .ensures) (c .before .before .before .before .before .if5 .left)
-    , passed (c .before .before .before .bits-below .ensures) (c .before .before .if6 .left) )
+returns-7 c =
+    rw (
+      le-leb (c .before .before .before .before .before .before .before .before .before .before .before .before .before .before .before .before .before .before .before .before .args .l .n) 64 (c .before .before .before .before .before .before .before .before .before .before .before .before .before .before .before .before .before .if1 .left),
+      passed (c .before .before .before .before .before .before .before .before .before .before .before .before .before .before .before .each-once .ensures) (c .before .before .before .before .before .before .before .before .before .before .before .before .before .before .if2 .left),
+      passed (c .before .before .before .before .before .before .before .before .before .before .before .before .zero-bytes-from .ensures) (c .before .before .before .before .before .before .before .before .before .before .before .if3 .left),
+      passed (c .before .before .before .before .before .before .before .before .before .symmetric .ensures) (c .before .before .before .before .before .before .before .before .if4 .left),
+      passed (c .before .before .before .before .before .before .loopless .ensures) (c .before .before .before .before .before .if5 .left),
+      passed (c .before .before .before .bits-below .ensures) (c .before .before .if6 .left),
+    )
     (c .zero-words-from .ensures)
 
 pub is-valid-spec : {M : Type 1} → statement M

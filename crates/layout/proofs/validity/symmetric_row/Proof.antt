@@ -43,7 +43,7 @@ is-set-requires-2 c κs = search needs
 
 returns : tie.Need-returns Inv-loop μ-loop
 unfolding symmetricRow linked
-returns c = 
+returns c =
     failed-at (passes (c .before .before .before .before .before .before .before .before .args .adjacency .now) (c .before .before .before .before .before .before .before .before .args .u)) (c .before .before .before .before .before .loop-test .taken)
     (ap₂ Bool·beq (c .before .before .before .is-set .ensures) (c .before .is-set2 .ensures))
     (not-true (Bool·beq (c .before .before .before .is-set .result) (c .before .is-set2 .result)) (c .if1 .taken))

@@ -22,7 +22,7 @@ shared-slice-read-if1 : tie.Need-shared-slice-read-if1 Inv-loop μ-loop
 shared-slice-read-if1 c = omega arith
 
 returns : tie.Need-returns Inv-loop μ-loop
-returns c = 
+returns c =
     sym (zero-from-fails (c .before .before .before .before .args .n) (c .before .before .before .before .args .xs .now) (c .before .before .before .loop .i)
     (omega arith) (omega arith) (c .if1 .taken))
 
@@ -33,13 +33,14 @@ loop-less : tie.Need-loop-less Inv-loop μ-loop
 loop-less c = omega arith
 
 loop-again : tie.Need-loop-again Inv-loop μ-loop
-loop-again c = 
-    ( omega arith
-    , below-more (λ (k : ℕ). c .before .before .before .before .args .n ≤ k → getD (c .before .before .before .before .args .xs .now) k 0 ≡ 0)
-      (c .before .before .before .loop .i) (c .before .before .before .loop .inv .1) (λ m. c .if1 .left) )
+loop-again c = (
+  omega arith,
+  below-more (λ (k : ℕ). c .before .before .before .before .args .n ≤ k → getD (c .before .before .before .before .args .xs .now) k 0 ≡ 0)
+      (c .before .before .before .loop .i) (c .before .before .before .loop .inv .1) (λ m. c .if1 .left),
+)
 
 returns-2 : tie.Need-returns-2 Inv-loop μ-loop
-returns-2 c = 
+returns-2 c =
     sym (T-true (zeroFrom (c .before .before .args .n) (c .before .before .args .xs .now))
     (zero-from (c .before .before .args .n) (c .before .before .args .xs .now) (λ i m l. c .before .loop .inv .1 i (omega arith) m)))
 
