@@ -15,3 +15,5 @@ pub mod MaskCount
 pub mod Recount
 pub mod Refusals
 pub mod EdgeEdits
+pub mod Copying
+pub mod VertexEdits

@@ -1,5 +1,5 @@
 -- What a valid layout has: an order that holds each vertex once, and symmetric edges. So its crossings are the sum over places, and bounded.
-use Prim.Native.Nat.{ℕ, zero, suc, _+_, _*_, _≤_, _<_}
+use Prim.Native.Nat.{ℕ, zero, suc, _+_, _*_, _^_, _≤_, _<_}
 use native.Mathlib.Nat.{le-antisymm, le-trans, le-of-eq, min-le-left, mul-one, not-suc-le-zero, le-of-suc-le-suc}
 use native.Mathlib.Omega.{arith}
 use native.Mathlib.Decide.{ℕ-discrete}
@@ -10,7 +10,7 @@ use mathlib.Core.List.{List, [], _∷_, _++_}
 use lib.ListN.{length, getD, take, length-take}
 use lib.Seq.{getD-take}
 use borrow.Author.Tests.{le-leb, lt-leb, eq-eqb, ne-eqb, eqb-true}
-use lib.Dec.{T, eqb, leb, ltb, leb→le, eqb→eq}
+use lib.Dec.{T, eqb, leb, ltb, leb→le, ltb→lt, eqb→eq}
 use Rattle.model.specs.declared.Layout.{Layout}
 use Rattle.model.specs.Lists.{one, upto, every, occurrences}
 use Rattle.model.specs.Crossings.{bit, linked, crossings}
@@ -130,9 +130,11 @@ pub record Sound (l : Layout) : Type 0 where
   pub small : l .n ≤ capacity
   pub permutation : Permutation (l .n) (vertexOrder l)
   pub symmetry : Symmetric (l .n) (weight (l .adjacency))
+  pub bits : (v : ℕ) → v < capacity → getD (l .adjacency) v 0 < 2 ^ l .n
+  pub unused : (v : ℕ) → l .n ≤ v → v < capacity → getD (l .adjacency) v 0 ≡ 0
 
 pub sound : (l : Layout) → T (valid l) → Sound l
-unfolding valid vertexOrder
+unfolding valid vertexOrder bitsBelow
 sound l t =
     record {
       small = leb→le (l .n) capacity (search (and-left, and-right) depth 7);
@@ -140,7 +142,10 @@ sound l t =
           each-once (l .n) (take (l .n) (l .order))
           (le-trans (le-of-eq (length-take (l .n) (l .order))) (min-le-left (l .n) (length (l .order))))
           (search (and-left, and-right) depth 7);
-      symmetry = symmetric-weight (l .n) (l .adjacency) (search (and-left, and-right) depth 7) (search (and-left, and-right) depth 7);
+      symmetry =
+          symmetric-weight (l .n) (l .adjacency) (search (and-left, and-right) depth 7) (search (and-left, and-right) depth 7);
+      bits = λ v b. ltb→lt (getD (l .adjacency) v 0) (2 ^ l .n) (every-upto (λ v. ltb (getD (l .adjacency) v 0) (2 ^ l .n)) capacity (search (and-left, and-right) depth 7) v b);
+      unused = zero-from-at (l .n) (l .adjacency) (search (and-left, and-right) depth 7);
     }
 
 -- ---- the crossings of a valid layout

@@ -1,13 +1,19 @@
 // Circular layouts: validity, the crossing count, the calls that edit a layout and those that only
 // read it. One file for each subject.
+
 mod checks;
 mod counter;
 mod edges;
+mod reading;
 mod recount;
 mod validity;
+mod vertices;
 
 pub use counter::count_crossings;
 pub use edges::add_edge;
 pub use edges::remove_edge;
+pub use reading::count;
+pub use reading::order;
 pub use recount::recounted;
 pub use validity::is_valid;
+pub use vertices::add_vertex;
