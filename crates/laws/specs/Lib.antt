@@ -11,3 +11,4 @@ pub mod Bound
 pub mod Validity
 pub mod Bits
 pub mod MaskCount
+pub mod Moving
