@@ -7,17 +7,19 @@ use mathlib.Core.Bool.{Bool, true, false, not, cond, _&&_}
 use mathlib.Core.List.{List, [], _∷_, _++_}
 use lib.ListN.{length, getD, take, drop, length-append, length-drop, take-append-drop, List·getD-append}
 use lib.Seq.{split-at, length-take-le, getD-take, getD-drop, getD-at, getD-append-add, take-at, ext-getD}
-use lib.Dec.{T, eqb, leb, ltb, leb→le}
+use lib.Dec.{T, T-not, not-T, eqb, leb, ltb, leb→le, ltb→lt, lt→ltb, eqb→eq}
 use borrow.Author.Tests.{eq-eqb, ne-eqb, eqb-true, eqb-false, lt-ltb, le-ltb, le-leb, lt-leb}
 use Rattle.model.specs.declared.Layout.{Layout}
+use Rattle.model.specs.declared.Changed.{Changed}
 use Rattle.model.specs.Lists.{one, upto, every, keep, sumOver, occurrences, place}
 use Rattle.model.specs.Crossings.{crossings}
-use Rattle.model.specs.Layouts.{capacity, vertexOrder, crossingsOf, eachOnce, zeroFrom, valid, changed, reordered}
-use Rattle.model.specs.Edits.{insertAfter, movedAfter}
+use Rattle.model.specs.Layouts.{capacity, vertexOrder, crossingsOf, eachOnce, zeroFrom, valid, modulus, carried, changed, reordered}
+use Rattle.model.specs.Checks.{Check, refusal, byRefusal, checked, isValid, isVertex, differ}
+use Rattle.model.specs.Edits.{changedOr, insertAfter, movedAfter, moveChecks, moveOf}
 use Rattle.laws.specs.Indicators.{Order, less, same, more, order, one-eq, one-ne, T-true}
 use Rattle.laws.specs.ListSums.{All, none, also, all-mono, all-upto, sumOver-append}
 use Rattle.laws.specs.Permutations.{at, Permutation, at-lt, place-lt, place-at, at-of-place, place-below, place-of-at}
-use Rattle.laws.specs.Validity.{Sound, sound}
+use Rattle.laws.specs.Validity.{Sound, sound, crossings-bound}
 
 -- a list without the vertex a
 abbrev pub without : ℕ → List ℕ → List ℕ
@@ -97,7 +99,7 @@ inserted-place b a (x ∷ xs) h = by-test (eqb b x) h (inserted-place b a xs)
     by-test false k r = ap (λ (ys : List ℕ). x ∷ ys) (r (omega arith))
 
 -- how often v occurs in lists put together
-occurrences-append : (v : ℕ) (xs ys : List ℕ) → occurrences v (xs ++ ys) ≡ occurrences v xs + occurrences v ys
+pub occurrences-append : (v : ℕ) (xs ys : List ℕ) → occurrences v (xs ++ ys) ≡ occurrences v xs + occurrences v ys
 unfolding occurrences
 occurrences-append v xs ys = sumOver-append (λ x. one (eqb v x)) xs ys
 
@@ -258,84 +260,86 @@ module _ (p q a : ℕ) (o : List ℕ) (there : at o p ≡ a) where
 place-unique : (xs : List ℕ) (v i : ℕ) → i < length xs → at xs i ≡ v → occurrences v xs ≡ 1 → place xs v ≡ i
 place-unique xs v i h e k = ap (place xs) (sym e) ∙ place-at xs i h (ap (λ (x : ℕ). occurrences x xs) e ∙ k)
 
-module _ {n : ℕ} {o : List ℕ} (perm : Permutation n o) (a b : ℕ) (ha : a < n) (hb : b < n) (d : a ≡ b → ⊥) where
-  -- the list without a, by places
+module _ {n : ℕ} {o : List ℕ} (perm : Permutation n o) (a : ℕ) (ha : a < n) where
+  -- the list without a
   taken : without a o ≡ takenOut (place o a) o
   taken = without-place a o (perm .once a ha)
 
   place-a : place o a < length o
   place-a = place-lt o a (omega (arith, perm .once a ha))
 
+  -- its length, and how often each vertex occurs in it
   rest-length : suc (length (takenOut (place o a) o)) ≡ n
   rest-length = length-takenOut (place o a) o place-a ∙ perm .size
 
-  rest-occurrences : (v : ℕ) → occurrences v o ≡ one (eqb v a) + occurrences v (takenOut (place o a) o)
+  pub rest-occurrences : (v : ℕ) → occurrences v o ≡ one (eqb v a) + occurrences v (takenOut (place o a) o)
   rest-occurrences v =
       occurrences-takenOut v (place o a) o place-a
       ∙ ap (λ (x : ℕ). one (eqb v x) + occurrences v (takenOut (place o a) o)) (at-of-place perm a ha)
 
-  rest-once : occurrences b (takenOut (place o a) o) ≡ 1
-  rest-once = omega (arith, rest-occurrences b, one-ne b a (λ e. d (sym e)), perm .once b hb)
+  module _ (b : ℕ) (hb : b < n) (d : a ≡ b → ⊥) where
+    rest-once : occurrences b (takenOut (place o a) o) ≡ 1
+    rest-once = omega (arith, rest-occurrences b, one-ne b a (λ e. d (sym e)), perm .once b hb)
 
-  moved-put : movedAfter a b o ≡ putIn (suc (place (takenOut (place o a) o) b)) a (takenOut (place o a) o)
-  unfolding movedAfter
-  moved-put = ap (insertAfter b a) taken ∙ inserted-place b a (takenOut (place o a) o) (omega (arith, rest-once))
+    moved-put : movedAfter a b o ≡ putIn (suc (place (takenOut (place o a) o) b)) a (takenOut (place o a) o)
+    unfolding movedAfter
+    moved-put = ap (insertAfter b a) taken ∙ inserted-place b a (takenOut (place o a) o) (omega (arith, rest-once))
 
-  behind-b : place (takenOut (place o a) o) b < length (takenOut (place o a) o)
-  behind-b = place-lt (takenOut (place o a) o) b (omega (arith, rest-once))
+    behind-b : place (takenOut (place o a) o) b < length (takenOut (place o a) o)
+    behind-b = place-lt (takenOut (place o a) o) b (omega (arith, rest-once))
 
-  -- each vertex is still held once
-  pub moved-permutation : Permutation n (movedAfter a b o)
-  moved-permutation =
-      record {
-        size =
-            ap length moved-put
-            ∙ length-putIn (suc (place (takenOut (place o a) o) b)) a (takenOut (place o a) o) behind-b
-            ∙ rest-length;
-        once = λ v h.
-            ap (occurrences v) moved-put
-            ∙ occurrences-putIn v (suc (place (takenOut (place o a) o) b)) a (takenOut (place o a) o)
-            ∙ sym (rest-occurrences v)
-            ∙ perm .once v h;
-      }
+    -- each vertex is still held once
+    pub moved-permutation : Permutation n (movedAfter a b o)
+    moved-permutation =
+        record {
+          size =
+              ap length moved-put
+              ∙ length-putIn (suc (place (takenOut (place o a) o) b)) a (takenOut (place o a) o) behind-b
+              ∙ rest-length;
+          once = λ v h.
+              ap (occurrences v) moved-put
+              ∙ occurrences-putIn v (suc (place (takenOut (place o a) o) b)) a (takenOut (place o a) o)
+              ∙ sym (rest-occurrences v)
+              ∙ perm .once v h;
+        }
 
-  -- where b stands once a is taken out
-  place-back : place o b < place o a → place (takenOut (place o a) o) b ≡ place o b
-  place-back l =
-      place-unique (takenOut (place o a) o) b (place o b) (omega (arith, rest-length, perm .size, place-a))
-      (takenOut-before (place o a) o (omega (arith, place-a)) (place o b) l ∙ at-of-place perm b hb) rest-once
+    -- where b stands once a is taken out
+    place-back : place o b < place o a → place (takenOut (place o a) o) b ≡ place o b
+    place-back l =
+        place-unique (takenOut (place o a) o) b (place o b) (omega (arith, rest-length, perm .size, place-a))
+        (takenOut-before (place o a) o (omega (arith, place-a)) (place o b) l ∙ at-of-place perm b hb) rest-once
 
-  place-on : place o a < place o b → suc (place (takenOut (place o a) o) b) ≡ place o b
-  place-on l =
-      ap suc (place-unique (takenOut (place o a) o) b (place o b - 1) (omega (arith, rest-length, place-below perm b hb))
-      (takenOut-after (place o a) o (omega (arith, place-a)) (place o b - 1) (omega arith)
-      ∙ ap (at o) (omega arith) ∙ at-of-place perm b hb) rest-once)
-      ∙ omega arith
+    place-on : place o a < place o b → suc (place (takenOut (place o a) o) b) ≡ place o b
+    place-on l =
+        ap suc (place-unique (takenOut (place o a) o) b (place o b - 1) (omega (arith, rest-length, place-below perm b hb))
+        (takenOut-after (place o a) o (omega (arith, place-a)) (place o b - 1) (omega arith)
+        ∙ ap (at o) (omega arith) ∙ at-of-place perm b hb) rest-once)
+        ∙ omega arith
 
-  -- where the entry at each place comes from
-  pub moved-entry : (i : ℕ) → at (movedAfter a b o) i ≡ at o (movedFrom (place o a) (place o b) i)
-  moved-entry i =
-      ap (λ (xs : List ℕ). at xs i) moved-put
-      ∙ elim (order (place o a) (place o b)) [
-        | less l ↦
-            ap (λ (r : ℕ). at (putIn r a (takenOut (place o a) o)) i) (place-on l)
-            ∙ entry-on (place o a) (place o b) a o (at-of-place perm a ha) l (omega (arith, perm .size, place-below perm b hb)) i
-        | same e ↦ absurd (d (sym (at-of-place perm a ha) ∙ ap (at o) e ∙ at-of-place perm b hb))
-        | more l ↦
-            ap (λ (r : ℕ). at (putIn (suc r) a (takenOut (place o a) o)) i) (place-back l)
-            ∙ entry-back (place o a) (place o b) a o (at-of-place perm a ha) l place-a i
-      ]
+    -- where the entry at each place comes from
+    pub moved-entry : (i : ℕ) → at (movedAfter a b o) i ≡ at o (movedFrom (place o a) (place o b) i)
+    moved-entry i =
+        ap (λ (xs : List ℕ). at xs i) moved-put
+        ∙ elim (order (place o a) (place o b)) [
+          | less l ↦
+              ap (λ (r : ℕ). at (putIn r a (takenOut (place o a) o)) i) (place-on l)
+              ∙ entry-on (place o a) (place o b) a o (at-of-place perm a ha) l (omega (arith, perm .size, place-below perm b hb)) i
+          | same e ↦ absurd (d (sym (at-of-place perm a ha) ∙ ap (at o) e ∙ at-of-place perm b hb))
+          | more l ↦
+              ap (λ (r : ℕ). at (putIn (suc r) a (takenOut (place o a) o)) i) (place-back l)
+              ∙ entry-back (place o a) (place o b) a o (at-of-place perm a ha) l place-a i
+        ]
 
-  -- a list with these entries is the moved list
-  pub moved-is : (xs : List ℕ) → length xs ≡ n → ((i : ℕ) → i < n → at xs i ≡ at o (movedFrom (place o a) (place o b) i)) → xs ≡ movedAfter a b o
-  moved-is xs e h =
-      ext-getD 0 xs (movedAfter a b o) (e ∙ sym (moved-permutation .size)) (λ i l. h i (omega arith) ∙ sym (moved-entry i))
+    -- a list with these entries is the moved list
+    pub moved-is : (xs : List ℕ) → length xs ≡ n → ((i : ℕ) → i < n → at xs i ≡ at o (movedFrom (place o a) (place o b) i)) → xs ≡ movedAfter a b o
+    moved-is xs e h =
+        ext-getD 0 xs (movedAfter a b o) (e ∙ sym (moved-permutation .size)) (λ i l. h i (omega arith) ∙ sym (moved-entry i))
 
 -- the same for the vertices at two places
 pub moved-places : {n : ℕ} {o : List ℕ} → Permutation n o → (p q : ℕ) → p < n → q < n → (p ≡ q → ⊥)
     → (i : ℕ) → at (movedAfter (at o p) (at o q) o) i ≡ at o (movedFrom p q i)
 moved-places {n} {o} perm p q hp hq d i =
-    moved-entry perm (at o p) (at o q) (at-lt perm p hp) (at-lt perm q hq)
+    moved-entry perm (at o p) (at-lt perm p hp) (at o q) (at-lt perm q hq)
     (λ e. d (sym (place-of-at perm p hp) ∙ ap (place o) e ∙ place-of-at perm q hq)) i
     ∙ ap₂ (λ (x y : ℕ). at o (movedFrom x y i)) (place-of-at perm p hp) (place-of-at perm q hq)
 
@@ -417,3 +421,112 @@ module _ (l : Layout) (o : List ℕ) where
           ∙ at-right o (drop (l .n) (l .order)) (l .n) (i - l .n) (perm .size)
           ∙ getD-drop (l .n) (l .order) (i - l .n) 0
           ∙ ap (at (l .order)) (add-sub-of-le h))
+
+-- ---- the carried count
+
+-- a right count stays right
+carried-right : (before after : ℕ) → before < modulus → after < modulus → carried before before after ≡ after
+unfolding carried
+carried-right before after h l = omega arith
+
+-- two changes, one after the other, are one
+pub carried-carried : (count before between after : ℕ) → carried (carried count before between) between after ≡ carried count before after
+unfolding carried
+carried-carried count before between after = omega arith
+
+pub carried-lt : (count before after : ℕ) → carried count before after < modulus
+unfolding carried
+carried-lt count before after = omega arith
+
+pub carried-same : (count before : ℕ) → count < modulus → carried count before before ≡ count
+unfolding carried
+carried-same count before h = omega arith
+
+-- the count of a layout is its crossings
+abbrev pub CountRight : Layout → Type 0
+CountRight l = l .count ≡ crossingsOf l
+
+-- where that holds of a valid layout, it holds of the valid layout that a call makes of it
+pub changed-count : (l : Layout) (n : ℕ) (places adj : List ℕ) → T (valid l) → T (valid (changed l n places adj))
+    → CountRight l → CountRight (changed l n places adj)
+unfolding changed crossingsOf vertexOrder
+changed-count l n places adj t u e =
+    ap (λ (c : ℕ). carried c (crossingsOf l) (crossings n (take n places) adj)) e
+    ∙ carried-right (crossingsOf l) (crossings n (take n places) adj) (small l t) (small (changed l n places adj) u)
+  where
+    small : (m : Layout) → T (valid m) → crossingsOf m < modulus
+    small m v = omega (arith, crossings-bound m v)
+
+-- ---- the checks of a call
+
+-- an accepted call passed each check
+pub check-passed : (c : Check) (cs : List Check) → (c .code ≡ 0 → ⊥) → refusal (c ∷ cs) ≡ 0 → T (c .passes) × (refusal cs ≡ 0)
+unfolding refusal
+check-passed c cs d e = by-test (c .passes) e
+  where
+    by-test : (b : Bool) → cond b (refusal cs) (c .code) ≡ 0 → T b × (refusal cs ≡ 0)
+    by-test true k = (tt, k)
+    by-test false k = absurd (d k)
+
+-- and a call that passes each is accepted
+pub all-passed : {cs : List Check} → All (λ c. T (c .passes)) cs → refusal cs ≡ 0
+unfolding refusal
+all-passed none = refl
+all-passed (also {x = c} {xs = cs} t ts) = ap (λ (b : Bool). cond b (refusal cs) (c .code)) (T-true (c .passes) t) ∙ all-passed ts
+
+module _ {A : Type 0} (cs : List Check) (accepted : A) (refused : ℕ → A) where
+  pub checked-accepted : refusal cs ≡ 0 → checked cs accepted refused ≡ accepted
+  unfolding checked byRefusal
+  checked-accepted e = ap (λ (r : ℕ). byRefusal r accepted refused) e
+
+  -- the number that comes back is that of the checks
+  pub checked-number : (number : A → ℕ) → number accepted ≡ 0 → ((r : ℕ) → number (refused r) ≡ r)
+      → number (checked cs accepted refused) ≡ refusal cs
+  unfolding checked byRefusal
+  checked-number number z s = by-number (refusal cs)
+    where
+      by-number : (r : ℕ) → number (byRefusal r accepted refused) ≡ r
+      by-number zero = z
+      by-number (suc r) = s (suc r)
+
+-- ---- the call move
+
+module _ (l : Layout) (a b : ℕ) where
+  move-number : moveOf l a b .refusal ≡ refusal (moveChecks l a b)
+  unfolding moveOf changedOr
+  move-number =
+      checked-number (moveChecks l a b)
+      (record { refusal = 0; layout = reordered l (movedAfter a b (vertexOrder l)) }) (λ r. record { refusal = r; layout = l })
+      (λ (c : Changed). c .refusal) refl (λ r. refl)
+
+  -- what an accepted move may count on
+  pub move-passed : moveOf l a b .refusal ≡ 0 → T (valid l) × (a < l .n) × (b < l .n) × (a ≡ b → ⊥)
+  unfolding moveChecks isValid isVertex differ
+  move-passed e =
+      let first = check-passed (isValid l) (isVertex l a ∷ isVertex l b ∷ differ a b ∷ []) (λ k. omega arith) (sym move-number ∙ e) in
+      let second = check-passed (isVertex l a) (isVertex l b ∷ differ a b ∷ []) (λ k. omega arith) (first .1) in
+      let third = check-passed (isVertex l b) (differ a b ∷ []) (λ k. omega arith) (second .1) in
+      let last = check-passed (differ a b) [] (λ k. omega arith) (third .1) in
+      (first .0, ltb→lt a (l .n) (second .0), ltb→lt b (l .n) (third .0), λ k. T-not (eqb a b) (last .0) (subst T (sym (eq-eqb a b k)) tt))
+
+  -- and a move that may count on it is accepted
+  pub move-accepted : T (valid l) → a < l .n → b < l .n → (a ≡ b → ⊥)
+      → moveOf l a b ≡ record { refusal = 0; layout = reordered l (movedAfter a b (vertexOrder l)) }
+  unfolding moveOf changedOr moveChecks isValid isVertex differ
+  move-accepted t h k d =
+      checked-accepted (moveChecks l a b)
+      (record { refusal = 0; layout = reordered l (movedAfter a b (vertexOrder l)) }) (λ r. record { refusal = r; layout = l })
+      (all-passed (also t (also (lt→ltb a (l .n) h) (also (lt→ltb b (l .n) k) (also (not-T (eqb a b) (λ e. d (eqb→eq a b e))) none)))))
+
+-- the layout that an accepted move gives
+module _ (l : Layout) (t : T (valid l)) (a : ℕ) (h : a < l .n) (b : ℕ) (k : b < l .n) (d : a ≡ b → ⊥) where
+  pub move-layout : moveOf l a b .layout ≡ reordered l (movedAfter a b (vertexOrder l))
+  move-layout = ap (λ (c : Changed). c .layout) (move-accepted l a b t h k d)
+
+  pub move-valid : T (valid (reordered l (movedAfter a b (vertexOrder l))))
+  move-valid = reordered-valid l (movedAfter a b (vertexOrder l)) t (moved-permutation (sound l t .permutation) a h b k d)
+
+  pub move-crossings : crossingsOf (moveOf l a b .layout) ≡ crossings (l .n) (movedAfter a b (vertexOrder l)) (l .adjacency)
+  move-crossings =
+      ap crossingsOf move-layout
+      ∙ reordered-crossings l (movedAfter a b (vertexOrder l)) (moved-permutation (sound l t .permutation) a h b k d .size)
