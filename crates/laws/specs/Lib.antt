@@ -12,3 +12,4 @@ pub mod Validity
 pub mod Bits
 pub mod MaskCount
 pub mod Moving
+pub mod Sifting

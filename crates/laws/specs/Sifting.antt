@@ -1,0 +1,200 @@
+-- Sifting one vertex: the place found is the best, and no sift raises the crossings.
+use Prim.Native.Nat.{ℕ, zero, suc, _+_, _-_, _≤_, _<_, min}
+use native.Mathlib.Nat.{le-refl, le-trans, le-of-eq, le-antisymm, min-le-left, min-le-right, not-suc-le-zero}
+use native.Mathlib.Omega.{arith}
+use mathlib.Core.Path.{_≡_, refl, sym, ap, ap₂, _∙_, subst}
+use mathlib.Core.Bool.{Bool, true, false, not, cond, _||_}
+use mathlib.Core.List.{List, [], _∷_, _++_, map}
+use lib.ListN.{length, getD, take, drop}
+use lib.Dec.{T, eqb, ltb, eqb→eq}
+use borrow.Author.Tests.{eq-eqb, ne-eqb, eqb-true, lt-ltb, ltb-true, ltb-false}
+use Rattle.model.specs.Lists.{one, any, firstWith, sumOver, occurrences, place}
+use Rattle.model.specs.Crossings.{crossings}
+use Rattle.model.specs.Edits.{movedAfter}
+use Rattle.model.specs.Sifting.{clockwiseFrom, candidates, least, leastCrossings, improves, siftedOrder}
+use Rattle.laws.specs.Indicators.{Order, less, same, more, order, one-eq, one-ne}
+use Rattle.laws.specs.ListSums.{All, none, also, all-map, all-places}
+use Rattle.laws.specs.Permutations.{at, Permutation, occurs-at, none-beyond}
+use Rattle.laws.specs.Moving.{occurrences-append, rest-occurrences, moved-permutation, moved-again}
+
+-- ---- the least of a list, and the first entry with a test
+
+-- a property of whatever occurs is one of each entry
+all-occurring : {P : ℕ → Type 0} (xs : List ℕ) → ((v : ℕ) → 0 < occurrences v xs → P v) → All P xs
+all-occurring xs h = all-places xs (λ i l. h (at xs i) (occurs-at xs i l))
+
+or-right : (a b : Bool) → T b → T (a || b)
+or-right true b t = tt
+or-right false b t = t
+
+module _ (f : List ℕ → ℕ) (d : ℕ) where
+  pub least-default : (xs : List (List ℕ)) → least f d xs ≤ d
+  unfolding least
+  least-default [] = le-refl d
+  least-default (x ∷ xs) = le-trans (min-le-right (f x) (least f d xs)) (least-default xs)
+
+  pub least-each : (g : ℕ → List ℕ) (vs : List ℕ) (v : ℕ) → 0 < occurrences v vs → least f d (map g vs) ≤ f (g v)
+  unfolding least occurrences sumOver one
+  least-each g [] v h = absurd (not-suc-le-zero h)
+  least-each g (x ∷ xs) v h = by-test (eqb v x) (eqb-true v x) h (least-each g xs v)
+    where
+      by-test : (b : Bool) → (b ≡ true → v ≡ x) → 0 < one b + occurrences v xs → (0 < occurrences v xs → least f d (map g xs) ≤ f (g v))
+          → min (f (g x)) (least f d (map g xs)) ≤ f (g v)
+      by-test true e k r = omega (arith, ap (λ (y : ℕ). f (g y)) (e refl))
+      by-test false e k r = omega (arith, r (omega arith))
+
+  -- a least below the default is that of an entry
+  least-some : (xs : List (List ℕ)) (m : ℕ) → least f d xs ≡ m → m < d → T (any (λ x. eqb (f x) m) xs)
+  unfolding least any
+  least-some [] m e h = absurd (omega arith)
+  least-some (x ∷ xs) m e h =
+      elim (order (f x) m) [
+        | less l ↦ absurd (omega arith)
+        | same k ↦ rw (eq-eqb (f x) m k) tt
+        | more l ↦ or-right (eqb (f x) m) (any (λ y. eqb (f y) m) xs) (least-some xs m (omega arith) h)
+      ]
+
+module _ {A : Type 0} where
+  -- the first entry with the test has it, and whatever holds of each entry
+  first-found : {P : A → Type 0} (p : A → Bool) (d : A) {xs : List A} → All P xs → T (any p xs) → P (firstWith p d xs) × T (p (firstWith p d xs))
+  unfolding any firstWith
+  first-found p d none t = absurd t
+  first-found {P} p d (also {x} {xs} q qs) t = by-test (p x) refl t (first-found p d qs)
+    where
+      by-test : (b : Bool) → p x ≡ b → T (b || any p xs) → (T (any p xs) → P (firstWith p d xs) × T (p (firstWith p d xs)))
+          → P (cond b x (firstWith p d xs)) × T (p (cond b x (firstWith p d xs)))
+      by-test true e u r = (q, subst T (sym e) tt)
+      by-test false e u r = r u
+
+-- ---- the candidates
+
+module _ {n : ℕ} {o : List ℕ} (perm : Permutation n o) (u : ℕ) (h : u < n) where
+  -- the vertices clockwise from u are the others, each once
+  clockwise-occurrences : (v : ℕ) → occurrences v o ≡ one (eqb v u) + occurrences v (clockwiseFrom u o)
+  unfolding clockwiseFrom
+  clockwise-occurrences v =
+      rest-occurrences perm u h v
+      ∙ rw (occurrences-append v (take (place o u) o) (drop (suc (place o u)) o), occurrences-append v (drop (suc (place o u)) o) (take (place o u) o))
+      (omega arith)
+
+  pub clockwise-not : occurrences u (clockwiseFrom u o) ≡ 0
+  clockwise-not = omega (arith, clockwise-occurrences u, perm .once u h, one-eq u u refl)
+
+  pub clockwise-once : (v : ℕ) → v < n → (u ≡ v → ⊥) → occurrences v (clockwiseFrom u o) ≡ 1
+  clockwise-once v l d = omega (arith, clockwise-occurrences v, perm .once v l, one-ne v u (λ e. d (sym e)))
+
+  pub clockwise-others : All (λ v. (v < n) × (u ≡ v → ⊥)) (clockwiseFrom u o)
+  clockwise-others = all-occurring (clockwiseFrom u o) (λ v k. (below v k, λ e. other v k e))
+    where
+      other : (v : ℕ) → 0 < occurrences v (clockwiseFrom u o) → u ≡ v → ⊥
+      other v k e = omega (arith, clockwise-not, ap (λ (x : ℕ). occurrences x (clockwiseFrom u o)) e)
+
+      beyond : (v : ℕ) → 0 < occurrences v (clockwiseFrom u o) → n ≤ v → ⊥
+      beyond v k l = omega (arith, none-beyond perm v l, clockwise-occurrences v)
+
+      below : (v : ℕ) → 0 < occurrences v (clockwiseFrom u o) → v < n
+      below v k = elim (order v n) [ less l ↦ l | same e ↦ absurd (beyond v k (omega arith)) | more l ↦ absurd (beyond v k (omega arith)) ]
+
+-- c is o with u moved behind another vertex
+pub record Candidate (n u : ℕ) (o c : List ℕ) : Type 0 where
+  pub behind : ℕ
+  pub below : behind < n
+  pub other : u ≡ behind → ⊥
+  pub moved : c ≡ movedAfter u behind o
+
+module _ {n : ℕ} {o : List ℕ} (perm : Permutation n o) (u : ℕ) (h : u < n) where
+  pub all-candidates : All (Candidate n u o) (candidates u o)
+  unfolding candidates
+  all-candidates =
+      all-map (Candidate n u o) (λ v. movedAfter u v o) (clockwise-others perm u h)
+      (λ v p. record { behind = v; below = p .0; other = p .1; moved = refl })
+
+  pub candidate-permutation : {c : List ℕ} → Candidate n u o c → Permutation n c
+  candidate-permutation {c} k = rw (k .moved) (moved-permutation perm u h (k .behind) (k .below) (k .other))
+
+-- ---- the order after a sift
+
+module _ {n : ℕ} {o : List ℕ} (perm : Permutation n o) (adj : List ℕ) (u : ℕ) (h : u < n) where
+  -- no place of u has fewer crossings than the least
+  pub least-place : (v : ℕ) → v < n → (u ≡ v → ⊥) → leastCrossings n adj u o ≤ crossings n (movedAfter u v o) adj
+  unfolding leastCrossings candidates
+  least-place v l d =
+      least-each (λ c. crossings n c adj) (crossings n o adj) (λ w. movedAfter u w o) (clockwiseFrom u o) v
+      (omega (arith, clockwise-once perm u h v l d))
+
+  pub least-present : leastCrossings n adj u o ≤ crossings n o adj
+  unfolding leastCrossings
+  least-present = least-default (λ c. crossings n c adj) (crossings n o adj) (candidates u o)
+
+  -- without an improvement the list stays as it was
+  pub sift-stays : improves n adj u o ≡ false → siftedOrder n adj u o ≡ o
+  unfolding siftedOrder
+  sift-stays e = rw e
+
+  stays-least : improves n adj u o ≡ false → crossings n o adj ≡ leastCrossings n adj u o
+  unfolding improves
+  stays-least e = le-antisymm (ltb-false (leastCrossings n adj u o) (crossings n o adj) e) least-present
+
+  -- with one, u is moved to a candidate with least crossings
+  goes-first : improves n adj u o ≡ true
+      → siftedOrder n adj u o ≡ firstWith (λ c. eqb (crossings n c adj) (leastCrossings n adj u o)) o (candidates u o)
+  unfolding siftedOrder
+  goes-first e = rw e
+
+  some-least : improves n adj u o ≡ true → T (any (λ c. eqb (crossings n c adj) (leastCrossings n adj u o)) (candidates u o))
+  unfolding improves leastCrossings
+  some-least e =
+      least-some (λ c. crossings n c adj) (crossings n o adj) (candidates u o) (leastCrossings n adj u o) refl
+      (ltb-true (leastCrossings n adj u o) (crossings n o adj) e)
+
+  found : improves n adj u o ≡ true
+      → Candidate n u o (siftedOrder n adj u o) × T (eqb (crossings n (siftedOrder n adj u o) adj) (leastCrossings n adj u o))
+  found e =
+      rw (goes-first e)
+      (first-found (λ c. eqb (crossings n c adj) (leastCrossings n adj u o)) o (all-candidates perm u h) (some-least e))
+
+  pub sift-goes : improves n adj u o ≡ true → Candidate n u o (siftedOrder n adj u o)
+  sift-goes e = found e .0
+
+  pub sift-permutation : Permutation n (siftedOrder n adj u o)
+  sift-permutation = by-test (improves n adj u o) refl
+    where
+      by-test : (b : Bool) → improves n adj u o ≡ b → Permutation n (siftedOrder n adj u o)
+      by-test true e = candidate-permutation perm u h (sift-goes e)
+      by-test false e = rw (sift-stays e) perm
+
+  -- its crossings are the least
+  pub sift-least : crossings n (siftedOrder n adj u o) adj ≡ leastCrossings n adj u o
+  sift-least = by-test (improves n adj u o) refl
+    where
+      by-test : (b : Bool) → improves n adj u o ≡ b → crossings n (siftedOrder n adj u o) adj ≡ leastCrossings n adj u o
+      by-test true e = eqb→eq (crossings n (siftedOrder n adj u o) adj) (leastCrossings n adj u o) (found e .1)
+      by-test false e = rw (sift-stays e) (stays-least e)
+
+  -- so a sift raises no crossings, and lowers them exactly where it improves
+  pub sift-le : crossings n (siftedOrder n adj u o) adj ≤ crossings n o adj
+  sift-le = rw sift-least least-present
+
+  pub sift-less : improves n adj u o ≡ true → crossings n (siftedOrder n adj u o) adj < crossings n o adj
+  unfolding improves
+  sift-less e = rw sift-least (ltb-true (leastCrossings n adj u o) (crossings n o adj) e)
+
+  pub less-improves : crossings n (siftedOrder n adj u o) adj < crossings n o adj → improves n adj u o ≡ true
+  unfolding improves
+  less-improves l = lt-ltb (leastCrossings n adj u o) (crossings n o adj) (rw sift-least at l)
+
+  -- the best place: nowhere behind another vertex has u fewer crossings
+  pub sift-best : (v : ℕ) → v < n → (u ≡ v → ⊥)
+      → crossings n (siftedOrder n adj u o) adj ≤ crossings n (movedAfter u v (siftedOrder n adj u o)) adj
+  sift-best v l d = le-trans (le-of-eq sift-least) (le-trans (least-place v l d) (le-of-eq (ap (λ (c : List ℕ). crossings n c adj) (sym from-there))))
+    where
+      by-test : (b : Bool) → improves n adj u o ≡ b → movedAfter u v (siftedOrder n adj u o) ≡ movedAfter u v o
+      by-test true e = ap (movedAfter u v) (sift-goes e .moved) ∙ moved-again u (sift-goes e .behind) v o
+      by-test false e = ap (movedAfter u v) (sift-stays e)
+
+      from-there : movedAfter u v (siftedOrder n adj u o) ≡ movedAfter u v o
+      from-there = by-test (improves n adj u o) refl
+
+  -- u stands best where no candidate has fewer crossings
+  pub stays-best : improves n adj u o ≡ false → (v : ℕ) → v < n → (u ≡ v → ⊥) → crossings n o adj ≤ crossings n (movedAfter u v o) adj
+  stays-best e v l d = le-trans (le-of-eq (stays-least e)) (least-place v l d)
