@@ -425,7 +425,7 @@ module _ (l : Layout) (o : List ℕ) where
 -- ---- the carried count
 
 -- a right count stays right
-carried-right : (before after : ℕ) → before < modulus → after < modulus → carried before before after ≡ after
+pub carried-right : (before after : ℕ) → before < modulus → after < modulus → carried before before after ≡ after
 unfolding carried
 carried-right before after h l = omega arith
 
@@ -442,6 +442,9 @@ pub carried-same : (count before : ℕ) → count < modulus → carried count be
 unfolding carried
 carried-same count before h = omega arith
 
+pub crossings-fit : (l : Layout) → T (valid l) → crossingsOf l < modulus
+crossings-fit l t = omega (arith, crossings-bound l t)
+
 -- the count of a layout is its crossings
 abbrev pub CountRight : Layout → Type 0
 CountRight l = l .count ≡ crossingsOf l
@@ -452,10 +455,7 @@ pub changed-count : (l : Layout) (n : ℕ) (places adj : List ℕ) → T (valid 
 unfolding changed crossingsOf vertexOrder
 changed-count l n places adj t u e =
     ap (λ (c : ℕ). carried c (crossingsOf l) (crossings n (take n places) adj)) e
-    ∙ carried-right (crossingsOf l) (crossings n (take n places) adj) (small l t) (small (changed l n places adj) u)
-  where
-    small : (m : Layout) → T (valid m) → crossingsOf m < modulus
-    small m v = omega (arith, crossings-bound m v)
+    ∙ carried-right (crossingsOf l) (crossings n (take n places) adj) (crossings-fit l t) (crossings-fit (changed l n places adj) u)
 
 -- ---- the checks of a call
 

@@ -8,14 +8,18 @@ use mathlib.Core.List.{List, [], _∷_, _++_, map}
 use lib.ListN.{length, getD, take, drop}
 use lib.Dec.{T, eqb, ltb, eqb→eq}
 use borrow.Author.Tests.{eq-eqb, ne-eqb, eqb-true, lt-ltb, ltb-true, ltb-false}
+use Rattle.model.specs.declared.Layout.{Layout}
+use Rattle.model.specs.declared.Changed.{Changed}
 use Rattle.model.specs.Lists.{one, any, firstWith, sumOver, occurrences, place}
 use Rattle.model.specs.Crossings.{crossings}
-use Rattle.model.specs.Edits.{movedAfter}
-use Rattle.model.specs.Sifting.{clockwiseFrom, candidates, least, leastCrossings, improves, siftedOrder}
+use Rattle.model.specs.Layouts.{vertexOrder, crossingsOf, valid, modulus, carried, changed, reordered}
+use Rattle.model.specs.Edits.{movedAfter, moveOf}
+use Rattle.model.specs.Sifting.{clockwiseFrom, candidates, least, leastCrossings, improves, siftedOrder, sifted, reduction, moves}
 use Rattle.laws.specs.Indicators.{Order, less, same, more, order, one-eq, one-ne}
 use Rattle.laws.specs.ListSums.{All, none, also, all-map, all-places}
 use Rattle.laws.specs.Permutations.{at, Permutation, occurs-at, none-beyond}
-use Rattle.laws.specs.Moving.{occurrences-append, rest-occurrences, moved-permutation, moved-again}
+use Rattle.laws.specs.Validity.{Sound, sound}
+use Rattle.laws.specs.Moving.{occurrences-append, rest-occurrences, moved-permutation, moved-again, reordered-order, reordered-crossings, reordered-valid, carried-right, carried-carried, carried-lt, carried-same, crossings-fit, CountRight, move-accepted, move-crossings}
 
 -- ---- the least of a list, and the first entry with a test
 
@@ -198,3 +202,118 @@ module _ {n : ℕ} {o : List ℕ} (perm : Permutation n o) (adj : List ℕ) (u :
   -- u stands best where no candidate has fewer crossings
   pub stays-best : improves n adj u o ≡ false → (v : ℕ) → v < n → (u ≡ v → ⊥) → crossings n o adj ≤ crossings n (movedAfter u v o) adj
   stays-best e v l d = le-trans (le-of-eq (stays-least e)) (least-place v l d)
+
+-- ---- layouts
+
+-- no vertex behind which u would have fewer crossings
+abbrev pub BestPlace : Layout → ℕ → Type 0
+BestPlace l u = (v : ℕ) → v < l .n → (u ≡ v → ⊥) → crossingsOf l ≤ crossings (l .n) (movedAfter u v (vertexOrder l)) (l .adjacency)
+
+-- the same for each vertex
+abbrev pub LocalMinimum : Layout → Type 0
+LocalMinimum l = (u : ℕ) → u < l .n → BestPlace l u
+
+-- by the call move
+pub best-move : (l : Layout) → T (valid l) → (u : ℕ) → u < l .n → BestPlace l u
+    → (v : ℕ) → v < l .n → (u ≡ v → ⊥) → (moveOf l u v .refusal ≡ 0) × (crossingsOf l ≤ crossingsOf (moveOf l u v .layout))
+best-move l t u h b v k d =
+    (ap (λ (c : Changed). c .refusal) (move-accepted l u v t h k d), le-trans (b v k d) (le-of-eq (sym (move-crossings l t u h v k d))))
+
+-- m is a valid layout of the vertices and edges of l, with no more crossings, and its count has changed by what they have
+pub record Improved (l m : Layout) : Type 0 where
+  pub valid-after : T (valid m)
+  pub same-n : m .n ≡ l .n
+  pub same-adjacency : m .adjacency ≡ l .adjacency
+  pub no-more : crossingsOf m ≤ crossingsOf l
+  pub count-carried : l .count < modulus → m .count ≡ carried (l .count) (crossingsOf l) (crossingsOf m)
+
+pub improved-refl : (l : Layout) → T (valid l) → Improved l l
+improved-refl l t =
+    record {
+      valid-after = t;
+      same-n = refl;
+      same-adjacency = refl;
+      no-more = le-refl (crossingsOf l);
+      count-carried = λ h. sym (carried-same (l .count) (crossingsOf l) h);
+    }
+
+pub improved-trans : {l m k : Layout} → Improved l m → Improved m k → Improved l k
+improved-trans {l} {m} {k} p q =
+    record {
+      valid-after = q .valid-after;
+      same-n = q .same-n ∙ p .same-n;
+      same-adjacency = q .same-adjacency ∙ p .same-adjacency;
+      no-more = le-trans (q .no-more) (p .no-more);
+      count-carried = λ h.
+          q .count-carried (rw (p .count-carried h) (carried-lt (l .count) (crossingsOf l) (crossingsOf m)))
+          ∙ ap (λ (c : ℕ). carried c (crossingsOf m) (crossingsOf k)) (p .count-carried h)
+          ∙ carried-carried (l .count) (crossingsOf l) (crossingsOf m) (crossingsOf k);
+    }
+
+-- a right count stays right
+pub improved-count : {l m : Layout} → T (valid l) → Improved l m → CountRight l → CountRight m
+improved-count {l} {m} t p e =
+    p .count-carried (rw e (crossings-fit l t))
+    ∙ ap (λ (c : ℕ). carried c (crossingsOf l) (crossingsOf m)) e
+    ∙ carried-right (crossingsOf l) (crossingsOf m) (crossings-fit l t) (crossings-fit m (p .valid-after))
+
+-- any other order with no more crossings
+module _ (l : Layout) (t : T (valid l)) (o : List ℕ) (perm : Permutation (l .n) o) where
+  pub reordered-improved : crossings (l .n) o (l .adjacency) ≤ crossingsOf l → Improved l (reordered l o)
+  unfolding reordered changed crossingsOf vertexOrder
+  reordered-improved h =
+      record {
+        valid-after = reordered-valid l o t perm;
+        same-n = refl;
+        same-adjacency = refl;
+        no-more = le-trans (le-of-eq (reordered-crossings l o (perm .size))) h;
+        count-carried = λ k. refl;
+      }
+
+-- ---- a layout sifted
+
+module _ (l : Layout) (t : T (valid l)) (u : ℕ) (h : u < l .n) where
+  pub sifted-permutation : Permutation (l .n) (siftedOrder (l .n) (l .adjacency) u (vertexOrder l))
+  sifted-permutation = sift-permutation (sound l t .permutation) (l .adjacency) u h
+
+  pub sifted-order : vertexOrder (sifted l u) ≡ siftedOrder (l .n) (l .adjacency) u (vertexOrder l)
+  unfolding sifted
+  sifted-order = reordered-order l (siftedOrder (l .n) (l .adjacency) u (vertexOrder l)) (sifted-permutation .size)
+
+  pub sifted-crossings : crossingsOf (sifted l u) ≡ crossings (l .n) (siftedOrder (l .n) (l .adjacency) u (vertexOrder l)) (l .adjacency)
+  unfolding sifted
+  sifted-crossings = reordered-crossings l (siftedOrder (l .n) (l .adjacency) u (vertexOrder l)) (sifted-permutation .size)
+
+  -- valid, with no more crossings
+  pub sifted-improved : Improved l (sifted l u)
+  unfolding sifted crossingsOf
+  sifted-improved =
+      reordered-improved l t (siftedOrder (l .n) (l .adjacency) u (vertexOrder l)) sifted-permutation
+      (sift-le (sound l t .permutation) (l .adjacency) u h)
+
+  -- u stands best
+  pub sifted-best : BestPlace (sifted l u) u
+  unfolding sifted reordered changed
+  sifted-best v k d =
+      le-trans (le-of-eq sifted-crossings)
+      (le-trans (sift-best (sound l t .permutation) (l .adjacency) u h v k d)
+      (le-of-eq (ap (λ (o : List ℕ). crossings (l .n) (movedAfter u v o) (l .adjacency)) (sym sifted-order))))
+
+  -- the reduction is exact
+  pub sifted-reduction : crossingsOf (sifted l u) + reduction l (sifted l u) ≡ crossingsOf l
+  unfolding reduction
+  sifted-reduction = omega (arith, sifted-improved .no-more)
+
+  -- where u does not move, the order stays, and u stands best already
+  pub sifted-stays : moves l u ≡ false → vertexOrder (sifted l u) ≡ vertexOrder l
+  unfolding moves
+  sifted-stays e = sifted-order ∙ sift-stays (sound l t .permutation) (l .adjacency) u h e
+
+  pub stays-put : moves l u ≡ false → BestPlace l u
+  unfolding moves crossingsOf
+  stays-put e = stays-best (sound l t .permutation) (l .adjacency) u h e
+
+  -- where it moves there are fewer crossings
+  pub sifted-less : moves l u ≡ true → crossingsOf (sifted l u) < crossingsOf l
+  unfolding moves crossingsOf
+  sifted-less e = rw sifted-crossings (sift-less (sound l t .permutation) (l .adjacency) u h e)
