@@ -13,3 +13,4 @@ pub mod Bits
 pub mod MaskCount
 pub mod Moving
 pub mod Sifting
+pub mod SiftingRounds
