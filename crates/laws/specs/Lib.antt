@@ -14,3 +14,4 @@ pub mod MaskCount
 pub mod Moving
 pub mod Sifting
 pub mod SiftingRounds
+pub mod SiftingCalls

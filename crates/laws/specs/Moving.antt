@@ -345,7 +345,7 @@ moved-places {n} {o} perm p q hp hq d i =
 
 -- ---- tests of every entry, from the entries
 
-and-both : (a b : Bool) → T a → T b → T (a && b)
+pub and-both : (a b : Bool) → T a → T b → T (a && b)
 and-both true b t u = u
 and-both false b t u = t
 
@@ -478,6 +478,14 @@ module _ {A : Type 0} (cs : List Check) (accepted : A) (refused : ℕ → A) whe
   pub checked-accepted : refusal cs ≡ 0 → checked cs accepted refused ≡ accepted
   unfolding checked byRefusal
   checked-accepted e = ap (λ (r : ℕ). byRefusal r accepted refused) e
+
+  pub checked-refused : (refusal cs ≡ 0 → ⊥) → checked cs accepted refused ≡ refused (refusal cs)
+  unfolding checked byRefusal
+  checked-refused d = by-number (refusal cs) d
+    where
+      by-number : (r : ℕ) → (r ≡ 0 → ⊥) → byRefusal r accepted refused ≡ refused r
+      by-number zero k = absurd (k refl)
+      by-number (suc r) k = refl
 
   -- the number that comes back is that of the checks
   pub checked-number : (number : A → ℕ) → number accepted ≡ 0 → ((r : ℕ) → number (refused r) ≡ r)

@@ -170,30 +170,15 @@ all-below {P} (suc n) a i h =
       | more l ↦ absurd (omega arith)
     ]
 
--- what holds of a round, and of each sift of it
-pub record ProperRound (l : Layout) : Type 0 where
-  pub valid-before : T (valid l)
-  pub sifts : All ProperSift (siftsOf (upto (l .n)) l)
-  pub improved : Improved l (siftRound l .layout)
-  pub exact : crossingsOf (siftRound l .layout) + siftRound l .reduction ≡ crossingsOf l
-  pub fewer : siftRound l .moved ≤ siftRound l .reduction
-
 module _ (l : Layout) (t : T (valid l)) where
   pub round-sifts : ProperSifts (upto (l .n)) l
   round-sifts = proper-sifts (upto (l .n)) l t (all-upto (l .n))
 
-  pub proper-round : ProperRound l
+  pub round-improved : Improved l (siftRound l .layout)
   unfolding siftRound
-  proper-round =
-      record {
-        valid-before = t;
-        sifts = round-sifts .proper;
-        improved = round-sifts .improved;
-        exact = round-sifts .exact;
-        fewer = round-sifts .fewer;
-      }
+  round-improved = round-sifts .improved
 
-  -- a round that moves no vertex leaves the order, and each vertex stands best
+  -- a round moves no vertex exactly where each of its sifts is still
   pub still-sifts : siftRound l .moved ≡ 0 → All Still (siftsOf (upto (l .n)) l)
   unfolding siftRound
   still-sifts e = moved-none (upto (l .n)) l t (all-upto (l .n)) e
@@ -202,6 +187,7 @@ module _ (l : Layout) (t : T (valid l)) where
   unfolding siftRound
   still-moved a = none-moved (upto (l .n)) l t (all-upto (l .n)) a
 
+  -- then the order stays, no vertex improves by moving, and each stands best
   pub still-order : siftRound l .moved ≡ 0 → vertexOrder (siftRound l .layout) ≡ vertexOrder l
   unfolding siftRound
   still-order e = sifts-still (upto (l .n)) l t (all-upto (l .n)) (still-sifts e) .0
@@ -215,8 +201,31 @@ module _ (l : Layout) (t : T (valid l)) where
   pub still-after : siftRound l .moved ≡ 0 → LocalMinimum (siftRound l .layout)
   unfolding crossingsOf
   still-after e u h v k d =
-      rw (proper-round .improved .same-n, proper-round .improved .same-adjacency, still-order e)
-      (still-before e u (rw (proper-round .improved .same-n) at h) v (rw (proper-round .improved .same-n) at k) d)
+      rw (round-improved .same-n, round-improved .same-adjacency, still-order e)
+      (still-before e u (rw (round-improved .same-n) at h) v (rw (round-improved .same-n) at k) d)
+
+-- what holds of a round, and of each sift of it
+pub record ProperRound (l : Layout) : Type 0 where
+  pub valid-before : T (valid l)
+  pub lead : Lead (λ (s : Sift). s .before) after l (siftsOf (upto (l .n)) l) (siftRound l .layout)
+  pub proper : All ProperSift (siftsOf (upto (l .n)) l)
+  pub improved : Improved l (siftRound l .layout)
+  pub exact : crossingsOf (siftRound l .layout) + siftRound l .reduction ≡ crossingsOf l
+  pub fewer : siftRound l .moved ≤ siftRound l .reduction
+  pub still : siftRound l .moved ≡ 0 → (vertexOrder (siftRound l .layout) ≡ vertexOrder l) × LocalMinimum (siftRound l .layout)
+
+pub proper-round : (l : Layout) → T (valid l) → ProperRound l
+unfolding siftRound
+proper-round l t =
+    record {
+      valid-before = t;
+      lead = round-sifts l t .lead;
+      proper = round-sifts l t .proper;
+      improved = round-sifts l t .improved;
+      exact = round-sifts l t .exact;
+      fewer = round-sifts l t .fewer;
+      still = λ e. (still-order l t e, still-after l t e);
+    }
 
 -- ---- rounds until one moves no vertex
 
