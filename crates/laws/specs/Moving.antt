@@ -1,14 +1,14 @@
 -- Moving a vertex behind another, in a list that holds each vertex once.
-use Prim.Native.Nat.{ℕ, zero, suc, _+_, _-_, _≤_, _<_, zero-le, suc-le-suc}
-use native.Mathlib.Nat.{add-zero, zero-add, add-sub-of-le, le-of-suc-le-suc, not-suc-le-zero}
+use Prim.Native.Nat.{ℕ, zero, suc, _+_, _-_, _≤_, _<_}
+use native.Mathlib.Nat.{add-sub-of-le, not-suc-le-zero}
 use native.Mathlib.Omega.{arith}
 use mathlib.Core.Path.{_≡_, refl, sym, ap, ap₂, _∙_, subst}
 use mathlib.Core.Bool.{Bool, true, false, not, cond, _&&_}
 use mathlib.Core.List.{List, [], _∷_, _++_}
-use lib.ListN.{length, getD, take, drop, length-append, length-drop, take-append-drop, List·getD-append}
+use lib.ListN.{length, take, drop, length-append, length-drop, take-append-drop, List·getD-append}
 use lib.Seq.{split-at, length-take-le, getD-take, getD-drop, getD-at, getD-append-add, take-at, ext-getD}
 use lib.Dec.{T, T-not, not-T, eqb, leb, ltb, leb→le, ltb→lt, lt→ltb, eqb→eq}
-use borrow.Author.Tests.{eq-eqb, ne-eqb, eqb-true, eqb-false, lt-ltb, le-ltb, le-leb, lt-leb}
+use borrow.Author.Tests.{eq-eqb, ne-eqb, lt-ltb, le-ltb, le-leb, lt-leb}
 use Rattle.model.specs.declared.Layout.{Layout}
 use Rattle.model.specs.declared.Changed.{Changed}
 use Rattle.model.specs.Lists.{one, upto, every, keep, sumOver, occurrences, place}
@@ -16,10 +16,10 @@ use Rattle.model.specs.Crossings.{crossings}
 use Rattle.model.specs.Layouts.{capacity, vertexOrder, crossingsOf, eachOnce, zeroFrom, valid, modulus, carried, changed, reordered}
 use Rattle.model.specs.Checks.{Check, refusal, byRefusal, checked, isValid, isVertex, differ}
 use Rattle.model.specs.Edits.{changedOr, insertAfter, movedAfter, moveChecks, moveOf}
-use Rattle.laws.specs.Indicators.{Order, less, same, more, order, one-eq, one-ne, T-true}
+use Rattle.laws.specs.Indicators.{less, same, more, order, one-ne, T-true}
 use Rattle.laws.specs.ListSums.{All, none, also, all-mono, all-upto, sumOver-append}
 use Rattle.laws.specs.Permutations.{at, Permutation, at-lt, place-lt, place-at, at-of-place, place-below, place-of-at}
-use Rattle.laws.specs.Validity.{Sound, sound, crossings-bound}
+use Rattle.laws.specs.Validity.{sound, crossings-bound}
 
 -- a list without the vertex a
 abbrev pub without : ℕ → List ℕ → List ℕ
@@ -128,7 +128,7 @@ occurrences-putIn v r a xs =
 at-left : (xs ys : List ℕ) (m i : ℕ) → length xs ≡ m → i < m → at (xs ++ ys) i ≡ at xs i
 at-left xs ys m i e h = List·getD-append xs ys 0 i (omega arith)
 
-at-right : (xs ys : List ℕ) (m i : ℕ) → length xs ≡ m → at (xs ++ ys) (m + i) ≡ at ys i
+pub at-right : (xs ys : List ℕ) (m i : ℕ) → length xs ≡ m → at (xs ++ ys) (m + i) ≡ at ys i
 at-right xs ys m i e = ap (λ (k : ℕ). at (xs ++ ys) (k + i)) (sym e) ∙ getD-append-add xs ys i 0
 
 module _ (p : ℕ) (o : List ℕ) (h : p ≤ length o) where
@@ -456,6 +456,19 @@ unfolding changed crossingsOf vertexOrder
 changed-count l n places adj t u e =
     ap (λ (c : ℕ). carried c (crossingsOf l) (crossings n (take n places) adj)) e
     ∙ carried-right (crossingsOf l) (crossings n (take n places) adj) (crossings-fit l t) (crossings-fit (changed l n places adj) u)
+
+-- a layout with the order that it has is the same layout
+pub reordered-present : (l : Layout) → l .count < modulus → reordered l (vertexOrder l) ≡ l
+unfolding reordered changed vertexOrder crossingsOf
+reordered-present l h = λ i. record { n = l .n; order = parts i; adjacency = l .adjacency; count = counts i }
+  where
+    parts : take (l .n) (l .order) ++ drop (l .n) (l .order) ≡ l .order
+    parts = take-append-drop (l .n) (l .order)
+
+    counts : carried (l .count) (crossingsOf l) (crossings (l .n) (take (l .n) (take (l .n) (l .order) ++ drop (l .n) (l .order))) (l .adjacency)) ≡ l .count
+    counts =
+        ap (λ (xs : List ℕ). carried (l .count) (crossingsOf l) (crossings (l .n) (take (l .n) xs) (l .adjacency))) parts
+        ∙ carried-same (l .count) (crossingsOf l) h
 
 -- ---- the checks of a call
 

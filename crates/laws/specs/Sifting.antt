@@ -1,13 +1,14 @@
 -- Sifting one vertex: the place found is the best, and no sift raises the crossings.
-use Prim.Native.Nat.{ℕ, zero, suc, _+_, _-_, _≤_, _<_, min}
-use native.Mathlib.Nat.{le-refl, le-trans, le-of-eq, le-antisymm, min-le-left, min-le-right, not-suc-le-zero}
+use Prim.Native.Nat.{ℕ, suc, _+_, _-_, _≤_, _<_, min}
+use native.Mathlib.Nat.{le-refl, le-trans, le-of-eq, le-antisymm, min-le-right, not-suc-le-zero}
 use native.Mathlib.Omega.{arith}
-use mathlib.Core.Path.{_≡_, refl, sym, ap, ap₂, _∙_, subst}
-use mathlib.Core.Bool.{Bool, true, false, not, cond, _||_}
-use mathlib.Core.List.{List, [], _∷_, _++_, map}
-use lib.ListN.{length, getD, take, drop}
-use lib.Dec.{T, eqb, ltb, eqb→eq}
-use borrow.Author.Tests.{eq-eqb, ne-eqb, eqb-true, lt-ltb, ltb-true, ltb-false}
+use mathlib.Core.Path.{_≡_, refl, sym, ap, _∙_, subst}
+use mathlib.Core.Bool.{Bool, true, false, cond, _||_}
+use mathlib.Core.List.{List, [], _∷_, map}
+use lib.ListN.{length, take, drop, length-append, length-drop, List·getD-append}
+use lib.Seq.{length-take-le, getD-take, getD-drop}
+use lib.Dec.{T, eqb, eqb→eq}
+use borrow.Author.Tests.{eq-eqb, eqb-true, lt-ltb, ltb-true, ltb-false}
 use Rattle.model.specs.declared.Layout.{Layout}
 use Rattle.model.specs.declared.Changed.{Changed}
 use Rattle.model.specs.Lists.{one, any, firstWith, sumOver, occurrences, place}
@@ -15,11 +16,11 @@ use Rattle.model.specs.Crossings.{crossings}
 use Rattle.model.specs.Layouts.{vertexOrder, crossingsOf, valid, modulus, carried, changed, reordered}
 use Rattle.model.specs.Edits.{movedAfter, moveOf}
 use Rattle.model.specs.Sifting.{clockwiseFrom, candidates, least, leastCrossings, improves, siftedOrder, sifted, reduction, moves}
-use Rattle.laws.specs.Indicators.{Order, less, same, more, order, one-eq, one-ne}
+use Rattle.laws.specs.Indicators.{less, same, more, order, one-eq, one-ne}
 use Rattle.laws.specs.ListSums.{All, none, also, all-map, all-places}
-use Rattle.laws.specs.Permutations.{at, Permutation, occurs-at, none-beyond}
-use Rattle.laws.specs.Validity.{Sound, sound}
-use Rattle.laws.specs.Moving.{occurrences-append, rest-occurrences, moved-permutation, moved-again, reordered-order, reordered-crossings, reordered-valid, carried-right, carried-carried, carried-lt, carried-same, crossings-fit, CountRight, move-accepted, move-crossings}
+use Rattle.laws.specs.Permutations.{at, Permutation, place-below, occurs-at, none-beyond}
+use Rattle.laws.specs.Validity.{sound}
+use Rattle.laws.specs.Moving.{occurrences-append, at-right, rest-occurrences, moved-permutation, moved-again, reordered-order, reordered-crossings, reordered-valid, carried-right, carried-carried, carried-lt, carried-same, crossings-fit, reordered-present, CountRight, move-accepted, move-crossings}
 
 -- ---- the least of a list, and the first entry with a test
 
@@ -48,7 +49,7 @@ module _ (f : List ℕ → ℕ) (d : ℕ) where
       by-test false e k r = omega (arith, r (omega arith))
 
   -- a least below the default is that of an entry
-  least-some : (xs : List (List ℕ)) (m : ℕ) → least f d xs ≡ m → m < d → T (any (λ x. eqb (f x) m) xs)
+  pub least-some : (xs : List (List ℕ)) (m : ℕ) → least f d xs ≡ m → m < d → T (any (λ x. eqb (f x) m) xs)
   unfolding least any
   least-some [] m e h = absurd (omega arith)
   least-some (x ∷ xs) m e h =
@@ -60,7 +61,7 @@ module _ (f : List ℕ → ℕ) (d : ℕ) where
 
 module _ {A : Type 0} where
   -- the first entry with the test has it, and whatever holds of each entry
-  first-found : {P : A → Type 0} (p : A → Bool) (d : A) {xs : List A} → All P xs → T (any p xs) → P (firstWith p d xs) × T (p (firstWith p d xs))
+  pub first-found : {P : A → Type 0} (p : A → Bool) (d : A) {xs : List A} → All P xs → T (any p xs) → P (firstWith p d xs) × T (p (firstWith p d xs))
   unfolding any firstWith
   first-found p d none t = absurd t
   first-found {P} p d (also {x} {xs} q qs) t = by-test (p x) refl t (first-found p d qs)
@@ -98,6 +99,27 @@ module _ {n : ℕ} {o : List ℕ} (perm : Permutation n o) (u : ℕ) (h : u < n)
 
       below : (v : ℕ) → 0 < occurrences v (clockwiseFrom u o) → v < n
       below v k = elim (order v n) [ less l ↦ l | same e ↦ absurd (beyond v k (omega arith)) | more l ↦ absurd (beyond v k (omega arith)) ]
+
+  -- by place: the entries behind u, then those before it
+  pub clockwise-length : suc (length (clockwiseFrom u o)) ≡ n
+  unfolding clockwiseFrom
+  clockwise-length =
+      ap suc (length-append (drop (suc (place o u)) o) (take (place o u) o))
+      ∙ rw (length-drop (suc (place o u)) o, length-take-le (place o u) o (omega (arith, perm .size, place-below perm u h)))
+      (omega (arith, perm .size, place-below perm u h))
+
+  pub clockwise-behind : (k : ℕ) → suc (place o u) + k < n → at (clockwiseFrom u o) k ≡ at o (suc (place o u) + k)
+  unfolding clockwiseFrom
+  clockwise-behind k l =
+      List·getD-append (drop (suc (place o u)) o) (take (place o u) o) 0 k (omega (arith, length-drop (suc (place o u)) o, perm .size))
+      ∙ getD-drop (suc (place o u)) o k 0
+
+  pub clockwise-before : (k : ℕ) → k < place o u → at (clockwiseFrom u o) (n - suc (place o u) + k) ≡ at o k
+  unfolding clockwiseFrom
+  clockwise-before k l =
+      at-right (drop (suc (place o u)) o) (take (place o u) o) (n - suc (place o u)) k
+      (length-drop (suc (place o u)) o ∙ ap (λ (m : ℕ). m - suc (place o u)) (perm .size))
+      ∙ getD-take (place o u) o k 0 l
 
 -- c is o with u moved behind another vertex
 pub record Candidate (n u : ℕ) (o c : List ℕ) : Type 0 where
@@ -299,6 +321,11 @@ module _ (l : Layout) (t : T (valid l)) (u : ℕ) (h : u < l .n) where
       (le-trans (sift-best (sound l t .permutation) (l .adjacency) u h v k d)
       (le-of-eq (ap (λ (o : List ℕ). crossings (l .n) (movedAfter u v o) (l .adjacency)) (sym sifted-order))))
 
+  pub sifted-best-move : (v : ℕ) → v < l .n → (u ≡ v → ⊥)
+      → (moveOf (sifted l u) u v .refusal ≡ 0) × (crossingsOf (sifted l u) ≤ crossingsOf (moveOf (sifted l u) u v .layout))
+  unfolding sifted reordered changed
+  sifted-best-move = best-move (sifted l u) (sifted-improved .valid-after) u h sifted-best
+
   -- the reduction is exact
   pub sifted-reduction : crossingsOf (sifted l u) + reduction l (sifted l u) ≡ crossingsOf l
   unfolding reduction
@@ -308,6 +335,10 @@ module _ (l : Layout) (t : T (valid l)) (u : ℕ) (h : u < l .n) where
   pub sifted-stays : moves l u ≡ false → vertexOrder (sifted l u) ≡ vertexOrder l
   unfolding moves
   sifted-stays e = sifted-order ∙ sift-stays (sound l t .permutation) (l .adjacency) u h e
+
+  pub sifted-same : l .count < modulus → moves l u ≡ false → sifted l u ≡ l
+  unfolding moves sifted
+  sifted-same k e = ap (reordered l) (sift-stays (sound l t .permutation) (l .adjacency) u h e) ∙ reordered-present l k
 
   pub stays-put : moves l u ≡ false → BestPlace l u
   unfolding moves crossingsOf

@@ -1,24 +1,24 @@
 -- The calls sift, round and settle: what an accepted one may count on and gives, and that a refused one changes nothing.
-use Prim.Native.Nat.{ℕ, zero, suc, _+_, _≤_, _<_}
+use Prim.Native.Nat.{ℕ, zero, suc, _≤_, _<_}
 use native.Mathlib.Omega.{arith}
-use mathlib.Core.Path.{_≡_, refl, sym, ap, ap₂, _∙_, subst}
-use mathlib.Core.Bool.{Bool, true, false, _&&_}
+use mathlib.Core.Path.{_≡_, refl, sym, ap, _∙_, subst}
+use mathlib.Core.Bool.{false}
 use mathlib.Core.List.{List, [], _∷_}
 use native.Mathlib.Decide.{ℕ-discrete}
-use lib.Dec.{T, leb, ltb, leb→le, le→leb, ltb→lt, lt→ltb}
+use lib.Dec.{T, leb, leb→le, le→leb, ltb→lt, lt→ltb}
 use Rattle.model.specs.declared.Layout.{Layout}
 use Rattle.model.specs.declared.Sifted.{Sifted}
 use Rattle.model.specs.declared.Rounded.{Rounded}
 use Rattle.model.specs.declared.Converged.{Converged}
 use Rattle.model.specs.Lists.{upto}
 use Rattle.model.specs.Layouts.{valid}
-use Rattle.model.specs.Checks.{Check, refusal, checked, isValid, isVertex, limitFits}
+use Rattle.model.specs.Checks.{refusal, isValid, isVertex, limitFits}
 use Rattle.model.specs.Sifting.{sifted, reduction, siftChecks, siftOf, siftAll, siftRound, roundOf, stopped, afterRound, roundsUpTo, settleChecks, settleOf}
 use Rattle.laws.specs.Indicators.{and-left, and-right}
-use Rattle.laws.specs.ListSums.{All, none, also}
+use Rattle.laws.specs.ListSums.{none, also}
 use Rattle.laws.specs.Moving.{and-both, CountRight, check-passed, all-passed, checked-accepted, checked-refused, checked-number}
 use Rattle.laws.specs.Sifting.{Improved, improved-count}
-use Rattle.laws.specs.SiftingRounds.{Sift, ProperSift, proper-sift, ProperRound, proper-round, roundsOf, Settling, settling, rounds-run}
+use Rattle.laws.specs.SiftingRounds.{ProperSift, proper-sift, ProperRound, proper-round, roundsOf, Settling, settling, rounds-run}
 
 -- a call that returns m for l leaves a valid layout valid, and a right count right
 abbrev pub Keeps : Layout → Layout → Type 0

@@ -1,24 +1,23 @@
 -- Rounds of sifts, and rounds until one moves no vertex: what holds of each sift and each round that is run.
 use Prim.Native.Nat.{ℕ, zero, suc, _+_, _-_, _≤_, _<_, zero-le, suc-le-suc}
-use native.Mathlib.Nat.{le-refl, le-trans, le-of-eq, add-zero, add-le-add, le-step, lt-suc-self, not-suc-le-zero}
+use native.Mathlib.Nat.{le-trans, le-of-eq, add-zero, add-le-add, not-suc-le-zero}
+use native.Mathlib.Numerals.{add-one}
 use native.Mathlib.Omega.{arith}
-use mathlib.Core.Path.{_≡_, refl, sym, ap, ap₂, _∙_, subst}
+use mathlib.Core.Path.{_≡_, refl, sym, ap, _∙_, subst}
 use mathlib.Core.Bool.{Bool, true, false, false≢true}
 use mathlib.Core.List.{List, [], _∷_, _++_, map}
-use lib.ListN.{length}
-use lib.Dec.{T, eqb, ltb}
+use lib.ListN.{length, length-append}
+use lib.Dec.{T, eqb}
 use borrow.Author.Tests.{eq-eqb, eqb-true}
 use Rattle.model.specs.declared.Layout.{Layout}
-use Rattle.model.specs.declared.Rounded.{Rounded}
 use Rattle.model.specs.declared.Converged.{Converged}
 use Rattle.model.specs.Lists.{one, upto, sumOver}
-use Rattle.model.specs.Crossings.{crossings}
-use Rattle.model.specs.Layouts.{vertexOrder, crossingsOf, valid, changed, reordered}
-use Rattle.model.specs.Edits.{movedAfter}
+use Rattle.model.specs.Layouts.{vertexOrder, crossingsOf, valid, modulus, changed, reordered}
 use Rattle.model.specs.Sifting.{improves, sifted, reduction, moves, siftAll, siftRound, afterRound, stopped, roundsUpTo}
-use Rattle.laws.specs.Indicators.{Order, less, same, more, order, one-le}
+use Rattle.laws.specs.Indicators.{less, same, more, order, one-le}
 use Rattle.laws.specs.ListSums.{All, none, also, all-mono, all-upto}
-use Rattle.laws.specs.Sifting.{BestPlace, LocalMinimum, Improved, improved-refl, improved-trans, sifted-improved, sifted-best, sifted-reduction, sifted-stays, sifted-less, stays-put}
+use Rattle.laws.specs.Moving.{CountRight}
+use Rattle.laws.specs.Sifting.{BestPlace, LocalMinimum, Improved, improved-refl, improved-trans, improved-count, sifted-improved, sifted-best, sifted-reduction, sifted-stays, sifted-same, sifted-less, stays-put}
 
 -- ---- the sifts of a round
 
@@ -57,6 +56,14 @@ proper-sift l t u h =
 pub data Lead {S : Type 0} (start end : S → Layout) : Layout → List S → Layout → Type 0 where
   ended : {l : Layout} → Lead start end l [] l
   next : {s : S} {ss : List S} {m : Layout} → Lead start end (end s) ss m → Lead start end (start s) (s ∷ ss) m
+
+-- where each step improves, a right count at the start is right at each step
+pub lead-count : {S : Type 0} {start end : S → Layout} {l m : Layout} {ss : List S} → Lead start end l ss m
+    → All (λ s. T (valid (start s)) × Improved (start s) (end s)) ss → CountRight l → All (λ s. CountRight (start s) × CountRight (end s)) ss
+lead-count ended none c = none
+lead-count (next r) (also p ps) c =
+    let d = improved-count (p .0) (p .1) c in
+    also (c, d) (lead-count r ps d)
 
 -- what holds of sifting us in l, and of each sift of it
 pub record ProperSifts (us : List ℕ) (l : Layout) : Type 0 where
@@ -150,7 +157,29 @@ sifts-still (u ∷ us) l t (also h hs) (also e es) =
     let rest = sifts-still us (sifted l u) (first .valid-after) (all-mono hs (λ w k. rw (first .same-n) k)) es in
     (rest .0 ∙ sifted-stays l t u h e, also e (all-mono (rest .1) (λ w k. sym (stays-same l t u h e w) ∙ k)))
 
+-- a layout with a 32-bit count stays as it was
+pub sifts-same : (us : List ℕ) (l : Layout) → T (valid l) → All (λ u. u < l .n) us → l .count < modulus → All Still (siftsOf us l)
+    → siftAll us l .layout ≡ l
+unfolding siftAll siftsOf
+sifts-same [] l t none k none = refl
+sifts-same (u ∷ us) l t (also h hs) k (also e es) =
+    let first = sifted-improved l t u h in
+    let same = sifted-same l t u h k e in
+    sifts-same us (sifted l u) (first .valid-after) (all-mono hs (λ w b. rw (first .same-n) b)) (subst (λ (m : Layout). m .count < modulus) (sym same) k) es
+    ∙ same
+
+-- at most as many vertices move as are sifted
+pub sifts-moved : (us : List ℕ) (l : Layout) → siftAll us l .moved ≤ length us
+unfolding siftAll
+sifts-moved [] l = zero-le
+sifts-moved (u ∷ us) l = omega (arith, one-le (moves l u), sifts-moved us (sifted l u))
+
 -- ---- a round
+
+length-upto : (n : ℕ) → length (upto n) ≡ n
+unfolding upto
+length-upto zero = refl
+length-upto (suc n) = length-append (upto n) (n ∷ []) ∙ ap (λ (x : ℕ). x + 1) (length-upto n) ∙ add-one n
 
 all-last : {P : ℕ → Type 0} (xs : List ℕ) (y : ℕ) → All P (xs ++ (y ∷ [])) → P y
 all-last [] y (also p ps) = p
@@ -195,6 +224,10 @@ module _ (l : Layout) (t : T (valid l)) where
   pub still-vertices : siftRound l .moved ≡ 0 → (u : ℕ) → u < l .n → moves l u ≡ false
   still-vertices e = all-below (l .n) (sifts-still (upto (l .n)) l t (all-upto (l .n)) (still-sifts e) .1)
 
+  pub still-same : l .count < modulus → siftRound l .moved ≡ 0 → siftRound l .layout ≡ l
+  unfolding siftRound
+  still-same k e = sifts-same (upto (l .n)) l t (all-upto (l .n)) k (still-sifts e)
+
   pub still-before : siftRound l .moved ≡ 0 → LocalMinimum l
   still-before e u h = stays-put l t u h (still-vertices e u h)
 
@@ -212,6 +245,7 @@ pub record ProperRound (l : Layout) : Type 0 where
   pub improved : Improved l (siftRound l .layout)
   pub exact : crossingsOf (siftRound l .layout) + siftRound l .reduction ≡ crossingsOf l
   pub fewer : siftRound l .moved ≤ siftRound l .reduction
+  pub at-most : siftRound l .moved ≤ l .n
   pub still : siftRound l .moved ≡ 0 → (vertexOrder (siftRound l .layout) ≡ vertexOrder l) × LocalMinimum (siftRound l .layout)
 
 pub proper-round : (l : Layout) → T (valid l) → ProperRound l
@@ -224,8 +258,14 @@ proper-round l t =
       improved = round-sifts l t .improved;
       exact = round-sifts l t .exact;
       fewer = round-sifts l t .fewer;
+      at-most = le-trans (sifts-moved (upto (l .n)) l) (le-of-eq (length-upto (l .n)));
       still = λ e. (still-order l t e, still-after l t e);
     }
+
+-- a right count is right before and after each sift
+pub round-count : (l : Layout) → T (valid l) → CountRight l
+    → All (λ s. CountRight (s .before) × CountRight (after s)) (siftsOf (upto (l .n)) l)
+round-count l t c = lead-count (proper-round l t .lead) (all-mono (proper-round l t .proper) (λ s p. (p .valid-before, p .improved))) c
 
 -- ---- rounds until one moves no vertex
 
@@ -325,3 +365,9 @@ pub rounds-run : (limit : ℕ) (l : Layout) → 1 ≤ limit → 1 ≤ roundsUpTo
 unfolding roundsUpTo afterRound
 rounds-run zero l h = absurd (not-suc-le-zero h)
 rounds-run (suc limit) l h = suc-le-suc zero-le
+
+-- a right count is right before and after each round
+pub settling-count : (limit : ℕ) (l : Layout) → T (valid l) → CountRight l
+    → All (λ m. CountRight m × CountRight (siftRound m .layout)) (roundsOf limit l)
+settling-count limit l t c =
+    lead-count (settling limit l t .lead) (all-mono (settling limit l t .proper) (λ m p. (p .valid-before, p .improved))) c
