@@ -1,6 +1,7 @@
 -- Moving a vertex behind another, in a list that holds each vertex once.
 use Prim.Native.Nat.{ℕ, zero, suc, _+_, _-_, _≤_, _<_}
 use native.Mathlib.Nat.{add-sub-of-le, not-suc-le-zero}
+use native.Mathlib.Decide.{ℕ-discrete}
 use native.Mathlib.Omega.{arith}
 use mathlib.Core.Path.{_≡_, refl, sym, ap, ap₂, _∙_, subst}
 use mathlib.Core.Bool.{Bool, true, false, not, cond, _&&_}
@@ -457,6 +458,16 @@ changed-count l n places adj t u e =
     ap (λ (c : ℕ). carried c (crossingsOf l) (crossings n (take n places) adj)) e
     ∙ carried-right (crossingsOf l) (crossings n (take n places) adj) (crossings-fit l t) (crossings-fit (changed l n places adj) u)
 
+-- a call that returns m for l leaves a valid layout valid, and a right count right
+abbrev pub Keeps : Layout → Layout → Type 0
+Keeps l m = T (valid l) → T (valid m) × (CountRight l → CountRight m)
+
+pub same-keeps : {l m : Layout} → m ≡ l → Keeps l m
+same-keeps e t = (subst (λ (k : Layout). T (valid k)) (sym e) t, λ c. subst (λ (k : Layout). CountRight k) (sym e) c)
+
+pub changed-keeps : (l : Layout) (n : ℕ) (places adj : List ℕ) → T (valid (changed l n places adj)) → Keeps l (changed l n places adj)
+changed-keeps l n places adj u t = (u, changed-count l n places adj t u)
+
 -- a layout with the order that it has is the same layout
 pub reordered-present : (l : Layout) → l .count < modulus → reordered l (vertexOrder l) ≡ l
 unfolding reordered changed vertexOrder crossingsOf
@@ -539,6 +550,14 @@ module _ (l : Layout) (a b : ℕ) where
       (record { refusal = 0; layout = reordered l (movedAfter a b (vertexOrder l)) }) (λ r. record { refusal = r; layout = l })
       (all-passed (also t (also (lt→ltb a (l .n) h) (also (lt→ltb b (l .n) k) (also (not-T (eqb a b) (λ e. d (eqb→eq a b e))) none)))))
 
+  pub move-refused : (moveOf l a b .refusal ≡ 0 → ⊥) → moveOf l a b ≡ record { refusal = moveOf l a b .refusal; layout = l }
+  unfolding moveOf changedOr
+  move-refused d =
+      checked-refused (moveChecks l a b)
+      (record { refusal = 0; layout = reordered l (movedAfter a b (vertexOrder l)) }) (λ r. record { refusal = r; layout = l })
+      (λ e. d (move-number ∙ e))
+      ∙ ap (λ (r : ℕ). record { refusal = r; layout = l }) (sym move-number)
+
 -- the layout that an accepted move gives
 module _ (l : Layout) (t : T (valid l)) (a : ℕ) (h : a < l .n) (b : ℕ) (k : b < l .n) (d : a ≡ b → ⊥) where
   pub move-layout : moveOf l a b .layout ≡ reordered l (movedAfter a b (vertexOrder l))
@@ -551,3 +570,16 @@ module _ (l : Layout) (t : T (valid l)) (a : ℕ) (h : a < l .n) (b : ℕ) (k : 
   move-crossings =
       ap crossingsOf move-layout
       ∙ reordered-crossings l (movedAfter a b (vertexOrder l)) (moved-permutation (sound l t .permutation) a h b k d .size)
+
+pub move-keeps : (l : Layout) (a b : ℕ) → Keeps l (moveOf l a b .layout)
+unfolding reordered
+move-keeps l a b =
+    elim (ℕ-discrete (moveOf l a b .refusal) 0) [
+      | yes e ↦ accepted (move-passed l a b e)
+      | no d ↦ same-keeps (ap (λ (c : Changed). c .layout) (move-refused l a b d))
+    ]
+  where
+    accepted : T (valid l) × (a < l .n) × (b < l .n) × (a ≡ b → ⊥) → Keeps l (moveOf l a b .layout)
+    accepted p =
+        rw (move-layout l (p .0) a (p .1) b (p .2) (p .3))
+        (changed-keeps l (l .n) (movedAfter a b (vertexOrder l) ++ drop (l .n) (l .order)) (l .adjacency) (move-valid l (p .0) a (p .1) b (p .2) (p .3)))

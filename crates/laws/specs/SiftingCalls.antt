@@ -16,19 +16,12 @@ use Rattle.model.specs.Checks.{refusal, isValid, isVertex, limitFits}
 use Rattle.model.specs.Sifting.{sifted, reduction, siftChecks, siftOf, siftAll, siftRound, roundOf, stopped, afterRound, roundsUpTo, settleChecks, settleOf}
 use Rattle.laws.specs.Indicators.{and-left, and-right}
 use Rattle.laws.specs.ListSums.{none, also}
-use Rattle.laws.specs.Moving.{and-both, CountRight, check-passed, all-passed, checked-accepted, checked-refused, checked-number}
+use Rattle.laws.specs.Moving.{and-both, Keeps, same-keeps, check-passed, all-passed, checked-accepted, checked-refused, checked-number}
 use Rattle.laws.specs.Sifting.{Improved, improved-count}
 use Rattle.laws.specs.SiftingRounds.{ProperSift, proper-sift, ProperRound, proper-round, roundsOf, Settling, settling, rounds-run}
 
--- a call that returns m for l leaves a valid layout valid, and a right count right
-abbrev pub Keeps : Layout → Layout → Type 0
-Keeps l m = T (valid l) → T (valid m) × (CountRight l → CountRight m)
-
 improved-keeps : {l m : Layout} → Improved l m → Keeps l m
 improved-keeps p t = (p .valid-after, improved-count t p)
-
-same-keeps : {l m : Layout} → m ≡ l → Keeps l m
-same-keeps e t = (subst (λ (k : Layout). T (valid k)) (sym e) t, λ c. subst (λ (k : Layout). CountRight k) (sym e) c)
 
 -- ---- sift
 
