@@ -17,3 +17,7 @@ pub mod Refusals
 pub mod EdgeEdits
 pub mod Copying
 pub mod VertexEdits
+pub mod Moving
+pub mod Sifting
+pub mod SiftingRounds
+pub mod SiftingCalls

@@ -1,0 +1,585 @@
+-- Moving a vertex behind another, in a list that holds each vertex once.
+use Prim.Native.Nat.{ℕ, zero, suc, _+_, _-_, _≤_, _<_}
+use native.Mathlib.Nat.{add-sub-of-le, not-suc-le-zero}
+use native.Mathlib.Decide.{ℕ-discrete}
+use native.Mathlib.Omega.{arith}
+use mathlib.Core.Path.{_≡_, refl, sym, ap, ap₂, _∙_, subst}
+use mathlib.Core.Bool.{Bool, true, false, not, cond, _&&_}
+use mathlib.Core.List.{List, [], _∷_, _++_}
+use lib.ListN.{length, take, drop, length-append, length-drop, take-append-drop, List·getD-append}
+use lib.Seq.{split-at, length-take-le, getD-take, getD-drop, getD-at, getD-append-add, take-at, ext-getD}
+use lib.Dec.{T, T-not, not-T, eqb, leb, ltb, leb→le, ltb→lt, lt→ltb, eqb→eq}
+use borrow.Author.Tests.{eq-eqb, ne-eqb, lt-ltb, le-ltb, le-leb, lt-leb}
+use Rattle.model.specs.declared.Layout.{Layout}
+use Rattle.model.specs.declared.Changed.{Changed}
+use Rattle.model.specs.Lists.{one, upto, every, keep, sumOver, occurrences, place}
+use Rattle.model.specs.Crossings.{crossings}
+use Rattle.model.specs.Layouts.{capacity, vertexOrder, crossingsOf, eachOnce, zeroFrom, valid, modulus, carried, changed, reordered}
+use Rattle.model.specs.Checks.{Check, refusal, byRefusal, checked, isValid, isVertex, differ}
+use Rattle.model.specs.Edits.{changedOr, insertAfter, movedAfter, moveChecks, moveOf}
+use Rattle.laws.specs.Indicators.{less, same, more, order, one-ne, T-true}
+use Rattle.laws.specs.ListSums.{All, none, also, all-mono, all-upto, sumOver-append}
+use Rattle.laws.specs.Permutations.{at, Permutation, at-lt, place-lt, place-at, at-of-place, place-below, place-of-at}
+use Rattle.laws.specs.Validity.{sound, crossings-bound}
+
+-- a list without the vertex a
+abbrev pub without : ℕ → List ℕ → List ℕ
+without a o = keep (λ x. not (eqb a x)) o
+
+-- ---- taken out and put back: what is left without a stays the same
+
+-- nothing more to take out
+pub without-absent : (a : ℕ) (xs : List ℕ) → occurrences a xs ≡ 0 → without a xs ≡ xs
+unfolding keep occurrences sumOver one
+without-absent a [] e = refl
+without-absent a (x ∷ xs) e = by-test (eqb a x) e (without-absent a xs)
+  where
+    by-test : (b : Bool) → one b + sumOver (λ y. one (eqb a y)) xs ≡ 0 → (sumOver (λ y. one (eqb a y)) xs ≡ 0 → without a xs ≡ xs)
+        → cond (not b) (x ∷ without a xs) (without a xs) ≡ x ∷ xs
+    by-test true k r = absurd (omega arith)
+    by-test false k r = ap (λ (ys : List ℕ). x ∷ ys) (r (omega arith))
+
+without-twice : (a : ℕ) (xs : List ℕ) → without a (without a xs) ≡ without a xs
+unfolding keep
+without-twice a [] = refl
+without-twice a (x ∷ xs) = by-test (eqb a x) refl (without-twice a xs)
+  where
+    by-test : (b : Bool) → eqb a x ≡ b → without a (without a xs) ≡ without a xs
+        → without a (cond (not b) (x ∷ without a xs) (without a xs)) ≡ cond (not b) (x ∷ without a xs) (without a xs)
+    by-test true k r = r
+    by-test false k r = rw k (ap (λ (ys : List ℕ). x ∷ ys) r)
+
+without-inserted : (b a : ℕ) (xs : List ℕ) → without a (insertAfter b a xs) ≡ without a xs
+unfolding keep insertAfter
+without-inserted b a [] = refl
+without-inserted b a (x ∷ xs) = by-test (eqb b x) (without-inserted b a xs)
+  where
+    by-test : (t : Bool) → without a (insertAfter b a xs) ≡ without a xs
+        → without a (cond t (x ∷ a ∷ xs) (x ∷ insertAfter b a xs)) ≡ without a (x ∷ xs)
+    by-test true r = rw (eq-eqb a a refl)
+    by-test false r = ap (λ (ys : List ℕ). cond (not (eqb a x)) (x ∷ ys) ys) r
+
+-- moving a changes nothing of the list without a
+pub without-moved : (a b : ℕ) (o : List ℕ) → without a (movedAfter a b o) ≡ without a o
+unfolding movedAfter
+without-moved a b o = without-inserted b a (without a o) ∙ without-twice a o
+
+-- so of two moves of a only the second counts
+pub moved-again : (a b c : ℕ) (o : List ℕ) → movedAfter a c (movedAfter a b o) ≡ movedAfter a c o
+unfolding movedAfter
+moved-again a b c o = ap (insertAfter c a) (without-moved a b o)
+
+-- ---- by places
+
+-- the entry at place p taken out, and a put in before place r
+abbrev pub takenOut : ℕ → List ℕ → List ℕ
+takenOut p o = take p o ++ drop (suc p) o
+
+abbrev pub putIn : ℕ → ℕ → List ℕ → List ℕ
+putIn r a xs = take r xs ++ a ∷ drop r xs
+
+pub without-place : (a : ℕ) (o : List ℕ) → occurrences a o ≡ 1 → without a o ≡ takenOut (place o a) o
+unfolding keep occurrences sumOver one place
+without-place a [] e = refl
+without-place a (x ∷ xs) e = by-test (eqb a x) e (without-place a xs) (without-absent a xs)
+  where
+    by-test : (b : Bool) → one b + occurrences a xs ≡ 1 → (occurrences a xs ≡ 1 → without a xs ≡ takenOut (place xs a) xs)
+        → (occurrences a xs ≡ 0 → without a xs ≡ xs)
+        → cond (not b) (x ∷ without a xs) (without a xs) ≡ takenOut (cond b 0 (suc (place xs a))) (x ∷ xs)
+    by-test true k r s = s (omega arith)
+    by-test false k r s = ap (λ (ys : List ℕ). x ∷ ys) (r (omega arith))
+
+pub inserted-place : (b a : ℕ) (xs : List ℕ) → 0 < occurrences b xs → insertAfter b a xs ≡ putIn (suc (place xs b)) a xs
+unfolding insertAfter occurrences sumOver one place
+inserted-place b a [] h = absurd (not-suc-le-zero h)
+inserted-place b a (x ∷ xs) h = by-test (eqb b x) h (inserted-place b a xs)
+  where
+    by-test : (t : Bool) → 0 < one t + occurrences b xs → (0 < occurrences b xs → insertAfter b a xs ≡ putIn (suc (place xs b)) a xs)
+        → cond t (x ∷ a ∷ xs) (x ∷ insertAfter b a xs) ≡ putIn (suc (cond t 0 (suc (place xs b)))) a (x ∷ xs)
+    by-test true k r = refl
+    by-test false k r = ap (λ (ys : List ℕ). x ∷ ys) (r (omega arith))
+
+-- how often v occurs in lists put together
+pub occurrences-append : (v : ℕ) (xs ys : List ℕ) → occurrences v (xs ++ ys) ≡ occurrences v xs + occurrences v ys
+unfolding occurrences
+occurrences-append v xs ys = sumOver-append (λ x. one (eqb v x)) xs ys
+
+occurrences-cons : (v x : ℕ) (xs : List ℕ) → occurrences v (x ∷ xs) ≡ one (eqb v x) + occurrences v xs
+unfolding occurrences sumOver
+occurrences-cons v x xs = refl
+
+-- taking out the entry at a place, and putting one in, by length and by how often each vertex occurs
+length-takenOut : (p : ℕ) (o : List ℕ) → p < length o → suc (length (takenOut p o)) ≡ length o
+length-takenOut p o h = rw (length-append (take p o) (drop (suc p) o), length-take-le p o (omega arith), length-drop (suc p) o) (omega arith)
+
+length-putIn : (r a : ℕ) (xs : List ℕ) → r ≤ length xs → length (putIn r a xs) ≡ suc (length xs)
+length-putIn r a xs h = rw (length-append (take r xs) (a ∷ drop r xs), length-take-le r xs h, length-drop r xs) (omega arith)
+
+occurrences-takenOut : (v p : ℕ) (o : List ℕ) → p < length o → occurrences v o ≡ one (eqb v (at o p)) + occurrences v (takenOut p o)
+occurrences-takenOut v p o h =
+    ap (occurrences v) (split-at o p 0 h)
+    ∙ rw (occurrences-append v (take p o) (at o p ∷ drop (suc p) o), occurrences-cons v (at o p) (drop (suc p) o), occurrences-append v (take p o) (drop (suc p) o)) (omega arith)
+
+occurrences-putIn : (v r a : ℕ) (xs : List ℕ) → occurrences v (putIn r a xs) ≡ one (eqb v a) + occurrences v xs
+occurrences-putIn v r a xs =
+    rw (occurrences-append v (take r xs) (a ∷ drop r xs), occurrences-cons v a (drop r xs))
+    (omega (arith, occurrences-append v (take r xs) (drop r xs), ap (occurrences v) (take-append-drop r xs)))
+
+-- and entry by entry
+at-left : (xs ys : List ℕ) (m i : ℕ) → length xs ≡ m → i < m → at (xs ++ ys) i ≡ at xs i
+at-left xs ys m i e h = List·getD-append xs ys 0 i (omega arith)
+
+pub at-right : (xs ys : List ℕ) (m i : ℕ) → length xs ≡ m → at (xs ++ ys) (m + i) ≡ at ys i
+at-right xs ys m i e = ap (λ (k : ℕ). at (xs ++ ys) (k + i)) (sym e) ∙ getD-append-add xs ys i 0
+
+module _ (p : ℕ) (o : List ℕ) (h : p ≤ length o) where
+  takenOut-before : (i : ℕ) → i < p → at (takenOut p o) i ≡ at o i
+  takenOut-before i l = at-left (take p o) (drop (suc p) o) p i (length-take-le p o h) l ∙ getD-take p o i 0 l
+
+  takenOut-after : (i : ℕ) → p ≤ i → at (takenOut p o) i ≡ at o (suc i)
+  takenOut-after i l =
+      ap (at (takenOut p o)) (sym (add-sub-of-le l))
+      ∙ at-right (take p o) (drop (suc p) o) p (i - p) (length-take-le p o h)
+      ∙ getD-drop (suc p) o (i - p) 0
+      ∙ ap (at o) (omega arith)
+
+module _ (r a : ℕ) (xs : List ℕ) (h : r ≤ length xs) where
+  putIn-before : (i : ℕ) → i < r → at (putIn r a xs) i ≡ at xs i
+  putIn-before i l = at-left (take r xs) (a ∷ drop r xs) r i (length-take-le r xs h) l ∙ getD-take r xs i 0 l
+
+  putIn-at : at (putIn r a xs) r ≡ a
+  putIn-at = getD-at (take r xs) a (drop r xs) 0 r (length-take-le r xs h)
+
+  putIn-after : (i : ℕ) → r ≤ i → at (putIn r a xs) (suc i) ≡ at xs i
+  putIn-after i l =
+      ap (at (putIn r a xs)) (omega arith)
+      ∙ at-right (take r xs) (a ∷ drop r xs) r (suc (i - r)) (length-take-le r xs h)
+      ∙ getD-drop r xs (i - r) 0
+      ∙ ap (at xs) (add-sub-of-le l)
+
+-- ---- a vertex moved in a list that holds each once
+
+-- the place of the list before, of the entry that stands at place i once the entry at place p is moved behind the one at place q
+unfoldable pub movedFrom : ℕ → ℕ → ℕ → ℕ
+movedFrom p q i =
+    cond (ltb q p)
+    (cond (leb i q) i (cond (eqb i (suc q)) p (cond (leb i p) (i - 1) i)))
+    (cond (ltb i p) i (cond (ltb i q) (suc i) (cond (eqb i q) p i)))
+
+-- moved back, behind an earlier entry
+module _ (p q : ℕ) (h : q < p) where
+  pub back-kept : (i : ℕ) → i ≤ q → movedFrom p q i ≡ i
+  unfolding movedFrom
+  back-kept i l = rw (lt-ltb q p h, le-leb i q l)
+
+  pub back-put : movedFrom p q (suc q) ≡ p
+  unfolding movedFrom
+  back-put = rw (lt-ltb q p h, lt-leb (suc q) q (omega arith), eq-eqb (suc q) (suc q) refl)
+
+  pub back-shifted : (i : ℕ) → q < i → i < p → movedFrom p q (suc i) ≡ i
+  unfolding movedFrom
+  back-shifted i l m =
+      rw (lt-ltb q p h, lt-leb (suc i) q (omega arith), ne-eqb (suc i) (suc q) (λ e. omega arith), le-leb (suc i) p m) (omega arith)
+
+  pub back-beyond : (i : ℕ) → p < i → movedFrom p q i ≡ i
+  unfolding movedFrom
+  back-beyond i l = rw (lt-ltb q p h, lt-leb i q (omega arith), ne-eqb i (suc q) (λ e. omega arith), lt-leb i p l)
+
+-- moved on, behind a later entry
+module _ (p q : ℕ) (h : p < q) where
+  pub on-kept : (i : ℕ) → i < p → movedFrom p q i ≡ i
+  unfolding movedFrom
+  on-kept i l = rw (le-ltb q p (omega arith), lt-ltb i p l)
+
+  pub on-shifted : (i : ℕ) → p ≤ i → i < q → movedFrom p q i ≡ suc i
+  unfolding movedFrom
+  on-shifted i l m = rw (le-ltb q p (omega arith), le-ltb i p l, lt-ltb i q m)
+
+  pub on-put : movedFrom p q q ≡ p
+  unfolding movedFrom
+  on-put = rw (le-ltb q p (omega arith), le-ltb q q (omega arith), eq-eqb q q refl)
+
+  pub on-beyond : (i : ℕ) → q < i → movedFrom p q i ≡ i
+  unfolding movedFrom
+  on-beyond i l = rw (le-ltb q p (omega arith), le-ltb i p (omega arith), le-ltb i q (omega arith), ne-eqb i q (λ e. omega arith))
+
+-- the entries of the list with its entry at place p moved, one by one
+module _ (p q a : ℕ) (o : List ℕ) (there : at o p ≡ a) where
+  entry-back : q < p → p < length o → (i : ℕ) → at (putIn (suc q) a (takenOut p o)) i ≡ at o (movedFrom p q i)
+  entry-back h l i =
+      elim (order i (suc q)) [
+        | less k ↦
+            putIn-before (suc q) a (takenOut p o) fits i k
+            ∙ takenOut-before p o (omega arith) i (omega arith)
+            ∙ ap (at o) (sym (back-kept p q h i (omega arith)))
+        | same e ↦
+            subst (λ (k : ℕ). at (putIn (suc q) a (takenOut p o)) k ≡ at o (movedFrom p q k)) (sym e)
+            (putIn-at (suc q) a (takenOut p o) fits ∙ sym there ∙ ap (at o) (sym (back-put p q h)))
+        | more k ↦
+            subst (λ (k : ℕ). at (putIn (suc q) a (takenOut p o)) k ≡ at o (movedFrom p q k)) (omega arith) (later (i - 1) (omega arith))
+      ]
+    where
+      fits : suc q ≤ length (takenOut p o)
+      fits = omega (arith, length-takenOut p o l)
+
+      later : (j : ℕ) → q < j → at (putIn (suc q) a (takenOut p o)) (suc j) ≡ at o (movedFrom p q (suc j))
+      later j k =
+          putIn-after (suc q) a (takenOut p o) fits j k
+          ∙ elim (order j p) [
+            | less m ↦ takenOut-before p o (omega arith) j m ∙ ap (at o) (sym (back-shifted p q h j k m))
+            | same e ↦ takenOut-after p o (omega arith) j (omega arith) ∙ ap (at o) (sym (back-beyond p q h (suc j) (omega arith)))
+            | more m ↦ takenOut-after p o (omega arith) j (omega arith) ∙ ap (at o) (sym (back-beyond p q h (suc j) (omega arith)))
+          ]
+
+  entry-on : p < q → q < length o → (i : ℕ) → at (putIn q a (takenOut p o)) i ≡ at o (movedFrom p q i)
+  entry-on h l i =
+      elim (order i q) [
+        | less k ↦
+            putIn-before q a (takenOut p o) fits i k
+            ∙ elim (order i p) [
+              | less m ↦ takenOut-before p o (omega arith) i m ∙ ap (at o) (sym (on-kept p q h i m))
+              | same e ↦ takenOut-after p o (omega arith) i (omega arith) ∙ ap (at o) (sym (on-shifted p q h i (omega arith) k))
+              | more m ↦ takenOut-after p o (omega arith) i (omega arith) ∙ ap (at o) (sym (on-shifted p q h i (omega arith) k))
+            ]
+        | same e ↦
+            subst (λ (k : ℕ). at (putIn q a (takenOut p o)) k ≡ at o (movedFrom p q k)) (sym e)
+            (putIn-at q a (takenOut p o) fits ∙ sym there ∙ ap (at o) (sym (on-put p q h)))
+        | more k ↦
+            subst (λ (k : ℕ). at (putIn q a (takenOut p o)) k ≡ at o (movedFrom p q k)) (omega arith) (later (i - 1) (omega arith))
+      ]
+    where
+      fits : q ≤ length (takenOut p o)
+      fits = omega (arith, length-takenOut p o (omega arith))
+
+      later : (j : ℕ) → q ≤ j → at (putIn q a (takenOut p o)) (suc j) ≡ at o (movedFrom p q (suc j))
+      later j k =
+          putIn-after q a (takenOut p o) fits j k
+          ∙ takenOut-after p o (omega arith) j (omega arith)
+          ∙ ap (at o) (sym (on-beyond p q h (suc j) (omega arith)))
+
+-- a vertex that occurs once stands at one place
+place-unique : (xs : List ℕ) (v i : ℕ) → i < length xs → at xs i ≡ v → occurrences v xs ≡ 1 → place xs v ≡ i
+place-unique xs v i h e k = ap (place xs) (sym e) ∙ place-at xs i h (ap (λ (x : ℕ). occurrences x xs) e ∙ k)
+
+module _ {n : ℕ} {o : List ℕ} (perm : Permutation n o) (a : ℕ) (ha : a < n) where
+  -- the list without a
+  taken : without a o ≡ takenOut (place o a) o
+  taken = without-place a o (perm .once a ha)
+
+  place-a : place o a < length o
+  place-a = place-lt o a (omega (arith, perm .once a ha))
+
+  -- its length, and how often each vertex occurs in it
+  rest-length : suc (length (takenOut (place o a) o)) ≡ n
+  rest-length = length-takenOut (place o a) o place-a ∙ perm .size
+
+  pub rest-occurrences : (v : ℕ) → occurrences v o ≡ one (eqb v a) + occurrences v (takenOut (place o a) o)
+  rest-occurrences v =
+      occurrences-takenOut v (place o a) o place-a
+      ∙ ap (λ (x : ℕ). one (eqb v x) + occurrences v (takenOut (place o a) o)) (at-of-place perm a ha)
+
+  module _ (b : ℕ) (hb : b < n) (d : a ≡ b → ⊥) where
+    rest-once : occurrences b (takenOut (place o a) o) ≡ 1
+    rest-once = omega (arith, rest-occurrences b, one-ne b a (λ e. d (sym e)), perm .once b hb)
+
+    moved-put : movedAfter a b o ≡ putIn (suc (place (takenOut (place o a) o) b)) a (takenOut (place o a) o)
+    unfolding movedAfter
+    moved-put = ap (insertAfter b a) taken ∙ inserted-place b a (takenOut (place o a) o) (omega (arith, rest-once))
+
+    behind-b : place (takenOut (place o a) o) b < length (takenOut (place o a) o)
+    behind-b = place-lt (takenOut (place o a) o) b (omega (arith, rest-once))
+
+    -- each vertex is still held once
+    pub moved-permutation : Permutation n (movedAfter a b o)
+    moved-permutation =
+        record {
+          size =
+              ap length moved-put
+              ∙ length-putIn (suc (place (takenOut (place o a) o) b)) a (takenOut (place o a) o) behind-b
+              ∙ rest-length;
+          once = λ v h.
+              ap (occurrences v) moved-put
+              ∙ occurrences-putIn v (suc (place (takenOut (place o a) o) b)) a (takenOut (place o a) o)
+              ∙ sym (rest-occurrences v)
+              ∙ perm .once v h;
+        }
+
+    -- where b stands once a is taken out
+    place-back : place o b < place o a → place (takenOut (place o a) o) b ≡ place o b
+    place-back l =
+        place-unique (takenOut (place o a) o) b (place o b) (omega (arith, rest-length, perm .size, place-a))
+        (takenOut-before (place o a) o (omega (arith, place-a)) (place o b) l ∙ at-of-place perm b hb) rest-once
+
+    place-on : place o a < place o b → suc (place (takenOut (place o a) o) b) ≡ place o b
+    place-on l =
+        ap suc (place-unique (takenOut (place o a) o) b (place o b - 1) (omega (arith, rest-length, place-below perm b hb))
+        (takenOut-after (place o a) o (omega (arith, place-a)) (place o b - 1) (omega arith)
+        ∙ ap (at o) (omega arith) ∙ at-of-place perm b hb) rest-once)
+        ∙ omega arith
+
+    -- where the entry at each place comes from
+    pub moved-entry : (i : ℕ) → at (movedAfter a b o) i ≡ at o (movedFrom (place o a) (place o b) i)
+    moved-entry i =
+        ap (λ (xs : List ℕ). at xs i) moved-put
+        ∙ elim (order (place o a) (place o b)) [
+          | less l ↦
+              ap (λ (r : ℕ). at (putIn r a (takenOut (place o a) o)) i) (place-on l)
+              ∙ entry-on (place o a) (place o b) a o (at-of-place perm a ha) l (omega (arith, perm .size, place-below perm b hb)) i
+          | same e ↦ absurd (d (sym (at-of-place perm a ha) ∙ ap (at o) e ∙ at-of-place perm b hb))
+          | more l ↦
+              ap (λ (r : ℕ). at (putIn (suc r) a (takenOut (place o a) o)) i) (place-back l)
+              ∙ entry-back (place o a) (place o b) a o (at-of-place perm a ha) l place-a i
+        ]
+
+    -- a list with these entries is the moved list
+    pub moved-is : (xs : List ℕ) → length xs ≡ n → ((i : ℕ) → i < n → at xs i ≡ at o (movedFrom (place o a) (place o b) i)) → xs ≡ movedAfter a b o
+    moved-is xs e h =
+        ext-getD 0 xs (movedAfter a b o) (e ∙ sym (moved-permutation .size)) (λ i l. h i (omega arith) ∙ sym (moved-entry i))
+
+-- the same for the vertices at two places
+pub moved-places : {n : ℕ} {o : List ℕ} → Permutation n o → (p q : ℕ) → p < n → q < n → (p ≡ q → ⊥)
+    → (i : ℕ) → at (movedAfter (at o p) (at o q) o) i ≡ at o (movedFrom p q i)
+moved-places {n} {o} perm p q hp hq d i =
+    moved-entry perm (at o p) (at-lt perm p hp) (at o q) (at-lt perm q hq)
+    (λ e. d (sym (place-of-at perm p hp) ∙ ap (place o) e ∙ place-of-at perm q hq)) i
+    ∙ ap₂ (λ (x y : ℕ). at o (movedFrom x y i)) (place-of-at perm p hp) (place-of-at perm q hq)
+
+-- ---- tests of every entry, from the entries
+
+pub and-both : (a b : Bool) → T a → T b → T (a && b)
+and-both true b t u = u
+and-both false b t u = t
+
+module _ {A : Type 0} where
+  pub all-every : (p : A → Bool) {xs : List A} → All (λ x. T (p x)) xs → T (every p xs)
+  unfolding every
+  all-every p none = tt
+  all-every p (also {x} {xs} t ts) = and-both (p x) (every p xs) t (all-every p ts)
+
+  pub all-kept : (p : A → Bool) (xs : List A) → All (λ x. T (p x)) (keep p xs)
+  unfolding keep
+  all-kept p [] = none
+  all-kept p (x ∷ xs) = by-test (p x) refl (all-kept p xs)
+    where
+      by-test : (b : Bool) → p x ≡ b → All (λ x. T (p x)) (keep p xs) → All (λ x. T (p x)) (cond b (x ∷ keep p xs) (keep p xs))
+      by-test true e r = also (subst T (sym e) tt) r
+      by-test false e r = r
+
+  every-ext : {P : A → Type 0} (p q : A → Bool) {xs : List A} → All P xs → ((x : A) → P x → p x ≡ q x) → every p xs ≡ every q xs
+  unfolding every
+  every-ext p q none h = refl
+  every-ext p q (also {x} t ts) h = ap₂ (λ (a b : Bool). a && b) (h x t) (every-ext p q ts h)
+
+pub every-below : (p : ℕ → Bool) (n : ℕ) → ((i : ℕ) → i < n → T (p i)) → T (every p (upto n))
+every-below p n h = all-every p (all-mono (all-upto n) h)
+
+-- the order of a valid layout may be any that holds each vertex once
+pub permutation-eachOnce : {n : ℕ} {o : List ℕ} → Permutation n o → T (eachOnce n o)
+unfolding eachOnce
+permutation-eachOnce {n} {o} perm = every-below (λ v. eqb (occurrences v o) 1) n (λ v h. rw (eq-eqb (occurrences v o) 1 (perm .once v h)) tt)
+
+-- whether the unused places are 0 asks only for these places
+pub zeroFrom-ext : (n : ℕ) (xs ys : List ℕ) → ((i : ℕ) → n ≤ i → at xs i ≡ at ys i) → zeroFrom n xs ≡ zeroFrom n ys
+unfolding zeroFrom
+zeroFrom-ext n xs ys h =
+    every-ext (λ i. eqb (at xs i) 0) (λ i. eqb (at ys i) 0) (all-kept (λ i. leb n i) (upto capacity))
+    (λ i t. ap (λ (x : ℕ). eqb x 0) (h i (leb→le n i t)))
+
+-- ---- a layout with another order
+
+module _ (l : Layout) (o : List ℕ) where
+  pub reordered-n : reordered l o .n ≡ l .n
+  unfolding reordered changed
+  reordered-n = refl
+
+  pub reordered-adjacency : reordered l o .adjacency ≡ l .adjacency
+  unfolding reordered changed
+  reordered-adjacency = refl
+
+  pub reordered-order : length o ≡ l .n → vertexOrder (reordered l o) ≡ o
+  unfolding reordered changed vertexOrder
+  reordered-order e = take-at o (drop (l .n) (l .order)) (l .n) e
+
+  pub reordered-crossings : length o ≡ l .n → crossingsOf (reordered l o) ≡ crossings (l .n) o (l .adjacency)
+  unfolding reordered changed crossingsOf
+  reordered-crossings e = ap (λ (x : List ℕ). crossings (l .n) x (l .adjacency)) (reordered-order e)
+
+  pub reordered-valid : T (valid l) → Permutation (l .n) o → T (valid (reordered l o))
+  unfolding reordered changed valid
+  reordered-valid t perm = rw (once, unused) t
+    where
+      once : eachOnce (l .n) (vertexOrder (reordered l o)) ≡ eachOnce (l .n) (vertexOrder l)
+      once =
+          ap (eachOnce (l .n)) (reordered-order (perm .size))
+          ∙ T-true (eachOnce (l .n) o) (permutation-eachOnce perm)
+          ∙ sym (T-true (eachOnce (l .n) (vertexOrder l)) (permutation-eachOnce (sound l t .permutation)))
+
+      unused : zeroFrom (l .n) (o ++ drop (l .n) (l .order)) ≡ zeroFrom (l .n) (l .order)
+      unused =
+          zeroFrom-ext (l .n) (o ++ drop (l .n) (l .order)) (l .order)
+          (λ i h.
+          ap (at (o ++ drop (l .n) (l .order))) (sym (add-sub-of-le h))
+          ∙ at-right o (drop (l .n) (l .order)) (l .n) (i - l .n) (perm .size)
+          ∙ getD-drop (l .n) (l .order) (i - l .n) 0
+          ∙ ap (at (l .order)) (add-sub-of-le h))
+
+-- ---- the carried count
+
+-- a right count stays right
+pub carried-right : (before after : ℕ) → before < modulus → after < modulus → carried before before after ≡ after
+unfolding carried
+carried-right before after h l = omega arith
+
+-- two changes, one after the other, are one
+pub carried-carried : (count before between after : ℕ) → carried (carried count before between) between after ≡ carried count before after
+unfolding carried
+carried-carried count before between after = omega arith
+
+pub carried-lt : (count before after : ℕ) → carried count before after < modulus
+unfolding carried
+carried-lt count before after = omega arith
+
+pub carried-same : (count before : ℕ) → count < modulus → carried count before before ≡ count
+unfolding carried
+carried-same count before h = omega arith
+
+pub crossings-fit : (l : Layout) → T (valid l) → crossingsOf l < modulus
+crossings-fit l t = omega (arith, crossings-bound l t)
+
+-- the count of a layout is its crossings
+abbrev pub CountRight : Layout → Type 0
+CountRight l = l .count ≡ crossingsOf l
+
+-- where that holds of a valid layout, it holds of the valid layout that a call makes of it
+pub changed-count : (l : Layout) (n : ℕ) (places adj : List ℕ) → T (valid l) → T (valid (changed l n places adj))
+    → CountRight l → CountRight (changed l n places adj)
+unfolding changed crossingsOf vertexOrder
+changed-count l n places adj t u e =
+    ap (λ (c : ℕ). carried c (crossingsOf l) (crossings n (take n places) adj)) e
+    ∙ carried-right (crossingsOf l) (crossings n (take n places) adj) (crossings-fit l t) (crossings-fit (changed l n places adj) u)
+
+-- a call that returns m for l leaves a valid layout valid, and a right count right
+abbrev pub Keeps : Layout → Layout → Type 0
+Keeps l m = T (valid l) → T (valid m) × (CountRight l → CountRight m)
+
+pub same-keeps : {l m : Layout} → m ≡ l → Keeps l m
+same-keeps e t = (subst (λ (k : Layout). T (valid k)) (sym e) t, λ c. subst (λ (k : Layout). CountRight k) (sym e) c)
+
+pub changed-keeps : (l : Layout) (n : ℕ) (places adj : List ℕ) → T (valid (changed l n places adj)) → Keeps l (changed l n places adj)
+changed-keeps l n places adj u t = (u, changed-count l n places adj t u)
+
+-- a layout with the order that it has is the same layout
+pub reordered-present : (l : Layout) → l .count < modulus → reordered l (vertexOrder l) ≡ l
+unfolding reordered changed vertexOrder crossingsOf
+reordered-present l h = λ i. record { n = l .n; order = parts i; adjacency = l .adjacency; count = counts i }
+  where
+    parts : take (l .n) (l .order) ++ drop (l .n) (l .order) ≡ l .order
+    parts = take-append-drop (l .n) (l .order)
+
+    counts : carried (l .count) (crossingsOf l) (crossings (l .n) (take (l .n) (take (l .n) (l .order) ++ drop (l .n) (l .order))) (l .adjacency)) ≡ l .count
+    counts =
+        ap (λ (xs : List ℕ). carried (l .count) (crossingsOf l) (crossings (l .n) (take (l .n) xs) (l .adjacency))) parts
+        ∙ carried-same (l .count) (crossingsOf l) h
+
+-- ---- the checks of a call
+
+-- an accepted call passed each check
+pub check-passed : (c : Check) (cs : List Check) → (c .code ≡ 0 → ⊥) → refusal (c ∷ cs) ≡ 0 → T (c .passes) × (refusal cs ≡ 0)
+unfolding refusal
+check-passed c cs d e = by-test (c .passes) e
+  where
+    by-test : (b : Bool) → cond b (refusal cs) (c .code) ≡ 0 → T b × (refusal cs ≡ 0)
+    by-test true k = (tt, k)
+    by-test false k = absurd (d k)
+
+-- and a call that passes each is accepted
+pub all-passed : {cs : List Check} → All (λ c. T (c .passes)) cs → refusal cs ≡ 0
+unfolding refusal
+all-passed none = refl
+all-passed (also {x = c} {xs = cs} t ts) = ap (λ (b : Bool). cond b (refusal cs) (c .code)) (T-true (c .passes) t) ∙ all-passed ts
+
+module _ {A : Type 0} (cs : List Check) (accepted : A) (refused : ℕ → A) where
+  pub checked-accepted : refusal cs ≡ 0 → checked cs accepted refused ≡ accepted
+  unfolding checked byRefusal
+  checked-accepted e = ap (λ (r : ℕ). byRefusal r accepted refused) e
+
+  pub checked-refused : (refusal cs ≡ 0 → ⊥) → checked cs accepted refused ≡ refused (refusal cs)
+  unfolding checked byRefusal
+  checked-refused d = by-number (refusal cs) d
+    where
+      by-number : (r : ℕ) → (r ≡ 0 → ⊥) → byRefusal r accepted refused ≡ refused r
+      by-number zero k = absurd (k refl)
+      by-number (suc r) k = refl
+
+  -- the number that comes back is that of the checks
+  pub checked-number : (number : A → ℕ) → number accepted ≡ 0 → ((r : ℕ) → number (refused r) ≡ r)
+      → number (checked cs accepted refused) ≡ refusal cs
+  unfolding checked byRefusal
+  checked-number number z s = by-number (refusal cs)
+    where
+      by-number : (r : ℕ) → number (byRefusal r accepted refused) ≡ r
+      by-number zero = z
+      by-number (suc r) = s (suc r)
+
+-- ---- the call move
+
+module _ (l : Layout) (a b : ℕ) where
+  move-number : moveOf l a b .refusal ≡ refusal (moveChecks l a b)
+  unfolding moveOf changedOr
+  move-number =
+      checked-number (moveChecks l a b)
+      (record { refusal = 0; layout = reordered l (movedAfter a b (vertexOrder l)) }) (λ r. record { refusal = r; layout = l })
+      (λ (c : Changed). c .refusal) refl (λ r. refl)
+
+  -- what an accepted move may count on
+  pub move-passed : moveOf l a b .refusal ≡ 0 → T (valid l) × (a < l .n) × (b < l .n) × (a ≡ b → ⊥)
+  unfolding moveChecks isValid isVertex differ
+  move-passed e =
+      let first = check-passed (isValid l) (isVertex l a ∷ isVertex l b ∷ differ a b ∷ []) (λ k. omega arith) (sym move-number ∙ e) in
+      let second = check-passed (isVertex l a) (isVertex l b ∷ differ a b ∷ []) (λ k. omega arith) (first .1) in
+      let third = check-passed (isVertex l b) (differ a b ∷ []) (λ k. omega arith) (second .1) in
+      let last = check-passed (differ a b) [] (λ k. omega arith) (third .1) in
+      (first .0, ltb→lt a (l .n) (second .0), ltb→lt b (l .n) (third .0), λ k. T-not (eqb a b) (last .0) (subst T (sym (eq-eqb a b k)) tt))
+
+  -- and a move that may count on it is accepted
+  pub move-accepted : T (valid l) → a < l .n → b < l .n → (a ≡ b → ⊥)
+      → moveOf l a b ≡ record { refusal = 0; layout = reordered l (movedAfter a b (vertexOrder l)) }
+  unfolding moveOf changedOr moveChecks isValid isVertex differ
+  move-accepted t h k d =
+      checked-accepted (moveChecks l a b)
+      (record { refusal = 0; layout = reordered l (movedAfter a b (vertexOrder l)) }) (λ r. record { refusal = r; layout = l })
+      (all-passed (also t (also (lt→ltb a (l .n) h) (also (lt→ltb b (l .n) k) (also (not-T (eqb a b) (λ e. d (eqb→eq a b e))) none)))))
+
+  pub move-refused : (moveOf l a b .refusal ≡ 0 → ⊥) → moveOf l a b ≡ record { refusal = moveOf l a b .refusal; layout = l }
+  unfolding moveOf changedOr
+  move-refused d =
+      checked-refused (moveChecks l a b)
+      (record { refusal = 0; layout = reordered l (movedAfter a b (vertexOrder l)) }) (λ r. record { refusal = r; layout = l })
+      (λ e. d (move-number ∙ e))
+      ∙ ap (λ (r : ℕ). record { refusal = r; layout = l }) (sym move-number)
+
+-- the layout that an accepted move gives
+module _ (l : Layout) (t : T (valid l)) (a : ℕ) (h : a < l .n) (b : ℕ) (k : b < l .n) (d : a ≡ b → ⊥) where
+  pub move-layout : moveOf l a b .layout ≡ reordered l (movedAfter a b (vertexOrder l))
+  move-layout = ap (λ (c : Changed). c .layout) (move-accepted l a b t h k d)
+
+  pub move-valid : T (valid (reordered l (movedAfter a b (vertexOrder l))))
+  move-valid = reordered-valid l (movedAfter a b (vertexOrder l)) t (moved-permutation (sound l t .permutation) a h b k d)
+
+  pub move-crossings : crossingsOf (moveOf l a b .layout) ≡ crossings (l .n) (movedAfter a b (vertexOrder l)) (l .adjacency)
+  move-crossings =
+      ap crossingsOf move-layout
+      ∙ reordered-crossings l (movedAfter a b (vertexOrder l)) (moved-permutation (sound l t .permutation) a h b k d .size)
+
+pub move-keeps : (l : Layout) (a b : ℕ) → Keeps l (moveOf l a b .layout)
+unfolding reordered
+move-keeps l a b =
+    elim (ℕ-discrete (moveOf l a b .refusal) 0) [
+      | yes e ↦ accepted (move-passed l a b e)
+      | no d ↦ same-keeps (ap (λ (c : Changed). c .layout) (move-refused l a b d))
+    ]
+  where
+    accepted : T (valid l) × (a < l .n) × (b < l .n) × (a ≡ b → ⊥) → Keeps l (moveOf l a b .layout)
+    accepted p =
+        rw (move-layout l (p .0) a (p .1) b (p .2) (p .3))
+        (changed-keeps l (l .n) (movedAfter a b (vertexOrder l) ++ drop (l .n) (l .order)) (l .adjacency) (move-valid l (p .0) a (p .1) b (p .2) (p .3)))

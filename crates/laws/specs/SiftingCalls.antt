@@ -1,0 +1,157 @@
+-- The calls sift, round and settle: what an accepted one may count on and gives, and that a refused one changes nothing.
+use Prim.Native.Nat.{ℕ, zero, suc, _≤_, _<_}
+use native.Mathlib.Omega.{arith}
+use mathlib.Core.Path.{_≡_, refl, sym, ap, _∙_}
+use mathlib.Core.Bool.{false}
+use mathlib.Core.List.{List, [], _∷_}
+use native.Mathlib.Decide.{ℕ-discrete}
+use lib.Dec.{T, leb, leb→le, le→leb, ltb→lt, lt→ltb}
+use Rattle.model.specs.declared.Layout.{Layout}
+use Rattle.model.specs.declared.Sifted.{Sifted}
+use Rattle.model.specs.declared.Rounded.{Rounded}
+use Rattle.model.specs.declared.Converged.{Converged}
+use Rattle.model.specs.Lists.{upto}
+use Rattle.model.specs.Layouts.{valid}
+use Rattle.model.specs.Checks.{refusal, isValid, isVertex, limitFits}
+use Rattle.model.specs.Sifting.{sifted, reduction, siftChecks, siftOf, siftAll, siftRound, roundOf, stopped, afterRound, roundsUpTo, settleChecks, settleOf}
+use Rattle.laws.specs.Indicators.{and-left, and-right}
+use Rattle.laws.specs.ListSums.{none, also}
+use Rattle.laws.specs.Moving.{and-both, Keeps, same-keeps, check-passed, all-passed, checked-accepted, checked-refused, checked-number}
+use Rattle.laws.specs.Sifting.{Improved, improved-count}
+use Rattle.laws.specs.SiftingRounds.{ProperSift, proper-sift, ProperRound, proper-round, roundsOf, Settling, settling, rounds-run}
+
+improved-keeps : {l m : Layout} → Improved l m → Keeps l m
+improved-keeps p t = (p .valid-after, improved-count t p)
+
+-- ---- sift
+
+module _ (l : Layout) (u : ℕ) where
+  abbrev siftAnswer : Sifted
+  siftAnswer = record { refusal = 0; layout = sifted l u; reduction = reduction l (sifted l u) }
+
+  abbrev siftRefusal : ℕ → Sifted
+  siftRefusal r = record { refusal = r; layout = l; reduction = 0 }
+
+  sift-number : siftOf l u .refusal ≡ refusal (siftChecks l u)
+  unfolding siftOf
+  sift-number = checked-number (siftChecks l u) siftAnswer siftRefusal (λ (s : Sifted). s .refusal) refl (λ r. refl)
+
+  pub sift-passed : siftOf l u .refusal ≡ 0 → T (valid l) × (u < l .n)
+  unfolding siftChecks isValid isVertex
+  sift-passed e =
+      let first = check-passed (isValid l) (isVertex l u ∷ []) (λ k. omega arith) (sym sift-number ∙ e) in
+      let second = check-passed (isVertex l u) [] (λ k. omega arith) (first .1) in
+      (first .0, ltb→lt u (l .n) (second .0))
+
+  pub sift-accepted : T (valid l) → u < l .n
+      → siftOf l u ≡ record { refusal = 0; layout = sifted l u; reduction = reduction l (sifted l u) }
+  unfolding siftOf siftChecks isValid isVertex
+  sift-accepted t h = checked-accepted (siftChecks l u) siftAnswer siftRefusal (all-passed (also t (also (lt→ltb u (l .n) h) none)))
+
+  pub sift-refused : (siftOf l u .refusal ≡ 0 → ⊥) → siftOf l u ≡ record { refusal = siftOf l u .refusal; layout = l; reduction = 0 }
+  unfolding siftOf
+  sift-refused d =
+      checked-refused (siftChecks l u) siftAnswer siftRefusal (λ e. d (sift-number ∙ e)) ∙ ap siftRefusal (sym sift-number)
+
+  -- an accepted sift
+  pub sift-call : siftOf l u .refusal ≡ 0
+      → ProperSift (record { before = l; vertex = u })
+      × (siftOf l u ≡ record { refusal = 0; layout = sifted l u; reduction = reduction l (sifted l u) })
+  sift-call e =
+      let passed = sift-passed e in
+      (proper-sift l (passed .0) u (passed .1), sift-accepted (passed .0) (passed .1))
+
+  pub sift-keeps : Keeps l (siftOf l u .layout)
+  sift-keeps =
+      elim (ℕ-discrete (siftOf l u .refusal) 0) [
+        | yes e ↦ rw (sift-call e .1) (improved-keeps (sift-call e .0 .improved))
+        | no d ↦ same-keeps (ap (λ (s : Sifted). s .layout) (sift-refused d))
+      ]
+
+-- ---- round
+
+all-refusal : (us : List ℕ) (l : Layout) → siftAll us l .refusal ≡ 0
+unfolding siftAll
+all-refusal [] l = refl
+all-refusal (u ∷ us) l = refl
+
+module _ (l : Layout) where
+  abbrev roundRefusal : ℕ → Rounded
+  roundRefusal r = record { refusal = r; layout = l; reduction = 0; moved = 0 }
+
+  round-number : roundOf l .refusal ≡ refusal (isValid l ∷ [])
+  unfolding roundOf siftRound
+  round-number = checked-number (isValid l ∷ []) (siftRound l) roundRefusal (λ (r : Rounded). r .refusal) (all-refusal (upto (l .n)) l) (λ r. refl)
+
+  pub round-passed : roundOf l .refusal ≡ 0 → T (valid l)
+  unfolding isValid
+  round-passed e = check-passed (isValid l) [] (λ k. omega arith) (sym round-number ∙ e) .0
+
+  pub round-accepted : T (valid l) → roundOf l ≡ siftRound l
+  unfolding roundOf isValid
+  round-accepted t = checked-accepted (isValid l ∷ []) (siftRound l) roundRefusal (all-passed (also t none))
+
+  pub round-refused : (roundOf l .refusal ≡ 0 → ⊥) → roundOf l ≡ record { refusal = roundOf l .refusal; layout = l; reduction = 0; moved = 0 }
+  unfolding roundOf
+  round-refused d =
+      checked-refused (isValid l ∷ []) (siftRound l) roundRefusal (λ e. d (round-number ∙ e)) ∙ ap roundRefusal (sym round-number)
+
+  -- an accepted round
+  pub round-call : roundOf l .refusal ≡ 0 → ProperRound l × (roundOf l ≡ siftRound l)
+  round-call e = (proper-round l (round-passed e), round-accepted (round-passed e))
+
+  pub round-keeps : Keeps l (roundOf l .layout)
+  round-keeps =
+      elim (ℕ-discrete (roundOf l .refusal) 0) [
+        | yes e ↦ rw (round-call e .1) (improved-keeps (round-call e .0 .improved))
+        | no d ↦ same-keeps (ap (λ (r : Rounded). r .layout) (round-refused d))
+      ]
+
+-- ---- settle
+
+rounds-refusal : (limit : ℕ) (l : Layout) → roundsUpTo limit l .refusal ≡ 0
+unfolding roundsUpTo stopped afterRound
+rounds-refusal zero l = refl
+rounds-refusal (suc limit) l = refl
+
+module _ (l : Layout) (limit : ℕ) where
+  abbrev settleRefusal : ℕ → Converged
+  settleRefusal r = record { refusal = r; layout = l; reduction = 0; rounds = 0; converged = false }
+
+  settle-number : settleOf l limit .refusal ≡ refusal (settleChecks l limit)
+  unfolding settleOf
+  settle-number =
+      checked-number (settleChecks l limit) (roundsUpTo limit l) settleRefusal (λ (c : Converged). c .refusal) (rounds-refusal limit l) (λ r. refl)
+
+  pub settle-passed : settleOf l limit .refusal ≡ 0 → T (valid l) × (1 ≤ limit) × (limit ≤ 1000)
+  unfolding settleChecks isValid limitFits
+  settle-passed e =
+      let first = check-passed (isValid l) (limitFits limit ∷ []) (λ k. omega arith) (sym settle-number ∙ e) in
+      let second = check-passed (limitFits limit) [] (λ k. omega arith) (first .1) in
+      (first .0, leb→le 1 limit (and-left (leb 1 limit) (leb limit 1000) (second .0)), leb→le limit 1000 (and-right (leb 1 limit) (leb limit 1000) (second .0)))
+
+  pub settle-accepted : T (valid l) → 1 ≤ limit → limit ≤ 1000 → settleOf l limit ≡ roundsUpTo limit l
+  unfolding settleOf settleChecks isValid limitFits
+  settle-accepted t h k =
+      checked-accepted (settleChecks l limit) (roundsUpTo limit l) settleRefusal
+      (all-passed (also t (also (and-both (leb 1 limit) (leb limit 1000) (le→leb 1 limit h) (le→leb limit 1000 k)) none)))
+
+  pub settle-refused : (settleOf l limit .refusal ≡ 0 → ⊥)
+      → settleOf l limit ≡ record { refusal = settleOf l limit .refusal; layout = l; reduction = 0; rounds = 0; converged = false }
+  unfolding settleOf
+  settle-refused d =
+      checked-refused (settleChecks l limit) (roundsUpTo limit l) settleRefusal (λ e. d (settle-number ∙ e)) ∙ ap settleRefusal (sym settle-number)
+
+  -- an accepted settling
+  pub settle-call : settleOf l limit .refusal ≡ 0
+      → Settling limit l (roundsUpTo limit l) (roundsOf limit l) × (1 ≤ roundsUpTo limit l .rounds) × (settleOf l limit ≡ roundsUpTo limit l)
+  settle-call e =
+      let passed = settle-passed e in
+      (settling limit l (passed .0), rounds-run limit l (passed .1), settle-accepted (passed .0) (passed .1) (passed .2))
+
+  pub settle-keeps : Keeps l (settleOf l limit .layout)
+  settle-keeps =
+      elim (ℕ-discrete (settleOf l limit .refusal) 0) [
+        | yes e ↦ rw (settle-call e .2) (improved-keeps (settle-call e .0 .improved))
+        | no d ↦ same-keeps (ap (λ (c : Converged). c .layout) (settle-refused d))
+      ]
