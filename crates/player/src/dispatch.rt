@@ -1,0 +1,58 @@
+// One record of a list.
+ghost use mathlib.Core.Path.{_≡_};
+ghost use Prim.Native.Nat.{_≤_};
+ghost use lib.ListN.{length};
+ghost use Rattle.io.specs.Counts.{Counts};
+use crate::answer::Played;
+use crate::answer::silent;
+use crate::calls;
+use crate::fields;
+use crate::record::number;
+use crate::text::put_text;
+use model::Layout;
+
+// Plays a record, and ends the list at one that is cut short.
+pub fn play(l: Layout, record: &[u8], line: &mut [u8; 4096]) -> Played
+    ensures { λ r. ⌜ Counts (r .written) (now (line .exit)) ⌝ }
+{
+    if record.len() < 32 {
+        return end(l, line);
+    }
+    let op = number(record, 0);
+    let a = number(record, 8);
+    let b = number(record, 16);
+    play_op(l, op, a, b, line)
+}
+
+// What the table of ops says.
+fn play_op(l: Layout, op: u64, a: u64, b: u64, line: &mut [u8]) -> Played
+    requires { ⌜ length (now line) ≡ 4096 ⌝ }
+    ensures { λ r. ⌜ r .written ≤ 4096 ⌝ }
+{
+    match op {
+        0 => calls::empty(l, line),
+        2 => silent(fields::with_n(l, a)),
+        3 => silent(fields::with_place(l, a, b)),
+        4 => silent(fields::with_word(l, a, b)),
+        5 => silent(fields::with_count(l, a)),
+        16 => calls::add(l, line),
+        17 => calls::link(l, a, b, line),
+        18 => calls::unlink(l, a, b, line),
+        24 => calls::count(l, line),
+        25 => calls::order(l, a, b, line),
+        _ => end(l, line),
+    }
+}
+
+// The list ends here.
+fn end(l: Layout, line: &mut [u8]) -> Played
+    requires { ⌜ length (now line) ≡ 4096 ⌝ }
+    ensures { λ r. ⌜ r .written ≤ 4096 ⌝ }
+{
+    let written = put_text(line, 0, b"end\n");
+    Played {
+        layout: l,
+        written,
+        ended: true,
+    }
+}

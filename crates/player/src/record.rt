@@ -1,0 +1,30 @@
+// The numbers of a record: eight bytes each, low byte first.
+ghost use mathlib.Core.Path.{_≡_};
+ghost use Prim.Native.Nat.{_+_, _*_, _^_, _≤_, _<_};
+ghost use lib.ListN.{length};
+
+// The number from byte at on; 0 if the record has not so many bytes.
+pub fn number(bytes: &[u8], at: usize) -> u64 {
+    if bytes.len() < 8 {
+        return 0;
+    }
+    if bytes.len() - 8 < at {
+        return 0;
+    }
+    let high = half(bytes, at + 4);
+    half(bytes, at) + 4294967296 * high
+}
+
+fn half(bytes: &[u8], at: usize) -> u64
+    requires { ⌜ at + 4 ≤ length (now bytes) ⌝ }
+    ensures { λ r. ⌜ r < 2 ^ 32 ⌝ }
+{
+    let low = wide(bytes[at]) + 256 * wide(bytes[at + 1]);
+    low + 65536 * wide(bytes[at + 2]) + 16777216 * wide(bytes[at + 3])
+}
+
+fn wide(byte: u8) -> u64
+    ensures { λ r. ⌜ (r ≡ byte) × (r < 256) ⌝ }
+{
+    byte as u64
+}
