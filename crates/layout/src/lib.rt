@@ -4,6 +4,7 @@
 mod checks;
 mod counter;
 mod edges;
+mod moves;
 mod reading;
 mod recount;
 mod validity;
@@ -12,6 +13,9 @@ mod vertices;
 pub use counter::count_crossings;
 pub use edges::add_edge;
 pub use edges::remove_edge;
+pub use moves::move_after;
+pub use moves::moved;
+pub use moves::place_of;
 pub use reading::count;
 pub use reading::order;
 pub use recount::recounted;
