@@ -22,3 +22,4 @@ pub mod Sifting
 pub mod SiftingRounds
 pub mod SiftingCalls
 pub mod MovedPlaces
+pub mod SiftingWalk

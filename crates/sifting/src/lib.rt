@@ -1,0 +1,2 @@
+// Circular sifting (document 01: sift, round, settle).
+mod walk;
