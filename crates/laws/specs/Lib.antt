@@ -23,3 +23,4 @@ pub mod SiftingRounds
 pub mod SiftingCalls
 pub mod MovedPlaces
 pub mod SiftingWalk
+pub mod SiftingLoops

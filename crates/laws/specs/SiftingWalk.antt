@@ -38,10 +38,10 @@ module _ (f : List ℕ → ℕ) (o : List ℕ) where
   first-snoc p [] x t = absurd t
   first-snoc p (y ∷ ys) x t = by-test (p y) t (first-snoc p ys x)
     where
-    by-test : (b : Bool) → T (b || any p ys) → (T (any p ys) → firstWith p o (ys ++ (x ∷ [])) ≡ firstWith p o ys)
-        → cond b y (firstWith p o (ys ++ (x ∷ []))) ≡ cond b y (firstWith p o ys)
-    by-test true s r = refl
-    by-test false s r = r s
+      by-test : (b : Bool) → T (b || any p ys) → (T (any p ys) → firstWith p o (ys ++ (x ∷ [])) ≡ firstWith p o ys)
+          → cond b y (firstWith p o (ys ++ (x ∷ []))) ≡ cond b y (firstWith p o ys)
+      by-test true s r = refl
+      by-test false s r = r s
 
   -- a value below the least is new
   first-new : (xs : List (List ℕ)) (x : List ℕ) → f x < least f (f o) xs → firstWith (λ c. eqb (f c) (f x)) o (xs ++ (x ∷ [])) ≡ x
@@ -62,33 +62,35 @@ module _ (f : List ℕ → ℕ) (o : List ℕ) where
   pub best-better : {xs : List (List ℕ)} {best : List ℕ} {fewest : ℕ} → BestSoFar xs best fewest → (x : List ℕ) → f x < fewest
       → BestSoFar (xs ++ (x ∷ [])) x (f x)
   best-better {xs} {best} {fewest} b x h =
-      record
-      { fewest-is = sym (least-snoc (f o) xs x ∙ min-eq-right (omega (arith, b .fewest-is)))
-      ; chosen =
-          sym
-          (ap (λ (t : Bool). cond t (firstWith (λ c. eqb (f c) (f x)) o (xs ++ (x ∷ []))) o)
-          (lt-ltb (f x) (f o) (omega (arith, b .fewest-is, least-default f (f o) xs)))
-          ∙ first-new xs x (omega (arith, b .fewest-is)))
+      record {
+        fewest-is = sym (least-snoc (f o) xs x ∙ min-eq-right (omega (arith, b .fewest-is)));
+        chosen =
+            sym
+            (ap (λ (t : Bool). cond t (firstWith (λ c. eqb (f c) (f x)) o (xs ++ (x ∷ []))) o)
+            (lt-ltb (f x) (f o) (omega (arith, b .fewest-is, least-default f (f o) xs)))
+            ∙ first-new xs x (omega (arith, b .fewest-is)));
       }
 
   pub best-same : {xs : List (List ℕ)} {best : List ℕ} {fewest : ℕ} → BestSoFar xs best fewest → (x : List ℕ) → fewest ≤ f x
       → BestSoFar (xs ++ (x ∷ [])) best fewest
   best-same {xs} {best} {fewest} b x h =
-      record
-      { fewest-is = b .fewest-is ∙ sym (least-snoc (f o) xs x ∙ min-eq-left (omega (arith, b .fewest-is)))
-      ; chosen =
-          b .chosen
-          ∙ elim (order fewest (f o))
-          [ less l ↦
-              ap (cond' (ltb fewest (f o))) (sym (first-snoc (λ c. eqb (f c) fewest) xs x (least-some f (f o) xs fewest (sym (b .fewest-is)) l)))
-          | same e ↦ both-stay (omega arith)
-          | more l ↦ both-stay (omega arith) ]
+      record {
+        fewest-is = b .fewest-is ∙ sym (least-snoc (f o) xs x ∙ min-eq-left (omega (arith, b .fewest-is)));
+        chosen =
+            b .chosen
+            ∙ elim (order fewest (f o)) [
+              | less l ↦
+                  ap (cond' (ltb fewest (f o))) (sym (first-snoc (λ c. eqb (f c) fewest) xs x (least-some f (f o) xs fewest (sym (b .fewest-is)) l)))
+              | same e ↦ both-stay (omega arith)
+              | more l ↦ both-stay (omega arith)
+            ];
       }
     where
-    cond' : Bool → List ℕ → List ℕ
-    cond' t c = cond t c o
-    both-stay : f o ≤ fewest → cond (ltb fewest (f o)) (firstWith (λ c. eqb (f c) fewest) o xs) o ≡ cond (ltb fewest (f o)) (firstWith (λ c. eqb (f c) fewest) o (xs ++ (x ∷ []))) o
-    both-stay l = rw (le-ltb fewest (f o) l)
+      cond' : Bool → List ℕ → List ℕ
+      cond' t c = cond t c o
+
+      both-stay : f o ≤ fewest → cond (ltb fewest (f o)) (firstWith (λ c. eqb (f c) fewest) o xs) o ≡ cond (ltb fewest (f o)) (firstWith (λ c. eqb (f c) fewest) o (xs ++ (x ∷ []))) o
+      both-stay l = rw (le-ltb fewest (f o) l)
 
 -- ---- the candidates, one by one
 
@@ -121,16 +123,18 @@ module _ (n : ℕ) (places adj : List ℕ) (size : length places ≡ 64) (small 
       let below : p < n = place-below perm u h in
       elim (order (p + 1 + j) n) [ less b ↦ behind b | same e ↦ before below (omega arith) | more b ↦ before below (omega arith) ]
     where
-    behind : p + 1 + j < n → Clockwise j (cond (ltb (p + 1 + j) n) (p + 1 + j) (p + 1 + j - n))
-    behind b =
-        rw (lt-ltb (p + 1 + j) n b)
-        (b, λ e. omega arith, clockwise-behind perm u h j (omega arith) ∙ ap (λ (x : ℕ). at (take n places) (x + j)) (sym (add-one p)))
-    before : p < n → n ≤ p + 1 + j → Clockwise j (cond (ltb (p + 1 + j) n) (p + 1 + j) (p + 1 + j - n))
-    before below b =
-        rw (le-ltb (p + 1 + j) n b)
-        ( omega arith
-        , λ e. omega arith
-        , ap (at (clockwiseFrom u (take n places))) (omega arith) ∙ clockwise-before perm u h (p + 1 + j - n) (omega arith) )
+      behind : p + 1 + j < n → Clockwise j (cond (ltb (p + 1 + j) n) (p + 1 + j) (p + 1 + j - n))
+      behind b =
+          rw (lt-ltb (p + 1 + j) n b)
+          (b, λ e. omega arith, clockwise-behind perm u h j (omega arith) ∙ ap (λ (x : ℕ). at (take n places) (x + j)) (sym (add-one p)))
+
+      before : p < n → n ≤ p + 1 + j → Clockwise j (cond (ltb (p + 1 + j) n) (p + 1 + j) (p + 1 + j - n))
+      before below b =
+          rw (le-ltb (p + 1 + j) n b) (
+            omega arith,
+            λ e. omega arith,
+            ap (at (clockwiseFrom u (take n places))) (omega arith) ∙ clockwise-before perm u h (p + 1 + j - n) (omega arith),
+          )
 
   -- the array that moving by places makes of candidate j
   pub candidate-array : (j : ℕ) {r q : ℕ} {xs : List ℕ} → j + 1 < n → r ≡ place (take n places) u → q ≡ turned n r j
@@ -163,11 +167,11 @@ module _ (n : ℕ) (places adj : List ℕ) (size : length places ≡ 64) (small 
 
   pub walk-start : {fewest : ℕ} → fewest ≡ crossings n (take n places) adj → WalkUpTo n places adj u places fewest 0
   walk-start e =
-      record
-      { inside = omega arith
-      ; list = take n places
-      ; array = sym (take-append-drop n places)
-      ; so-far = rw e (best-none (λ c. crossings n c adj) (take n places))
+      record {
+        inside = omega arith;
+        list = take n places;
+        array = sym (take-append-drop n places);
+        so-far = rw e (best-none (λ c. crossings n c adj) (take n places));
       }
 
   next-candidates : (j : ℕ) → j + 1 < n → take (suc j) (candidates u (take n places)) ≡ take j (candidates u (take n places)) ++ (candidate n places u j ∷ [])
@@ -178,22 +182,22 @@ module _ (n : ℕ) (places adj : List ℕ) (size : length places ≡ 64) (small 
   module _ {best : List ℕ} {fewest j : ℕ} (w : WalkUpTo n places adj u best fewest j) (l : j + 1 < n) where
     pub walk-better : {xs : List ℕ} {c : ℕ} → xs ≡ candidate n places u j ++ drop n places → c ≡ crossings n (candidate n places u j) adj → c < fewest → WalkUpTo n places adj u xs c (j + 1)
     walk-better {xs} {c} x e b =
-        record
-        { inside = l
-        ; list = candidate n places u j
-        ; array = x
-        ; so-far =
-            rw (e, add-one j, next-candidates j l) (best-better (λ c. crossings n c adj) (take n places) (w .so-far) (candidate n places u j) (rw e at b))
+        record {
+          inside = l;
+          list = candidate n places u j;
+          array = x;
+          so-far =
+              rw (e, add-one j, next-candidates j l) (best-better (λ c. crossings n c adj) (take n places) (w .so-far) (candidate n places u j) (rw e at b));
         }
 
     pub walk-same : {c : ℕ} → c ≡ crossings n (candidate n places u j) adj → fewest ≤ c → WalkUpTo n places adj u best fewest (j + 1)
     walk-same {c} e b =
-        record
-        { inside = l
-        ; list = w .list
-        ; array = w .array
-        ; so-far =
-            rw (add-one j, next-candidates j l) (best-same (λ c. crossings n c adj) (take n places) (w .so-far) (candidate n places u j) (rw e at b))
+        record {
+          inside = l;
+          list = w .list;
+          array = w .array;
+          so-far =
+              rw (add-one j, next-candidates j l) (best-same (λ c. crossings n c adj) (take n places) (w .so-far) (candidate n places u j) (rw e at b));
         }
 
   pub walk-end : {best : List ℕ} {fewest j : ℕ} → WalkUpTo n places adj u best fewest j → n ≤ j + 1
@@ -201,9 +205,10 @@ module _ (n : ℕ) (places adj : List ℕ) (size : length places ≡ 64) (small 
   unfolding siftedOrder improves leastCrossings
   walk-end {best} {fewest} {j} w l =
       let all : take j (candidates u (take n places)) ≡ candidates u (take n places) = take-all j (candidates u (take n places)) (omega (arith, candidates-length)) in
-      let found : fewest ≡ least score (score (take n places)) (candidates u (take n places)) = rw all at (w .so-far .fewest-is) in
-      ( w .array ∙ ap (λ (x : List ℕ). x ++ drop n places) (rw (all, found) at (w .so-far .chosen))
-      , found )
+      let found : fewest ≡ least score (score (take n places)) (candidates u (take n places)) = rw all at (w .so-far .fewest-is) in (
+        w .array ∙ ap (λ (x : List ℕ). x ++ drop n places) (rw (all, found) at (w .so-far .chosen)),
+        found,
+      )
 
   -- what the counter answers for a candidate
   pub candidate-counted : Symmetric n (weight adj) → (j : ℕ) {xs : List ℕ} → j + 1 < n → xs ≡ candidate n places u j ++ drop n places
@@ -213,8 +218,8 @@ module _ (n : ℕ) (places adj : List ℕ) (size : length places ≡ 64) (small 
       let t = turned-vertex j l in
       let v = at (take n places) (turned n (place (take n places) u) j) in
       let moved : Permutation n (candidate n places u j) =
-          rw (t .2) (moved-permutation perm u h v (at-lt perm (turned n (place (take n places) u) j) (t .0))
-          (λ d. t .1 (ap (place (take n places)) d ∙ place-of-at perm (turned n (place (take n places) u) j) (t .0)))) in
+      rw (t .2) (moved-permutation perm u h v (at-lt perm (turned n (place (take n places) u) j) (t .0))
+      (λ d. t .1 (ap (place (take n places)) d ∙ place-of-at perm (turned n (place (take n places) u) j) (t .0)))) in
       let used : take n (candidate n places u j ++ drop n places) ≡ candidate n places u j = take-at (candidate n places u j) (drop n places) n (moved .size) in
       ap (λ (x : List ℕ). counted n x adj) e
       ∙ counted-crossings (record { small = small; permutation = rw used moved; symmetry = s })

@@ -10,6 +10,7 @@ mod recount;
 mod validity;
 mod vertices;
 
+pub use checks::vertex_refusal;
 pub use counter::count_crossings;
 pub use edges::add_edge;
 pub use edges::remove_edge;

@@ -48,10 +48,11 @@ add-loop c = omega (arith, c .loop .inv .0 .inside)
 
 turned-requires : tie.Need-turned-requires Inv-loop μ-loop
 turned-requires c κs =
-    let start = c .before .before .before .before .before .before in
-    ( start .pre .0 .small
-    , rw (c .before .before .before .before .place-of .ensures) (place-below (start .pre .0 .permutation) (start .args .u) (start .pre .1))
-    , c .loop-test .taken )
+    let start = c .before .before .before .before .before .before in (
+      start .pre .0 .small,
+      rw (c .before .before .before .before .place-of .ensures) (place-below (start .pre .0 .permutation) (start .args .u) (start .pre .1)),
+      c .loop-test .taken,
+    )
 
 moved-requires : tie.Need-moved-requires Inv-loop μ-loop
 moved-requires c κs = tt
@@ -81,12 +82,13 @@ answer c =
     ∙ candidate-counted (c .before .before .before .before .before .before .before .before .before .before .before .args .n) (c .before .before .before .before .before .before .before .before .before .before .before .args .t2) (c .before .before .before .before .before .before .before .before .before .before .before .args .adjacency .now) (size (c .before .before .before .before .before .before .before .before .before .before .before)) (c .before .before .before .before .before .before .before .before .before .before .before .pre .0 .small) (c .before .before .before .before .before .before .before .before .before .before .before .pre .0 .permutation) (c .before .before .before .before .before .before .before .before .before .before .before .args .u) (c .before .before .before .before .before .before .before .before .before .before .before .pre .1) (c .before .before .before .before .before .before .before .before .before .before .before .pre .0 .symmetry) (c .before .before .before .before .before .before .loop .j) (c .before .before .before .before .before .loop-test .taken) (array c)
 
 loop-again : tie.Need-loop-again Inv-loop μ-loop
-loop-again c =
-    ( ⊎-elim
+loop-again c = (
+  ⊎-elim
       (λ w. rw (w .1, w .2) (walk-better (c .before .before .before .before .before .before .before .before .before .before .before .args .n) (c .before .before .before .before .before .before .before .before .before .before .before .args .t2) (c .before .before .before .before .before .before .before .before .before .before .before .args .adjacency .now) (size (c .before .before .before .before .before .before .before .before .before .before .before)) (c .before .before .before .before .before .before .before .before .before .before .before .pre .0 .small) (c .before .before .before .before .before .before .before .before .before .before .before .pre .0 .permutation) (c .before .before .before .before .before .before .before .before .before .before .before .args .u) (c .before .before .before .before .before .before .before .before .before .before .before .pre .1) (c .before .before .before .before .before .before .loop .inv .0) (c .before .before .before .before .before .loop-test .taken) (array c) (answer c) (w .0 .taken)))
       (λ w. rw (w .1, w .2) (walk-same (c .before .before .before .before .before .before .before .before .before .before .before .args .n) (c .before .before .before .before .before .before .before .before .before .before .before .args .t2) (c .before .before .before .before .before .before .before .before .before .before .before .args .adjacency .now) (size (c .before .before .before .before .before .before .before .before .before .before .before)) (c .before .before .before .before .before .before .before .before .before .before .before .pre .0 .small) (c .before .before .before .before .before .before .before .before .before .before .before .pre .0 .permutation) (c .before .before .before .before .before .before .before .before .before .before .before .args .u) (c .before .before .before .before .before .before .before .before .before .before .before .pre .1) (c .before .before .before .before .before .before .loop .inv .0) (c .before .before .before .before .before .loop-test .taken) (answer c) (w .0 .left)))
-      (c .if1 .came)
-    , c .before .before .before .before .before .before .loop .inv .1 )
+      (c .if1 .came),
+  c .before .before .before .before .before .before .loop .inv .1,
+)
 
 returns : tie.Need-returns Inv-loop μ-loop
 unfolding counted
