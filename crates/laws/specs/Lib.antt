@@ -21,3 +21,6 @@ pub mod Moving
 pub mod Sifting
 pub mod SiftingRounds
 pub mod SiftingCalls
+pub mod MovedPlaces
+pub mod SiftingWalk
+pub mod SiftingLoops

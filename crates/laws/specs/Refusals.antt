@@ -140,3 +140,12 @@ module _ (l : Layout) (cs : List Check) (next : Layout) where
   changed-accepted z e =
       ap (λ (k : Layout). record { refusal = 0; layout = k }) e
       ∙ sym (when-accepted cs (record { refusal = 0; layout = next }) (λ r. record { refusal = r; layout = l }) z)
+
+-- ---- calls with one named vertex
+
+pub vertex-passed : (l : Layout) (v : ℕ) → refusal (isValid l ∷ isVertex l v ∷ []) ≡ 0 → T (valid l) × (v < l .n)
+unfolding isValid isVertex
+vertex-passed l v e =
+    let p₁ = passed (isValid l) (isVertex l v ∷ []) (omega arith) e in
+    let p₂ = passed (isVertex l v) [] (omega arith) (p₁ .rest) in
+    (subst T (sym (p₁ .passes)) tt, ltb-true v (l .n) (p₂ .passes))

@@ -4,14 +4,19 @@
 mod checks;
 mod counter;
 mod edges;
+mod moves;
 mod reading;
 mod recount;
 mod validity;
 mod vertices;
 
+pub use checks::vertex_refusal;
 pub use counter::count_crossings;
 pub use edges::add_edge;
 pub use edges::remove_edge;
+pub use moves::move_after;
+pub use moves::moved;
+pub use moves::place_of;
 pub use reading::count;
 pub use reading::order;
 pub use recount::recounted;

@@ -1,0 +1,62 @@
+use borrow.Author.Needs.{needs}
+use Prim.Native.Nat.{ℕ, _-_, _<_}
+use native.Mathlib.Omega.{arith}
+use mathlib.Core.Path.{_≡_, ap, _∙_}
+use lib.ListN.{length, getD}
+use borrow.Author.Tests.{lt-ltb, le-ltb}
+use Rattle.laws.specs.MovedPlaces.{ShiftedUpTo, shifted-start, shifted-next, shifted-end}
+use Rattle.layout.proofs.moves.moved.Statement.{statement}
+use Rattle.layout.proofs.moves.moved.Tie as tie
+
+abbrev Inv-loop : tie.InvT-loop
+Inv-loop p q order next₀ i₀ next i = ShiftedUpTo order p q next i
+
+abbrev μ-loop : tie.MeasureT-loop
+μ-loop p q order next₀ i₀ next i = 64 - i
+
+returns : tie.Need-returns Inv-loop μ-loop
+returns c = rw (le-ltb (c .before .args .p) 64 (c .if1 .taken))
+
+returns-2 : tie.Need-returns-2 Inv-loop μ-loop
+returns-2 c = rw (lt-ltb (c .before .before .args .p) 64 (c .before .if1 .left), le-ltb (c .before .before .args .q) 64 (c .if2 .taken))
+
+loop-holds : tie.Need-loop-holds Inv-loop μ-loop
+loop-holds c = shifted-start (search needs)
+
+moved-from-requires : tie.Need-moved-from-requires Inv-loop μ-loop
+moved-from-requires c κs = omega arith
+
+array-read-next : tie.Need-array-read-next Inv-loop μ-loop
+array-read-next c = c .moved-from .ensures .1
+
+array-write-next : tie.Need-array-write-next Inv-loop μ-loop
+array-write-next c = omega arith
+
+add-i : tie.Need-add-i Inv-loop μ-loop
+add-i c = omega arith
+
+loop-less : tie.Need-loop-less Inv-loop μ-loop
+loop-less c = omega arith
+
+loop-again : tie.Need-loop-again Inv-loop μ-loop
+loop-again c = shifted-next (c .before .before .loop .inv) (c .before .loop-test .taken) (ap (λ (k : ℕ). getD (c .before .before .before .before .before .args .t1) k 0) (c .moved-from .ensures .0))
+
+returns-3 : tie.Need-returns-3 Inv-loop μ-loop
+returns-3 c = rw (lt-ltb (c .before .before .before .before .args .p) 64 (c .before .before .before .if1 .left), lt-ltb (c .before .before .before .before .args .q) 64 (c .before .before .if2 .left)) (shifted-end (c .before .loop .inv) (c .loop-test .left))
+
+pub moved-spec : {M : Type 1} → statement M
+moved-spec =
+    tie.close
+    (tie.spec
+    Inv-loop
+    μ-loop
+    returns
+    returns-2
+    loop-holds
+    moved-from-requires
+    array-read-next
+    array-write-next
+    add-i
+    loop-less
+    loop-again
+    returns-3)

@@ -1,0 +1,53 @@
+use Prim.Native.Nat.{ℕ, _-_, _<_}
+use native.Mathlib.Omega.{arith}
+use mathlib.Core.Path.{_≡_}
+use lib.ListN.{length, getD}
+use borrow.Author.Count.{below-more}
+use Rattle.laws.specs.MovedPlaces.{NotBefore, place-found, place-missing}
+use Rattle.layout.proofs.moves.place_of.Statement.{statement}
+use Rattle.layout.proofs.moves.place_of.Tie as tie
+
+abbrev Inv-loop : tie.InvT-loop
+Inv-loop order v i₀ i = NotBefore v order i
+
+abbrev μ-loop : tie.MeasureT-loop
+μ-loop order v i₀ i = length order - i
+
+loop-holds : tie.Need-loop-holds Inv-loop μ-loop
+loop-holds c = (omega arith, λ k l. absurd (omega arith))
+
+shared-slice-read-if1 : tie.Need-shared-slice-read-if1 Inv-loop μ-loop
+shared-slice-read-if1 c = omega arith
+
+cast-if1 : tie.Need-cast-if1 Inv-loop μ-loop
+cast-if1 c = omega (arith, c .shared-slice-known .given (c .before .before .loop .i))
+
+returns : tie.Need-returns Inv-loop μ-loop
+returns c = place-found (c .before .before .before .before .args .v) (c .before .before .before .before .args .order .now) (c .before .before .before .loop .i) (c .before .before .before .loop .inv) (c .before .before .loop-test .taken) (c .if1 .taken)
+
+add-i : tie.Need-add-i Inv-loop μ-loop
+add-i c = omega arith
+
+loop-less : tie.Need-loop-less Inv-loop μ-loop
+loop-less c = omega arith
+
+loop-again : tie.Need-loop-again Inv-loop μ-loop
+loop-again c = (omega arith, below-more (λ (k : ℕ). getD (c .before .before .before .before .args .order .now) k 0 ≡ c .before .before .before .before .args .v → ⊥) (c .before .before .before .loop .i) (c .before .before .before .loop .inv .1) (c .if1 .left))
+
+returns-2 : tie.Need-returns-2 Inv-loop μ-loop
+returns-2 c = place-missing (c .before .before .args .v) (c .before .before .args .order .now) (c .before .loop .i) (c .before .loop .inv) (c .loop-test .left)
+
+pub place-of-spec : {M : Type 1} → statement M
+place-of-spec =
+    tie.close
+    (tie.spec
+    Inv-loop
+    μ-loop
+    loop-holds
+    shared-slice-read-if1
+    cast-if1
+    returns
+    add-i
+    loop-less
+    loop-again
+    returns-2)

@@ -1,0 +1,26 @@
+use borrow.Author.Needs.{needs}
+use mathlib.Core.Path.{_≡_, sym, subst, _∙_}
+use lib.Dec.{T}
+use Rattle.model.specs.Checks.{checked, byRefusal, refusal, isValid}
+use Rattle.model.specs.Layouts.{valid}
+use Rattle.model.specs.Sifting.{roundOf}
+use Rattle.laws.specs.Indicators.{passed, failed}
+use Rattle.sifting.proofs.rounds.sifting_round.Statement.{statement}
+use Rattle.sifting.proofs.rounds.sifting_round.Tie as tie
+
+is-valid-requires : tie.Need-is-valid-requires
+is-valid-requires c κs = search needs
+
+returns : tie.Need-returns
+unfolding roundOf checked byRefusal refusal isValid
+returns c = rw (failed (c .before .is-valid .ensures) (c .if1 .taken))
+
+sift-all-requires : tie.Need-sift-all-requires
+sift-all-requires c κs = subst T (sym (passed (c .before .is-valid .ensures) (c .if1 .left))) tt
+
+returns-2 : tie.Need-returns-2
+unfolding roundOf checked byRefusal refusal isValid
+returns-2 c = rw (passed (c .before .before .is-valid .ensures) (c .before .if1 .left)) (c .sift-all .ensures)
+
+pub sifting-round-spec : {M : Type 1} → statement M
+sifting-round-spec = tie.close (tie.spec is-valid-requires returns sift-all-requires returns-2)

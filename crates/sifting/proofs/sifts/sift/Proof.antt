@@ -1,0 +1,37 @@
+use borrow.Author.Needs.{needs}
+use mathlib.Core.Path.{_≡_, sym, _∙_}
+use mathlib.Core.List.{[], _∷_}
+use Prim.Native.Nat.{_<_}
+use lib.Dec.{T}
+use Rattle.model.specs.declared.Sifted.{Sifted}
+use Rattle.model.specs.Layouts.{valid}
+use Rattle.model.specs.Sifting.{sifted, reduction, siftOf, siftChecks}
+use Rattle.laws.specs.Refusals.{when-refused, vertex-passed}
+use Rattle.laws.specs.SiftingCalls.{sift-accepted}
+use Rattle.sifting.proofs.sifts.sift.Statement.{statement}
+use Rattle.sifting.proofs.sifts.sift.Tie as tie
+
+-- the checks have passed
+checks : (c : tie.Else1) → T (valid (c .before .before .args .l)) × (c .before .before .args .u < c .before .before .args .l .n)
+checks c = vertex-passed (c .before .before .args .l) (c .before .before .args .u) (sym (c .before .vertex-refusal .ensures) ∙ c .if1 .left)
+
+vertex-refusal-requires : tie.Need-vertex-refusal-requires
+vertex-refusal-requires c κs = search needs
+
+returns : tie.Need-returns
+unfolding siftOf siftChecks
+returns c =
+    let l = c .before .before .args .l in
+    let u = c .before .before .args .u in
+    sym
+    (when-refused (siftChecks l u) (record { refusal = 0; layout = sifted l u; reduction = reduction l (sifted l u) })
+    (λ r. record { refusal = r; layout = l; reduction = 0 }) (c .before .vertex-refusal .ensures) (c .if1 .taken))
+
+sift-vertex-requires : tie.Need-sift-vertex-requires
+sift-vertex-requires c κs = checks c
+
+returns-2 : tie.Need-returns-2
+returns-2 c = c .sift-vertex .ensures ∙ sym (sift-accepted (c .before .before .before .args .l) (c .before .before .before .args .u) (checks (c .before) .0) (checks (c .before) .1))
+
+pub sift-spec : {M : Type 1} → statement M
+sift-spec = tie.close (tie.spec vertex-refusal-requires returns sift-vertex-requires returns-2)

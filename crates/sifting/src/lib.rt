@@ -1,0 +1,9 @@
+// Circular sifting (document 01: sift, round, settle). One file for each call.
+mod convergence;
+mod rounds;
+mod sifts;
+mod walk;
+
+pub use convergence::converge;
+pub use rounds::sifting_round;
+pub use sifts::sift;

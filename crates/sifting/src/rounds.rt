@@ -1,0 +1,71 @@
+// A sifting round (document 01: round): every vertex is sifted once, in rising number.
+ghost use mathlib.Core.Path.{_≡_};
+ghost use Prim.Native.Nat.{_+_, _<_, _≤_};
+ghost use mathlib.Core.Bool.{cond};
+ghost use lib.Dec.{T, eqb};
+ghost use Rattle.model.specs.Layouts.{valid, crossingsOf};
+ghost use Rattle.model.specs.Sifting.{siftRound, roundOf};
+ghost use Rattle.laws.specs.SiftingLoops.{siftNext};
+use super::sifts::sift_vertex;
+use layout::is_valid;
+use model::Layout;
+use model::Rounded;
+
+pub fn sifting_round(l: Layout) -> Rounded
+    ensures { λ r. ⌜ r ≡ roundOf l ⌝ }
+{
+    if !is_valid(l) {
+        return Rounded {
+            refusal: 11,
+            layout: l,
+            reduction: 0,
+            moved: 0,
+        };
+    }
+    sift_all(l)
+}
+
+// A round whose check has passed.
+pub fn sift_all(l: Layout) -> Rounded
+    requires { ⌜ T (valid l) ⌝ }
+    ensures { λ r. ⌜ r ≡ siftRound l ⌝ }
+{
+    let n = l.n;
+    let mut state = Rounded {
+        refusal: 0,
+        layout: l,
+        reduction: 0,
+        moved: 0,
+    };
+    let mut u = 0;
+    while u < n {
+        state = sift_next(state, u);
+        u += 1;
+    }
+    state
+}
+
+// One more vertex sifted.
+fn sift_next(s: Rounded, u: usize) -> Rounded
+    requires { ⌜ T (valid (s .layout)) × (u < s .layout .n) × (crossingsOf (s .layout) + s .reduction ≤ 635376) × (s .moved ≤ s .reduction) ⌝ }
+    ensures { λ r. ⌜ r ≡ siftNext s u ⌝ }
+{
+    let before = s.layout;
+    let step = sift_vertex(before, u);
+    let after = step.layout;
+    let saved = step.reduction;
+    let moved = moved_by(saved);
+    Rounded {
+        refusal: 0,
+        layout: after,
+        reduction: s.reduction + saved,
+        moved: s.moved + moved,
+    }
+}
+
+// How many vertices a sift with this reduction moved: none or one.
+fn moved_by(saved: u32) -> u32
+    ensures { λ r. ⌜ r ≡ cond (eqb saved 0) 0 1 ⌝ }
+{
+    if saved == 0 { 0 } else { 1 }
+}

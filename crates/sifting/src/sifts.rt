@@ -1,0 +1,42 @@
+// Sifting one vertex to its best place (document 01: sift).
+ghost use mathlib.Core.Path.{_≡_};
+ghost use Prim.Native.Nat.{_<_};
+ghost use lib.Dec.{T};
+ghost use Rattle.model.specs.Layouts.{valid};
+ghost use Rattle.model.specs.Sifting.{sifted, reduction as reductionOf, siftOf};
+use super::walk::best_order;
+use layout::recounted;
+use layout::vertex_refusal;
+use model::Layout;
+use model::Sifted;
+
+pub fn sift(l: Layout, u: usize) -> Sifted
+    ensures { λ r. ⌜ r ≡ siftOf l u ⌝ }
+{
+    let refusal = vertex_refusal(l, u);
+    if refusal != 0 {
+        return Sifted {
+            refusal,
+            layout: l,
+            reduction: 0,
+        };
+    }
+    sift_vertex(l, u)
+}
+
+// A sift whose checks have passed.
+pub fn sift_vertex(l: Layout, u: usize) -> Sifted
+    requires { ⌜ T (valid l) × (u < l .n) ⌝ }
+    ensures { λ r. ⌜ r ≡ record { refusal = 0; layout = sifted l u; reduction = reductionOf l (sifted l u) } ⌝ }
+{
+    let n = l.n;
+    let before = l.order;
+    let adjacency = l.adjacency;
+    let best = best_order(n, before, &adjacency, u);
+    let order = best.order;
+    Sifted {
+        refusal: 0,
+        layout: recounted(l, n, order, adjacency),
+        reduction: best.before - best.after,
+    }
+}
