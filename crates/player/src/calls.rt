@@ -10,6 +10,7 @@ use crate::fields;
 use crate::text::put_bytes;
 use crate::text::put_number;
 use crate::text::put_text;
+use model::Changed;
 use model::Layout;
 
 pub(crate) fn empty(l: Layout, line: &mut [u8]) -> Played
@@ -36,9 +37,7 @@ pub(crate) fn link(l: Layout, a: u64, b: u64, line: &mut [u8]) -> Played
     ensures { λ r. ⌜ r .written ≤ 4096 ⌝ }
 {
     let answer = layout::add_edge(l, a as usize, b as usize);
-    let after = answer.layout;
-    let at = put_head(line, b"link", answer.refusal);
-    told(line, at, l, after)
+    changed(l, line, b"link", answer)
 }
 
 pub(crate) fn unlink(l: Layout, a: u64, b: u64, line: &mut [u8]) -> Played
@@ -46,8 +45,24 @@ pub(crate) fn unlink(l: Layout, a: u64, b: u64, line: &mut [u8]) -> Played
     ensures { λ r. ⌜ r .written ≤ 4096 ⌝ }
 {
     let answer = layout::remove_edge(l, a as usize, b as usize);
+    changed(l, line, b"unlink", answer)
+}
+
+pub(crate) fn move_behind(l: Layout, a: u64, b: u64, line: &mut [u8]) -> Played
+    requires { ⌜ length (now line) ≡ 4096 ⌝ }
+    ensures { λ r. ⌜ r .written ≤ 4096 ⌝ }
+{
+    let answer = layout::move_after(l, a as usize, b as usize);
+    changed(l, line, b"move", answer)
+}
+
+// The line of a call that answers nothing but the layout.
+fn changed(l: Layout, line: &mut [u8], name: &[u8], answer: Changed) -> Played
+    requires { ⌜ (length (now line) ≡ 4096) × (length (now name) ≤ 6) ⌝ }
+    ensures { λ r. ⌜ r .written ≤ 4096 ⌝ }
+{
     let after = answer.layout;
-    let at = put_head(line, b"unlink", answer.refusal);
+    let at = put_head(line, name, answer.refusal);
     told(line, at, l, after)
 }
 

@@ -38,6 +38,7 @@ fn play_op(l: Layout, op: u64, a: u64, b: u64, line: &mut [u8]) -> Played
         16 => calls::add(l, line),
         17 => calls::link(l, a, b, line),
         18 => calls::unlink(l, a, b, line),
+        19 => calls::move_behind(l, a, b, line),
         24 => calls::count(l, line),
         25 => calls::order(l, a, b, line),
         _ => end(l, line),

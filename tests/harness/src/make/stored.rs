@@ -191,16 +191,17 @@ impl List<'_> {
 
     /// The carried count isn't examined, and goes round at 2^32.
     fn any_count(&mut self) {
+        self.play(&fields(&square()));
         self.play(&[
+            [SET_COUNT, 1 << 32, 0, 0],
+            [COUNT, 0, 0, 0],
+            [UNLINK, 0, 2, 0],
+            [LINK, 2, 0, 0],
             [SET_COUNT, (1 << 32) + u64::from(u32::MAX), 0, 0],
             [COUNT, 0, 0, 0],
-            [LINK, 0, 2, 0],
-            [LINK, 1, 3, 0],
-            [UNLINK, 0, 2, 0],
-            [SET_COUNT, 1 << 32, 0, 0],
-            [LINK, 2, 0, 0],
-            [UNLINK, 3, 1, 0],
-            [UNLINK, 0, 2, 0],
+            [ADD, 0, 0, 0],
+            [LINK, 1, 4, 0],
+            [MOVE, 0, 1, 0],
         ]);
     }
 
