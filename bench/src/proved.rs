@@ -1,0 +1,138 @@
+//! The proved calls, as functions of the second program's layouts. They are
+//! linked from `crates/bench_calls`: a reference is a pointer, a slice a
+//! pointer and a length.
+
+use second::calls::Answer;
+use second::layout::{Layout, PLACES};
+
+type Order = [u8; PLACES];
+type Words = [u64; PLACES];
+
+extern "C" {
+    fn bench_count_crossings(n: u64, order: &Order, words: &Words) -> u32;
+    fn bench_no_call(n: &mut u64, order: &mut Order, words: &mut Words, count: &mut u32) -> u8;
+    fn bench_add(
+        n: &mut u64,
+        order: &mut Order,
+        words: &mut Words,
+        count: &mut u32,
+        vertex: &mut u64,
+    ) -> u8;
+    fn bench_link(
+        n: &mut u64,
+        order: &mut Order,
+        words: &mut Words,
+        count: &mut u32,
+        a: u64,
+        b: u64,
+    ) -> u8;
+    fn bench_unlink(
+        n: &mut u64,
+        order: &mut Order,
+        words: &mut Words,
+        count: &mut u32,
+        a: u64,
+        b: u64,
+    ) -> u8;
+    fn bench_move(
+        n: &mut u64,
+        order: &mut Order,
+        words: &mut Words,
+        count: &mut u32,
+        a: u64,
+        b: u64,
+    ) -> u8;
+    fn bench_count(n: u64, order: &Order, words: &Words, count: u32, answered: &mut u32) -> u8;
+    fn bench_order(
+        n: u64,
+        order: &Order,
+        words: &Words,
+        count: u32,
+        buffer: *mut u8,
+        length: usize,
+    ) -> u8;
+}
+
+/// A call that names two vertices and changes the layout.
+type Edit = unsafe extern "C" fn(&mut u64, &mut Order, &mut Words, &mut u32, u64, u64) -> u8;
+
+/// The crossings, from nothing.
+pub fn crossings(layout: &Layout) -> u32 {
+    unsafe { bench_count_crossings(layout.n, &layout.order, &layout.adjacency) }
+}
+
+/// Hands the layout over and back.
+pub fn no_call(mut layout: Layout) -> Answer<()> {
+    let l = &mut layout;
+    let refusal = unsafe { bench_no_call(&mut l.n, &mut l.order, &mut l.adjacency, &mut l.count) };
+    answer(refusal, layout, ())
+}
+
+pub fn add_vertex(mut layout: Layout) -> Answer<u64> {
+    let l = &mut layout;
+    let mut vertex = 0;
+    let refusal = unsafe {
+        bench_add(
+            &mut l.n,
+            &mut l.order,
+            &mut l.adjacency,
+            &mut l.count,
+            &mut vertex,
+        )
+    };
+    answer(refusal, layout, vertex)
+}
+
+pub fn add_edge(layout: Layout, a: u64, b: u64) -> Answer<()> {
+    edit(bench_link, layout, a, b)
+}
+
+pub fn remove_edge(layout: Layout, a: u64, b: u64) -> Answer<()> {
+    edit(bench_unlink, layout, a, b)
+}
+
+pub fn move_after(layout: Layout, a: u64, b: u64) -> Answer<()> {
+    edit(bench_move, layout, a, b)
+}
+
+pub fn count(layout: Layout) -> Answer<u32> {
+    let mut count = 0;
+    let refusal = unsafe {
+        bench_count(
+            layout.n,
+            &layout.order,
+            &layout.adjacency,
+            layout.count,
+            &mut count,
+        )
+    };
+    answer(refusal, layout, count)
+}
+
+pub fn order(layout: Layout, buffer: &mut [u8]) -> Answer<()> {
+    let refusal = unsafe {
+        bench_order(
+            layout.n,
+            &layout.order,
+            &layout.adjacency,
+            layout.count,
+            buffer.as_mut_ptr(),
+            buffer.len(),
+        )
+    };
+    answer(refusal, layout, ())
+}
+
+fn edit(call: Edit, mut layout: Layout, a: u64, b: u64) -> Answer<()> {
+    let l = &mut layout;
+    let refusal = unsafe { call(&mut l.n, &mut l.order, &mut l.adjacency, &mut l.count, a, b) };
+    answer(refusal, layout, ())
+}
+
+fn answer<T>(refusal: u8, layout: Layout, value: T) -> Answer<T> {
+    Answer {
+        refusal,
+        layout,
+        value,
+    }
+}
