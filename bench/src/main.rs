@@ -22,6 +22,7 @@ fn main() {
     for edges in [1000, 2015] {
         accepted(edges);
     }
+    sifting();
     refused();
     handing_over();
 }
@@ -85,6 +86,23 @@ fn accepted(edges: usize) {
         &name,
         || proved::add_vertex(fewer),
         || calls::add_vertex(fewer),
+    );
+}
+
+/// Sifting 64 vertices with 1,000 edges.
+fn sifting() {
+    let l = black_box(layout(64, 1000));
+    let name = |call| format!("{call}, 64 vertices, 1000 edges");
+    row(&name("sift"), || proved::sift(l, 5), || calls::sift(l, 5));
+    row(
+        &name("round"),
+        || proved::sifting_round(l),
+        || calls::sifting_round(l),
+    );
+    row(
+        &name("settle with limit 50"),
+        || proved::converge(l, 50),
+        || calls::converge(l, 50),
     );
 }
 

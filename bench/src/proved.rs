@@ -4,6 +4,7 @@
 
 use second::calls::Answer;
 use second::layout::{Layout, PLACES};
+use second::sifting::{Convergence, Round};
 
 type Order = [u8; PLACES];
 type Words = [u64; PLACES];
@@ -41,6 +42,32 @@ extern "C" {
         count: &mut u32,
         a: u64,
         b: u64,
+    ) -> u8;
+    fn bench_sift(
+        n: &mut u64,
+        order: &mut Order,
+        words: &mut Words,
+        count: &mut u32,
+        u: u64,
+        reduction: &mut u32,
+    ) -> u8;
+    fn bench_round(
+        n: &mut u64,
+        order: &mut Order,
+        words: &mut Words,
+        count: &mut u32,
+        reduction: &mut u32,
+        moved: &mut u32,
+    ) -> u8;
+    fn bench_settle(
+        n: &mut u64,
+        order: &mut Order,
+        words: &mut Words,
+        count: &mut u32,
+        limit: u32,
+        reduction: &mut u32,
+        rounds: &mut u32,
+        converged: &mut bool,
     ) -> u8;
     fn bench_count(n: u64, order: &Order, words: &Words, count: u32, answered: &mut u32) -> u8;
     fn bench_order(
@@ -93,6 +120,56 @@ pub fn remove_edge(layout: Layout, a: u64, b: u64) -> Answer<()> {
 
 pub fn move_after(layout: Layout, a: u64, b: u64) -> Answer<()> {
     edit(bench_move, layout, a, b)
+}
+
+pub fn sift(mut layout: Layout, u: u64) -> Answer<u32> {
+    let l = &mut layout;
+    let mut reduction = 0;
+    let refusal = unsafe {
+        bench_sift(
+            &mut l.n,
+            &mut l.order,
+            &mut l.adjacency,
+            &mut l.count,
+            u,
+            &mut reduction,
+        )
+    };
+    answer(refusal, layout, reduction)
+}
+
+pub fn sifting_round(mut layout: Layout) -> Answer<Round> {
+    let l = &mut layout;
+    let mut round = Round::default();
+    let refusal = unsafe {
+        bench_round(
+            &mut l.n,
+            &mut l.order,
+            &mut l.adjacency,
+            &mut l.count,
+            &mut round.reduction,
+            &mut round.moved,
+        )
+    };
+    answer(refusal, layout, round)
+}
+
+pub fn converge(mut layout: Layout, limit: u32) -> Answer<Convergence> {
+    let l = &mut layout;
+    let mut value = Convergence::default();
+    let refusal = unsafe {
+        bench_settle(
+            &mut l.n,
+            &mut l.order,
+            &mut l.adjacency,
+            &mut l.count,
+            limit,
+            &mut value.reduction,
+            &mut value.rounds,
+            &mut value.converged,
+        )
+    };
+    answer(refusal, layout, value)
 }
 
 pub fn count(layout: Layout) -> Answer<u32> {

@@ -103,6 +103,56 @@ pub extern "C" fn bench_order(
     layout::order(taken(n, order, adjacency, count), buffer)
 }
 
+#[no_mangle]
+pub extern "C" fn bench_sift(
+    n: &mut usize,
+    order: &mut [u8; 64],
+    adjacency: &mut [u64; 64],
+    count: &mut u32,
+    u: usize,
+    reduction: &mut u32,
+) -> u8 {
+    let answer = sifting::sift(taken(*n, order, adjacency, *count), u);
+    give_back(answer.layout, n, order, adjacency, count);
+    *reduction = answer.reduction;
+    answer.refusal
+}
+
+#[no_mangle]
+pub extern "C" fn bench_round(
+    n: &mut usize,
+    order: &mut [u8; 64],
+    adjacency: &mut [u64; 64],
+    count: &mut u32,
+    reduction: &mut u32,
+    moved: &mut u32,
+) -> u8 {
+    let answer = sifting::sifting_round(taken(*n, order, adjacency, *count));
+    give_back(answer.layout, n, order, adjacency, count);
+    *reduction = answer.reduction;
+    *moved = answer.moved;
+    answer.refusal
+}
+
+#[no_mangle]
+pub extern "C" fn bench_settle(
+    n: &mut usize,
+    order: &mut [u8; 64],
+    adjacency: &mut [u64; 64],
+    count: &mut u32,
+    limit: u32,
+    reduction: &mut u32,
+    rounds: &mut u32,
+    converged: &mut bool,
+) -> u8 {
+    let answer = sifting::converge(taken(*n, order, adjacency, *count), limit);
+    give_back(answer.layout, n, order, adjacency, count);
+    *reduction = answer.reduction;
+    *rounds = answer.rounds;
+    *converged = answer.converged;
+    answer.refusal
+}
+
 fn taken(n: usize, order: &[u8; 64], adjacency: &[u64; 64], count: u32) -> Layout {
     let places = *order;
     let words = *adjacency;

@@ -5,9 +5,11 @@ ghost use lib.ListN.{length};
 ghost use Rattle.io.specs.Counts.{Counts};
 use crate::answer::Played;
 use crate::answer::silent;
-use crate::calls;
+use crate::edits;
 use crate::fields;
+use crate::reads;
 use crate::record::number;
+use crate::sifts;
 use crate::text::put_text;
 use model::Layout;
 
@@ -30,17 +32,20 @@ fn play_op(l: Layout, op: u64, a: u64, b: u64, line: &mut [u8]) -> Played
     ensures { λ r. ⌜ r .written ≤ 4096 ⌝ }
 {
     match op {
-        0 => calls::empty(l, line),
+        0 => edits::empty(l, line),
         2 => silent(fields::with_n(l, a)),
         3 => silent(fields::with_place(l, a, b)),
         4 => silent(fields::with_word(l, a, b)),
         5 => silent(fields::with_count(l, a)),
-        16 => calls::add(l, line),
-        17 => calls::link(l, a, b, line),
-        18 => calls::unlink(l, a, b, line),
-        19 => calls::move_behind(l, a, b, line),
-        24 => calls::count(l, line),
-        25 => calls::order(l, a, b, line),
+        16 => edits::add(l, line),
+        17 => edits::link(l, a, b, line),
+        18 => edits::unlink(l, a, b, line),
+        19 => edits::move_behind(l, a, b, line),
+        21 => sifts::sift(l, a, line),
+        22 => sifts::round(l, line),
+        23 => sifts::settle(l, a, line),
+        24 => reads::count(l, line),
+        25 => reads::order(l, a, b, line),
         _ => end(l, line),
     }
 }

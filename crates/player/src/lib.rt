@@ -4,10 +4,12 @@
 // proved is that every function is safe and ends, and that every line fits its buffer.
 
 mod answer;
-mod calls;
 mod dispatch;
+mod edits;
 mod fields;
+mod reads;
 mod record;
+mod sifts;
 mod text;
 
 pub use answer::Played;

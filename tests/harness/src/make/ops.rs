@@ -43,10 +43,13 @@ const CALLS: [Call; 12] = [
 ];
 
 /// Names for several calls at once.
-const SETS: [(&str, &[&str]); 1] = [(
-    "layout",
-    &["add", "link", "unlink", "move", "count", "order", "pair"],
-)];
+const SETS: [(&str, &[&str]); 2] = [
+    (
+        "layout",
+        &["add", "link", "unlink", "move", "count", "order", "pair"],
+    ),
+    ("sifting", &["sift", "round", "settle"]),
+];
 
 /// The calls that the programs under test know. Starting from the empty layout
 /// and setting a field are known to all.
@@ -114,10 +117,8 @@ mod tests {
         let known = Known::parse("layout,sift").expect("known names");
         assert!(known.has(MOVE) && known.has(SIFT) && known.has(SET_N));
         assert!(!known.has(SETTLE) && !known.has(CHART));
-        assert!(known
-            .refusals()
-            .into_iter()
-            .eq([11, 12, 13, 14, 15, 16, 18]));
+        let numbers = [11, 12, 13, 14, 15, 16, 18];
+        assert!(known.refusals().into_iter().eq(numbers));
         assert!(Known::parse("layout,shift").is_none());
         assert!(Known::parse("").is_none());
         assert!(Known::parse("chart").is_none());

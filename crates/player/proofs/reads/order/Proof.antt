@@ -2,8 +2,8 @@ use borrow.Author.Needs.{needs}
 use native.Mathlib.Omega.{arith}
 use mathlib.Core.Path.{sym}
 use lib.Seq.{length-take-le}
-use Rattle.player.proofs.calls.order.Statement.{statement}
-use Rattle.player.proofs.calls.order.Tie as tie
+use Rattle.player.proofs.reads.order.Statement.{statement}
+use Rattle.player.proofs.reads.order.Tie as tie
 
 cast-filled : tie.Need-cast-filled
 cast-filled c = search needs
