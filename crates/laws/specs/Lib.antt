@@ -24,3 +24,5 @@ pub mod SiftingCalls
 pub mod MovedPlaces
 pub mod SiftingWalk
 pub mod SiftingLoops
+pub mod Writing
+pub mod EdgeTotals

@@ -1,0 +1,2 @@
+// The listing that ringlist prints, as bytes in a lent buffer.
+mod writing;
