@@ -21,3 +21,4 @@ pub mod Moving
 pub mod Sifting
 pub mod SiftingRounds
 pub mod SiftingCalls
+pub mod FirstCrossing
