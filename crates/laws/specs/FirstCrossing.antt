@@ -403,6 +403,12 @@ pub record Searchable (n : ℕ) (order : List ℕ) (count : ℕ) (lows highs : L
   pub highs-size : length highs ≡ 2016
   pub within : (i : ℕ) → i < count → Within n (edgeAt lows highs i)
 
+pub ends-below : {n : ℕ} {order : List ℕ} {count : ℕ} {lows highs : List ℕ} → Searchable n order count lows highs
+    → {i : ℕ} → i < count → {e : Edge} → e ≡ edgeAt lows highs i → (e .low < 64) × (e .high < 64)
+ends-below {n} s {i} h {e} at-i =
+    let ends : Within n e = rw at-i (s .within i h) in
+    (omega (arith, s .small), omega (arith, s .small))
+
 -- no edge before place first crosses one behind it
 pub record FirstsPassed (n : ℕ) (order : List ℕ) (count : ℕ) (lows highs : List ℕ) (first : ℕ) : Type 0 where
   pub inside : first ≤ count

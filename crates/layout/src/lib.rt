@@ -3,6 +3,7 @@
 
 mod checks;
 mod counter;
+mod crossing;
 mod edges;
 mod reading;
 mod recount;
@@ -10,6 +11,7 @@ mod validity;
 mod vertices;
 
 pub use counter::count_crossings;
+pub use crossing::first_crossing;
 pub use edges::add_edge;
 pub use edges::remove_edge;
 pub use reading::count;
