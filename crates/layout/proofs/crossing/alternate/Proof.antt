@@ -20,7 +20,10 @@ between-requires-2 c κs = search needs
 
 returns : tie.Need-returns
 unfolding alternate xor
-returns c = ap₂ (λ (x y : Bool). not (Bool·beq x y)) (c .before .between .ensures) (c .between2 .ensures) ∙ differ-xor (between (c .before .before .args .p) (c .before .before .args .q) (c .before .before .args .r)) (between (c .before .before .args .p) (c .before .before .args .q) (c .before .before .args .s))
+returns c =
+    let v = c .before .before .args in
+    ap₂ (λ (x y : Bool). not (Bool·beq x y)) (c .before .between .ensures) (c .between2 .ensures)
+    ∙ differ-xor (between (v .p) (v .q) (v .r)) (between (v .p) (v .q) (v .s))
 
 pub alternate-spec : {M : Type 1} → statement M
 alternate-spec = tie.close (tie.spec between-requires between-requires-2 returns)

@@ -24,7 +24,9 @@ alternate-requires c κs = search needs
 
 returns : tie.Need-returns
 unfolding crossAt
-returns c = rw (sym (c .before .before .before .before .before .before .differ .ensures) ∙ c .before .before .before .before .before .if1 .taken) (c .alternate .ensures)
+returns c =
+    let after-differ = c .before .before .before .before .before .before in
+    rw (sym (after-differ .differ .ensures) ∙ c .before .before .before .before .before .if1 .taken) (c .alternate .ensures)
 
 returns-2 : tie.Need-returns-2
 unfolding crossAt

@@ -1,55 +1,64 @@
 use borrow.Author.Needs.{needs}
+use mathlib.Core.Path.{_≡_, refl, sym, _∙_, subst}
+use lib.ListN.{length}
+use lib.Dec.{T}
+use Rattle.model.specs.Layouts.{valid}
+use Rattle.model.specs.Checks.{checked, byRefusal, refusal, isValid}
+use Rattle.model.specs.Reading.{shown, firstCrossingOf}
+use Rattle.laws.specs.Indicators.{passed, failed}
+use Rattle.laws.specs.Validity.{sound}
+use Rattle.laws.specs.FirstCrossing.{searchable, search-shown}
 use Rattle.layout.proofs.crossing.first_crossing.Statement.{statement}
 use Rattle.layout.proofs.crossing.first_crossing.Tie as tie
-use Rattle.layout.proofs.crossing.first_crossing.Reads as reads
-use Rattle.layout.proofs.crossing.first_crossing.Lts as lts
-use Rattle.layout.proofs.crossing.first_pair.Reads as first-pair-reads
-use Rattle.layout.proofs.crossing.list_edges.Reads as list-edges-reads
-use Rattle.layout.proofs.validity.is_valid.Reads as is-valid-reads
 
--- src/crossing.rt:21:9
+-- the layout is valid
+accepted : (c : tie.Else1) → T (valid (c .before .before .args .l))
+accepted c = subst T (sym (passed (c .before .is-valid .ensures) (c .if1 .left))) tt
+
 is-valid-requires : tie.Need-is-valid-requires
 is-valid-requires c κs = search needs
 
--- src/crossing.rt:22:9
 returns : tie.Need-returns
-returns c = ?
+unfolding shown firstCrossingOf checked byRefusal refusal isValid
+returns c = rw (failed (c .before .is-valid .ensures) (c .if1 .taken))
 
--- src/crossing.rt:29:31
 slice-aggregate-list-edges : tie.Need-slice-aggregate-list-edges
 slice-aggregate-list-edges c = search needs
 
--- src/crossing.rt:29:43
 slice-aggregate-list-edges-2 : tie.Need-slice-aggregate-list-edges-2
 slice-aggregate-list-edges-2 c = search needs
 
--- src/crossing.rt:29:54
 slice-aggregate-list-edges-3 : tie.Need-slice-aggregate-list-edges-3
 slice-aggregate-list-edges-3 c = search needs
 
--- src/crossing.rt:29:9
 list-edges-requires : tie.Need-list-edges-requires
-list-edges-requires c κs = ?
+list-edges-requires c κs =
+    let past-check = c .before .before .before .before .before in
+    let l = past-check .before .before .args .l in
+    let size : length (l .adjacency) ≡ 64 = search needs in
+    (sound l (accepted past-check) .small, size, refl, refl)
 
--- src/crossing.rt:30:19
 slice-aggregate-first-pair : tie.Need-slice-aggregate-first-pair
 slice-aggregate-first-pair c = search needs
 
--- src/crossing.rt:30:34
 slice-aggregate-first-pair-2 : tie.Need-slice-aggregate-first-pair-2
 slice-aggregate-first-pair-2 c = search needs
 
--- src/crossing.rt:30:41
 slice-aggregate-first-pair-3 : tie.Need-slice-aggregate-first-pair-3
 slice-aggregate-first-pair-3 c = search needs
 
--- src/crossing.rt:30:5
 first-pair-requires : tie.Need-first-pair-requires
-first-pair-requires c κs = ?
+first-pair-requires c κs =
+    let past-check = c .before .before .before .before .before .before .before .before .before .before .before in
+    let l = past-check .before .before .args .l in
+    let size : length (l .order) ≡ 64 = search needs in
+    let edges = c .before .before .before .before .before .list-edges in
+    searchable l (accepted past-check) (edges .ensures .0) size (edges .ensures .1) (edges .kept .1 .1 .0) (edges .kept .1 .1 .1 .0)
 
--- src/crossing.rt:18:1
 returns-2 : tie.Need-returns-2
-returns-2 c = ?
+returns-2 c =
+    c .first-pair .ensures
+    ∙ search-shown (c .before .before .before .before .before .before .before .before .before .before .before .before .before .before .args .l) (accepted (c .before .before .before .before .before .before .before .before .before .before .before .before)) (c .before .before .before .before .before .before .list-edges .ensures .0)
 
 pub first-crossing-spec : {M : Type 1} → statement M
 first-crossing-spec =

@@ -1,6 +1,6 @@
 use Prim.Native.Nat.{_-_}
 use native.Mathlib.Omega.{arith}
-use mathlib.Core.Path.{_≡_, sym}
+use mathlib.Core.Path.{sym}
 use Rattle.model.specs.Reading.{shown}
 use Rattle.laws.specs.FirstCrossing.{found, FirstsPassed, SecondsPassed, ends-below, firsts-start, firsts-end, firsts-next, seconds-start, seconds-next, pair-found}
 use Rattle.layout.proofs.crossing.first_pair.Statement.{statement}
@@ -19,13 +19,17 @@ abbrev μ-search : tie.MeasureT-search
 μ-search n order count lows highs places first₀ first = count - first
 
 places-of-requires : tie.Need-places-of-requires Inv-loop μ-loop Inv-search μ-search
-places-of-requires c κs = (c .before .before .before .pre .small, c .before .before .before .pre .order-size, c .before .before .before .pre .permutation)
+places-of-requires c κs =
+    let given = c .before .before .before .pre in
+    (given .small, given .order-size, given .permutation)
 
 search-holds : tie.Need-search-holds Inv-loop μ-loop Inv-search μ-search
 search-holds c = firsts-start
 
 edge-at-requires : tie.Need-edge-at-requires Inv-loop μ-loop Inv-search μ-search
-edge-at-requires c κs = let given = c .before .before .before .before .before .before .pre in (omega (arith, given .fits, given .lows-size), omega (arith, given .fits, given .highs-size))
+edge-at-requires c κs =
+    let given = c .before .before .before .before .before .before .pre in
+    (omega (arith, given .fits, given .lows-size), omega (arith, given .fits, given .highs-size))
 
 add-second : tie.Need-add-second Inv-loop μ-loop Inv-search μ-search
 add-second c = omega arith
@@ -34,16 +38,20 @@ loop-holds : tie.Need-loop-holds Inv-loop μ-loop Inv-search μ-search
 loop-holds c = seconds-start (c .before .if1 .left)
 
 edge-at-requires-2 : tie.Need-edge-at-requires-2 Inv-loop μ-loop Inv-search μ-search
-edge-at-requires-2 c κs = let given = c .before .before .before .before .before .before .before .before .before .pre in (omega (arith, given .fits, given .lows-size), omega (arith, given .fits, given .highs-size))
+edge-at-requires-2 c κs =
+    let given = c .before .before .before .before .before .before .before .before .before .pre in
+    (omega (arith, given .fits, given .lows-size), omega (arith, given .fits, given .highs-size))
 
 slice-aggregate-cross : tie.Need-slice-aggregate-cross Inv-loop μ-loop Inv-search μ-search
 slice-aggregate-cross c = sym (c .before .before .before .before .before .before .before .places-of .ensures .size)
 
 cross-requires : tie.Need-cross-requires Inv-loop μ-loop Inv-search μ-search
 cross-requires c κs =
-    let first = ends-below (c .before .before .before .before .before .before .before .before .before .before .before .pre) (c .before .before .before .before .before .if1 .left) (c .before .before .before .before .edge-at .ensures) in
-    let second = ends-below (c .before .before .before .before .before .before .before .before .before .before .before .pre) (c .before .before .loop-test .taken) (c .before .edge-at2 .ensures) in
-    (c .before .before .before .before .before .before .before .places-of .ensures .size, first .0, first .1, second .0, second .1)
+    let at-search = c .before .before .before .before .before .before in
+    let given = at-search .before .before .before .before .before .pre in
+    let first = ends-below given (c .before .before .before .before .before .if1 .left) (c .before .before .before .before .edge-at .ensures) in
+    let second = ends-below given (c .before .before .loop-test .taken) (c .before .edge-at2 .ensures) in
+    (at-search .before .places-of .ensures .size, first .0, first .1, second .0, second .1)
 
 add-second-2 : tie.Need-add-second-2 Inv-loop μ-loop Inv-search μ-search
 add-second-2 c = omega arith
@@ -53,8 +61,11 @@ loop-less c = omega arith
 
 loop-again : tie.Need-loop-again Inv-loop μ-loop Inv-search μ-search
 loop-again c =
-    seconds-next (c .before .before .before .before .before .before .before .before .before .before .before .before .before .pre) (c .before .before .before .before .before .before .before .before .before .places-of .ensures) (c .before .before .before .before .before .before .before .if1 .left) (c .before .before .before .before .loop-test .taken) (c .before .before .before .before .before .before .edge-at .ensures) (c .before .before .before .edge-at2 .ensures) (c .before .cross .ensures)
-    (c .before .before .before .before .before .loop .inv) (c .if2 .left)
+    let at-search = c .before .before .before .before .before .before .before .before in
+    let at-loop = c .before .before .before .before .before in
+    seconds-next (at-search .before .before .before .before .before .pre) (at-search .before .places-of .ensures) (c .before .before .before .before .before .before .before .if1 .left) (c .before .before .before .before .loop-test .taken)
+    (at-loop .before .edge-at .ensures) (c .before .before .before .edge-at2 .ensures) (c .before .cross .ensures)
+    (at-loop .loop .inv) (c .if2 .left)
 
 add-first : tie.Need-add-first Inv-loop μ-loop Inv-search μ-search
 add-first c = omega arith
@@ -63,7 +74,9 @@ search-less : tie.Need-search-less Inv-loop μ-loop Inv-search μ-search
 search-less c = omega arith
 
 search-again : tie.Need-search-again Inv-loop μ-loop Inv-search μ-search
-search-again c = firsts-next (c .before .before .before .before .search .inv) (c .before .loop .inv) (c .before .before .before .if1 .left) (c .loop-test .left)
+search-again c =
+    let at-search = c .before .before .before .before in
+    firsts-next (at-search .search .inv) (c .before .loop .inv) (c .before .before .before .if1 .left) (c .loop-test .left)
 
 returns : tie.Need-returns Inv-loop μ-loop Inv-search μ-search
 unfolding shown found
@@ -72,9 +85,12 @@ returns c = rw (firsts-end (c .before .search .inv) (c .if1 .taken))
 returns-2 : tie.Need-returns-2 Inv-loop μ-loop Inv-search μ-search
 unfolding shown found
 returns-2 c =
+    let at-search = c .before .before .before .before .before .before .before .before in
+    let at-loop = c .before .before .before .before .before in
     rw
-    (pair-found (c .before .before .before .before .before .before .before .before .before .before .before .before .before .pre) (c .before .before .before .before .before .before .before .before .before .places-of .ensures) (c .before .before .before .before .before .before .before .if1 .left) (c .before .before .before .before .loop-test .taken) (c .before .before .before .before .before .before .edge-at .ensures) (c .before .before .before .edge-at2 .ensures) (c .before .cross .ensures)
-    (c .before .before .before .before .before .before .before .before .search .inv) (c .before .before .before .before .before .loop .inv) (c .if2 .taken))
+    (pair-found (at-search .before .before .before .before .before .pre) (at-search .before .places-of .ensures) (c .before .before .before .before .before .before .before .if1 .left) (c .before .before .before .before .loop-test .taken)
+    (at-loop .before .edge-at .ensures) (c .before .before .before .edge-at2 .ensures) (c .before .cross .ensures)
+    (at-search .search .inv) (at-loop .loop .inv) (c .if2 .taken))
 
 pub first-pair-spec : {M : Type 1} → statement M
 first-pair-spec =

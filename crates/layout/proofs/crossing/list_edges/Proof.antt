@@ -12,7 +12,9 @@ abbrev μ-loop : tie.MeasureT-loop
 μ-loop n adjacency lows₀ highs₀ count₀ a₀ lows highs count a = n - a
 
 loop-holds : tie.Need-loop-holds Inv-loop μ-loop
-loop-holds c = list-start (c .before .before .before .pre .0) (c .before .before .before .pre .2) (c .before .before .before .pre .3)
+loop-holds c =
+    let start = c .before .before .before in
+    list-start (start .pre .0) (start .pre .2) (start .pre .3)
 
 mul-list-row : tie.Need-mul-list-row Inv-loop μ-loop
 mul-list-row c = omega arith
@@ -21,11 +23,11 @@ shared-slice-read-list-row : tie.Need-shared-slice-read-list-row Inv-loop μ-loo
 shared-slice-read-list-row c = omega arith
 
 list-row-requires : tie.Need-list-row-requires Inv-loop μ-loop
-list-row-requires c κs = 
-    let start = c .before .before .before .before .before .before .before .before in
-    let so-far = c .before .before .before .before .loop .inv in
+list-row-requires c κs =
+    let at-loop = c .before .before .before .before in
+    let small = at-loop .before .before .before .before .pre .0 in
     let more = c .before .before .before .loop-test .taken in
-    (start .pre .0, more, list-room (start .pre .0) so-far more, so-far .lows-size, so-far .highs-size)
+    (small, more, list-room small (at-loop .loop .inv) more, at-loop .loop .inv .lows-size, at-loop .loop .inv .highs-size)
 
 add-a : tie.Need-add-a Inv-loop μ-loop
 add-a c = omega arith
@@ -34,7 +36,9 @@ loop-less : tie.Need-loop-less Inv-loop μ-loop
 loop-less c = omega arith
 
 loop-again : tie.Need-loop-again Inv-loop μ-loop
-loop-again c = list-next (c .before .before .before .before .before .before .before .before .before .before .before .before .before .pre .0) (c .before .before .before .before .before .before .before .before .before .loop .inv) (c .before .before .before .before .before .before .before .before .loop-test .taken) (c .before .before .before .before .list-row .ensures)
+loop-again c =
+    let at-loop = c .before .before .before .before .before .before .before .before .before in
+    list-next (at-loop .before .before .before .before .pre .0) (at-loop .loop .inv) (c .before .before .before .before .before .before .before .before .loop-test .taken) (c .before .before .before .before .list-row .ensures)
 
 same-length : tie.Need-same-length Inv-loop μ-loop
 same-length c = c .before .loop .inv .lows-size ∙ sym (c .before .before .before .before .before .pre .2)

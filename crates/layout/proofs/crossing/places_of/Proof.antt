@@ -1,4 +1,4 @@
-use Prim.Native.Nat.{ℕ, _-_}
+use Prim.Native.Nat.{_-_}
 use native.Mathlib.Omega.{arith}
 use Rattle.laws.specs.FirstCrossing.{PlacesUpTo, vertex-lt, places-start, places-next, places-end}
 use Rattle.layout.proofs.crossing.places_of.Statement.{statement}
@@ -23,7 +23,9 @@ cast-places : tie.Need-cast-places Inv-loop μ-loop
 cast-places c = omega arith
 
 array-write-places : tie.Need-array-write-places Inv-loop μ-loop
-array-write-places c = omega (arith, vertex-lt (c .before .before .before .args .order .now) (c .before .before .before .pre .0) (c .before .before .before .pre .2) (c .before .before .loop .p) (c .before .loop-test .taken))
+array-write-places c =
+    let start = c .before .before .before in
+    omega (arith, vertex-lt (start .args .order .now) (start .pre .0) (start .pre .2) (c .before .before .loop .p) (c .before .loop-test .taken))
 
 add-p : tie.Need-add-p Inv-loop μ-loop
 add-p c = omega arith
@@ -32,10 +34,14 @@ loop-less : tie.Need-loop-less Inv-loop μ-loop
 loop-less c = omega arith
 
 loop-again : tie.Need-loop-again Inv-loop μ-loop
-loop-again c = places-next (c .before .before .before .args .order .now) (c .before .before .before .pre .0) (c .before .before .before .pre .2) (c .before .before .loop .inv) (c .before .loop-test .taken)
+loop-again c =
+    let start = c .before .before .before in
+    places-next (start .args .order .now) (start .pre .0) (start .pre .2) (c .before .before .loop .inv) (c .before .loop-test .taken)
 
 returns : tie.Need-returns Inv-loop μ-loop
-returns c = places-end (c .before .before .args .order .now) (c .before .before .pre .0) (c .before .before .pre .2) (c .before .loop .inv) (c .loop-test .left)
+returns c =
+    let start = c .before .before in
+    places-end (start .args .order .now) (start .pre .0) (start .pre .2) (c .before .loop .inv) (c .loop-test .left)
 
 pub places-of-spec : {M : Type 1} → statement M
 places-of-spec =
