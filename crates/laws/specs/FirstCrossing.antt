@@ -1,6 +1,6 @@
 -- The shown crossing pair: when there is none, that the pair shown does cross, and the search for it over edges listed in two arrays.
 use Prim.Native.Nat.{ℕ, zero, suc, _+_, _-_, _≤_, _<_}
-use native.Mathlib.Nat.{zero-add, le-refl, le-step, lt-suc-self, not-suc-le-zero, le-of-suc-le-suc, le-antisymm}
+use native.Mathlib.Nat.{zero-add, le-refl, not-suc-le-zero, le-of-suc-le-suc, le-antisymm}
 use native.Mathlib.Numerals.{add-one}
 use native.Mathlib.Omega.{arith}
 use mathlib.Core.Path.{_≡_, refl, sym, ap, ap₂, _∙_, subst}
@@ -17,10 +17,10 @@ use Rattle.model.specs.Crossings.{bit, linked, edges, alternate, crosses, cross
 use Rattle.model.specs.Layouts.{vertexOrder, crossingsOf, valid}
 use Rattle.model.specs.Checks.{refusal, byRefusal, checked, isValid}
 use Rattle.model.specs.Reading.{Shown, pairWith, orElse, firstPair, firstCrossingOf}
-use Rattle.laws.specs.Indicators.{T-true, Order, less, same, more, order as which}
+use Rattle.laws.specs.Indicators.{T-true, less, same, more, order as which}
 use Rattle.laws.specs.Sums.{sum}
 use Rattle.laws.specs.ListSums.{All, none, also}
-use Rattle.laws.specs.Permutations.{at, Permutation, at-lt, at-of-place, place-of-at, place-below}
+use Rattle.laws.specs.Permutations.{Permutation, at-lt, at-of-place, place-of-at, place-below}
 use Rattle.laws.specs.Bound.{sum-more}
 use Rattle.laws.specs.EdgeCounts.{Within, all-edges}
 use Rattle.laws.specs.Validity.{sound}
@@ -38,6 +38,7 @@ found-valid l t = rw (T-true (valid l) t)
 -- ---- "It answers "none" exactly when no two links cross."
 
 module _ (o : List ℕ) where
+  -- whether a search finds nothing is whether the sum of the crossings is 0
   pair-none : (e : Edge) (fs : List Edge) → eqb (length (pairWith o e fs)) 0 ≡ eqb (sumOver (λ f. one (crosses o e f)) fs) 0
   unfolding pairWith sumOver one
   pair-none e [] = refl
@@ -69,7 +70,6 @@ module _ (o : List ℕ) where
       ∙ sym (sum-none (sumOver (λ f. one (crosses o e f)) es) (sumPairs (λ e f. one (crosses o e f)) es))
 
 module _ (l : Layout) (t : T (valid l)) where
-  -- the answer to "do no two edges cross?"
   pub none-exactly : firstCrossingOf l .none ≡ eqb (crossingsOf l) 0
   unfolding found crossingsOf crossings
   none-exactly = ap (λ (s : Shown). s .none) (sym (found-valid l t)) ∙ first-none (vertexOrder l) (edges (l .n) (l .adjacency))
