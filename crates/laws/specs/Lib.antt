@@ -26,3 +26,4 @@ pub mod SiftingWalk
 pub mod SiftingLoops
 pub mod Writing
 pub mod EdgeTotals
+pub mod FirstCrossing
