@@ -27,3 +27,4 @@ pub mod SiftingLoops
 pub mod Writing
 pub mod EdgeTotals
 pub mod FirstCrossing
+pub mod ListingText
