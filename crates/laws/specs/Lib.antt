@@ -11,3 +11,7 @@ pub mod Bound
 pub mod Validity
 pub mod Bits
 pub mod MaskCount
+pub mod ChartFields
+pub mod ChartEdges
+pub mod ChartOrder
+pub mod ChartReading
