@@ -31,7 +31,13 @@ pub fn ask_ends(n: usize, links: &[u8]) -> Asked
 fn is_edge(n: usize, a: usize, b: usize) -> bool
     ensures { λ r. ⌜ r ≡ edgeWithin n (edge a b) ⌝ }
 {
-    a < n && b < n && a != b
+    if n <= a {
+        return false;
+    }
+    if n <= b {
+        return false;
+    }
+    a != b
 }
 
 // Question 7: no pair twice, either way round. The edges go into the words, one after the other, so a

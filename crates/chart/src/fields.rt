@@ -2,8 +2,12 @@
 use model::{Asked, BodiesFound, FieldFound, SizeFound};
 
 ghost use mathlib.Core.Path.{_≡_};
+ghost use mathlib.Core.List.{[], _∷_};
+ghost use Prim.Native.Nat.{_≤_};
+ghost use lib.ListN.{length, drop};
 ghost use Rattle.model.specs.Charts.{asked, fieldFound, bodiesFound, sizeFound};
 ghost use Rattle.model.specs.Charts.{fieldsOf, fieldAnswer, divisionAnswer, bodiesAnswer, sizeAnswer};
+ghost use Rattle.laws.specs.ChartFields.{rightTags};
 
 // Questions 1 and 2: at most 8,192 bytes, which divide exactly into fields.
 pub fn ask_fields(bytes: &[u8]) -> Asked
@@ -24,11 +28,18 @@ fn divides(bytes: &[u8]) -> bool
 {
     let mut at = 0;
     loop {
-        let FieldFound::Field(_, length) = first_field(&bytes[at..]) else {
+        let FieldFound::Field(_, length) = field_at(bytes, at) else {
             return at == bytes.len();
         };
         at += 3 + length;
     }
+}
+
+fn field_at(bytes: &[u8], at: usize) -> FieldFound
+    requires { ⌜ at ≤ length (now bytes) ⌝ }
+    ensures { λ r. ⌜ fieldFound r ≡ fieldAnswer (drop at (now (bytes .entry))) ⌝ }
+{
+    first_field(&bytes[at..])
 }
 
 // The field that the bytes start with: header and body are there whole.
@@ -50,26 +61,38 @@ fn first_field(bytes: &[u8]) -> FieldFound
 pub fn find_bodies(bytes: &[u8]) -> BodiesFound
     ensures { λ r. ⌜ bodiesFound r ≡ bodiesAnswer (now (bytes .entry)) ⌝ }
 {
-    let FieldFound::Field(first, size_length) = first_field(bytes) else {
+    let FieldFound::Field(first, size_length) = field_at(bytes, 0) else {
         return BodiesFound::Refused(3);
     };
     let links = 3 + size_length;
-    let FieldFound::Field(second, links_length) = first_field(&bytes[links..]) else {
+    let FieldFound::Field(second, links_length) = field_at(bytes, links) else {
         return BodiesFound::Refused(3);
     };
     let order = links + 3 + links_length;
-    let FieldFound::Field(third, order_length) = first_field(&bytes[order..]) else {
+    let FieldFound::Field(third, order_length) = field_at(bytes, order) else {
         return BodiesFound::Refused(3);
     };
     let end = order + 3 + order_length;
-    let FieldFound::Nothing = first_field(&bytes[end..]) else {
+    let FieldFound::Nothing = field_at(bytes, end) else {
         return BodiesFound::Refused(3);
     };
-    if first == 0x44 && second == 0x4C && third == 0x52 {
+    if are_tags(first, second, third) {
         BodiesFound::Found(size_length, links_length, order_length)
     } else {
         BodiesFound::Refused(3)
     }
+}
+
+fn are_tags(first: u8, second: u8, third: u8) -> bool
+    ensures { λ r. ⌜ r ≡ rightTags (first ∷ second ∷ third ∷ []) ⌝ }
+{
+    if first != 0x44 {
+        return false;
+    }
+    if second != 0x4C {
+        return false;
+    }
+    third == 0x52
 }
 
 // Question 4: the body of field 44 is one byte, at most 64.
