@@ -3,13 +3,14 @@ use model::Asked;
 
 ghost use mathlib.Core.Path.{_≡_};
 ghost use mathlib.Core.Bool.{true};
-ghost use mathlib.Core.List.{[], map};
-ghost use Prim.Native.Nat.{_≤_, _<_};
+ghost use mathlib.Core.List.{[]};
+ghost use Prim.Native.Nat.{_<_};
 ghost use lib.ListN.{replicate};
-ghost use Rattle.model.specs.Lists.{upto, every};
+ghost use Rattle.model.specs.Lists.{every};
 ghost use Rattle.model.specs.Edits.{atBothEnds, withBit};
-ghost use Rattle.model.specs.Charts.{asked, answer, endChecks, repeatChecks, edgesIn, edgeWithin, wordIn};
+ghost use Rattle.model.specs.Charts.{asked, answer, endChecks, repeatChecks, edgesIn, edgeWithin};
 ghost use Rattle.laws.specs.ChartEdges.{edge};
+ghost use Rattle.laws.specs.ChartWords.{adjacencyOf};
 
 // Questions 5 and 6: an even length, and the ends of each edge below n and different.
 pub fn ask_ends(n: usize, links: &[u8]) -> Asked
@@ -42,9 +43,9 @@ fn is_edge(n: usize, a: usize, b: usize) -> bool
 
 // Question 7: no pair twice, either way round. The edges go into the words, one after the other, so a
 // pair is written twice exactly when its bit is set already.
-pub fn join_edges(n: usize, links: &[u8], adjacency: &mut [u64; 64]) -> Asked
-    requires { ⌜ (n ≤ 64) × (every (edgeWithin n) (edgesIn (now links)) ≡ true) × (now adjacency ≡ replicate 64 0) ⌝ }
-    ensures { λ r. ⌜ (asked r ≡ answer (repeatChecks (now (links .entry))) []) × (asked r .accepted ≡ true → now (adjacency .exit) ≡ map (wordIn (edgesIn (now (links .entry)))) (upto 64)) ⌝ }
+pub fn join_edges(links: &[u8], adjacency: &mut [u64; 64]) -> Asked
+    requires { ⌜ (every (edgeWithin 64) (edgesIn (now links)) ≡ true) × (now adjacency ≡ replicate 64 0) ⌝ }
+    ensures { λ r. ⌜ (asked r ≡ answer (repeatChecks (now (links .entry))) []) × (asked r .accepted ≡ true → now (adjacency .exit) ≡ adjacencyOf (edgesIn (now (links .entry)))) ⌝ }
 {
     let mut i = 0;
     while i + 1 < links.len() {

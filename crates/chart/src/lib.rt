@@ -46,7 +46,7 @@ fn read_bodies(n: usize, links: &[u8], body: &[u8]) -> ChartRead
         return refused(asked_code(within));
     };
     let mut adjacency = [0u64; 64];
-    let different = edges::join_edges(n, links, &mut adjacency);
+    let different = edges::join_edges(links, &mut adjacency);
     let Asked::Passed = different else {
         return refused(asked_code(different));
     };

@@ -1,7 +1,192 @@
--- The edges of a chart, read one after the other, and their adjacency words.
-use Prim.Native.Nat.{ℕ, min, max}
+-- The edges of a chart, read one after the other, and whether each pair is written only once.
+use Prim.Native.Nat.{ℕ, zero, suc, _+_, _*_, _-_, _%_, _≤_, _<_, zero-le, min, max}
+use native.Mathlib.Nat.{add-suc, min-comm, max-comm, lt-of-lt-of-le}
+use native.Mathlib.Numerals.{add-one}
+use native.Mathlib.Decide.{ℕ-discrete}
+use native.Mathlib.Omega.{arith}
+use mathlib.Core.Path.{_≡_, refl, sym, ap, ap₂, _∙_, subst}
+use mathlib.Core.Logic.{⊎-elim}
+use mathlib.Core.Bool.{Bool, true, false, not, _&&_, _||_, true≢false, false≢true, and-false, or-assoc}
+use mathlib.Core.List.{List, [], _∷_, _++_, append-assoc}
+use lib.ListN.{length, getD, drop, length-drop}
+use lib.Seq.{drop-cons}
+use lib.Dec.{eqb, ltb}
+use borrow.Author.Tests.{lt-ltb, le-ltb, ltb-true, eq-eqb, ne-eqb, eqb-true}
 use Rattle.model.specs.declared.Edge.{Edge}
+use Rattle.model.specs.declared.Asked.the-variants as asks
+use Rattle.model.specs.Lists.{every, any, noRepeats}
+use Rattle.model.specs.Checks.{refusal, byRefusal, checked}
+use Rattle.model.specs.Charts.{edgesIn, sameEdge, edgeWithin, joins, asked, answer, endChecks, repeatChecks}
+use Rattle.laws.specs.Indicators.{Order, less, same, more, order}
 
--- the edge with the ends a and b
+left : (x y : Bool) → (x && y) ≡ true → x ≡ true
+left true y z = refl
+left false y z = z
+
+right : (x y : Bool) → (x && y) ≡ true → y ≡ true
+right true y z = z
+right false y z = absurd (false≢true z)
+
+-- ---- an edge with two ends
+
 unfoldable pub edge : ℕ → ℕ → Edge
 edge a b = record { low = min a b; high = max a b }
+
+-- the ends below n and different
+pub edge-within : (n a b : ℕ) → a < n → b < n → edgeWithin n (edge a b) ≡ not (eqb a b)
+unfolding edgeWithin edge
+edge-within n a b h l =
+    elim (order a b) [
+      | less e ↦ rw (ne-eqb a b (λ z. omega arith), lt-ltb (min a b) (max a b) (omega arith), lt-ltb (max a b) n (omega arith))
+      | same e ↦ rw (eq-eqb a b e, le-ltb (min a b) (max a b) (omega arith))
+      | more e ↦ rw (ne-eqb a b (λ z. omega arith), lt-ltb (min a b) (max a b) (omega arith), lt-ltb (max a b) n (omega arith))
+    ]
+
+pub edge-outside : (n a b : ℕ) → n ≤ max a b → edgeWithin n (edge a b) ≡ false
+unfolding edgeWithin edge
+edge-outside n a b h = rw (le-ltb (max a b) n h) (and-false (ltb (min a b) (max a b)))
+
+pub record Ends (n a b : ℕ) : Type 0 where
+  pub first : a < n
+  pub second : b < n
+  pub differ : a ≡ b → ⊥
+
+pub edge-ends : (n a b : ℕ) → edgeWithin n (edge a b) ≡ true → Ends n a b
+unfolding edgeWithin edge
+edge-ends n a b e =
+    let low : min a b < max a b = ltb-true (min a b) (max a b) (left (ltb (min a b) (max a b)) (ltb (max a b) n) e) in
+    let high : max a b < n = ltb-true (max a b) n (right (ltb (min a b) (max a b)) (ltb (max a b) n) e) in
+    record { first = omega arith; second = omega arith; differ = λ z. omega arith }
+
+-- the same edge has the same ends, either way round
+pub edge-swap : (a b : ℕ) → edge a b ≡ edge b a
+unfolding edge
+edge-swap a b = rw (min-comm a b, max-comm a b)
+
+pub same-edge : (a b : ℕ) → sameEdge (edge a b) (edge a b) ≡ true
+unfolding sameEdge edge
+same-edge a b = rw (eq-eqb (min a b) (min a b) refl, eq-eqb (max a b) (max a b) refl)
+
+pub other-edge : (a b u v : ℕ) → ((a ≡ u) × (b ≡ v) → ⊥) → ((a ≡ v) × (b ≡ u) → ⊥) → sameEdge (edge a b) (edge u v) ≡ false
+unfolding sameEdge edge
+other-edge a b u v d f =
+    elim (ℕ-discrete (min a b) (min u v)) [
+      | no k ↦ rw (ne-eqb (min a b) (min u v) k)
+      | yes k ↦
+          elim (ℕ-discrete (max a b) (max u v)) [
+            | no l ↦ rw (ne-eqb (max a b) (max u v) l) (and-false (eqb (min a b) (min u v)))
+            | yes l ↦ absurd (both k l)
+          ]
+    ]
+  where
+    both : min a b ≡ min u v → max a b ≡ max u v → ⊥
+    both k l =
+        elim (ℕ-discrete a u) [
+          | yes e ↦ d (e, omega arith)
+          | no g ↦ f (omega arith, omega arith)
+        ]
+
+-- ---- the edges from a place of the body on
+
+pub edges-next : (s : List ℕ) (i : ℕ) → i + 1 < length s → edgesIn (drop i s) ≡ edge (getD s i 0) (getD s (i + 1) 0) ∷ edgesIn (drop (i + 2) s)
+unfolding edgesIn edge
+edges-next s i h =
+    ap edgesIn
+    (drop-cons s i 0 (omega arith)
+    ∙ ap (λ (x : List ℕ). getD s i 0 ∷ x) (ap (λ (k : ℕ). drop k s) (sym (add-one i)) ∙ drop-cons s (i + 1) 0 h ∙ ap (λ (k : ℕ). getD s (i + 1) 0 ∷ drop k s) (sym (add-suc i 1))))
+
+pub edges-last : (s : List ℕ) (i : ℕ) → length s ≤ i + 1 → edgesIn (drop i s) ≡ []
+unfolding edgesIn
+edges-last s i h = short (drop i s) (omega (arith, length-drop i s))
+  where
+    short : (xs : List ℕ) → length xs ≤ 1 → edgesIn xs ≡ []
+    short [] l = refl
+    short (x ∷ []) l = refl
+    short (x ∷ y ∷ xs) l = absurd (omega arith)
+
+-- ---- questions 5 and 6
+
+pub record EndsUpTo (n : ℕ) (s : List ℕ) (i : ℕ) : Type 0 where
+  pub inside : i ≤ length s
+  pub rest : every (edgeWithin n) (edgesIn s) ≡ every (edgeWithin n) (edgesIn (drop i s))
+
+module _ {n : ℕ} {s : List ℕ} where
+  pub ends-start : EndsUpTo n s 0
+  ends-start = record { inside = zero-le; rest = refl }
+
+  ends-split : {i : ℕ} → EndsUpTo n s i → i + 1 < length s
+      → every (edgeWithin n) (edgesIn s) ≡ (edgeWithin n (edge (getD s i 0) (getD s (i + 1) 0)) && every (edgeWithin n) (edgesIn (drop (i + 2) s)))
+  unfolding every
+  ends-split {i} r h = r .rest ∙ ap (every (edgeWithin n)) (edges-next s i h)
+
+  pub ends-next : {i : ℕ} → EndsUpTo n s i → i + 1 < length s → edgeWithin n (edge (getD s i 0) (getD s (i + 1) 0)) ≡ true → EndsUpTo n s (i + 2)
+  ends-next {i} r h e = record { inside = omega arith; rest = ends-split r h ∙ ap (λ (x : Bool). x && every (edgeWithin n) (edgesIn (drop (i + 2) s))) e }
+
+  pub ends-bad : {i : ℕ} → EndsUpTo n s i → i + 1 < length s → edgeWithin n (edge (getD s i 0) (getD s (i + 1) 0)) ≡ false → every (edgeWithin n) (edgesIn s) ≡ false
+  ends-bad {i} r h e = ends-split r h ∙ ap (λ (x : Bool). x && every (edgeWithin n) (edgesIn (drop (i + 2) s))) e
+
+  pub ends-end : {i : ℕ} → EndsUpTo n s i → length s ≤ i + 1 → every (edgeWithin n) (edgesIn s) ≡ true
+  unfolding every
+  ends-end {i} r h = r .rest ∙ ap (every (edgeWithin n)) (edges-last s i h)
+
+  -- where all pass, so does the next
+  pub ends-known : {i : ℕ} → EndsUpTo n s i → i + 1 < length s → every (edgeWithin n) (edgesIn s) ≡ true → edgeWithin n (edge (getD s i 0) (getD s (i + 1) 0)) ≡ true
+  ends-known {i} r h e = left (edgeWithin n (edge (getD s i 0) (getD s (i + 1) 0))) (every (edgeWithin n) (edgesIn (drop (i + 2) s))) (sym (ends-split r h) ∙ e)
+
+module _ (n : ℕ) (s : List ℕ) where
+  pub answer-odd : (length s % 2 ≡ 0 → ⊥) → asked (asks.Refused 5) ≡ answer (endChecks n s) []
+  unfolding endChecks answer checked byRefusal refusal asked
+  answer-odd d = rw (ne-eqb (length s % 2) 0 d)
+
+  pub answer-outside : length s % 2 ≡ 0 → every (edgeWithin n) (edgesIn s) ≡ false → asked (asks.Refused 6) ≡ answer (endChecks n s) []
+  unfolding endChecks answer checked byRefusal refusal asked
+  answer-outside d e = rw (eq-eqb (length s % 2) 0 d, e)
+
+  pub answer-within : length s % 2 ≡ 0 → every (edgeWithin n) (edgesIn s) ≡ true → asked asks.Passed ≡ answer (endChecks n s) []
+  unfolding endChecks answer checked byRefusal refusal asked
+  answer-within d e = rw (eq-eqb (length s % 2) 0 d, e)
+
+-- ends below n are below m
+pub within-mono : (n m : ℕ) → n ≤ m → (es : List Edge) → every (edgeWithin n) es ≡ true → every (edgeWithin m) es ≡ true
+unfolding every edgeWithin
+within-mono n m h [] e = refl
+within-mono n m h (x ∷ xs) e =
+    ap₂ (λ (a b : Bool). a && b)
+    (ap₂ (λ (a b : Bool). a && b) (left (ltb (x .low) (x .high)) (ltb (x .high) n) first)
+    (lt-ltb (x .high) m (lt-of-lt-of-le (ltb-true (x .high) n (right (ltb (x .low) (x .high)) (ltb (x .high) n) first)) h)))
+    (within-mono n m h xs (right (edgeWithin n x) (every (edgeWithin n) xs) e))
+  where
+    first : edgeWithin n x ≡ true
+    first = left (edgeWithin n x) (every (edgeWithin n) xs) e
+
+-- ---- no repeats, one entry after the other
+
+module _ {A : Type 0} where
+  pub any-append : (p : A → Bool) (xs ys : List A) → any p (xs ++ ys) ≡ (any p xs || any p ys)
+  unfolding any
+  any-append p [] ys = refl
+  any-append p (x ∷ xs) ys = ap (λ (b : Bool). p x || b) (any-append p xs ys) ∙ sym (or-assoc (p x) (any p xs) (any p ys))
+
+  -- one entry more
+  pub noRepeats-last : (alike : A → A → Bool) (xs : List A) (x : A) → noRepeats alike (xs ++ (x ∷ [])) ≡ (noRepeats alike xs && not (any (λ y. alike y x) xs))
+  unfolding noRepeats any
+  noRepeats-last alike [] x = refl
+  noRepeats-last alike (y ∷ ys) x =
+      rw (any-append (alike y) ys (x ∷ []), noRepeats-last alike ys x) (regroup (any (alike y) ys) (alike y x) (noRepeats alike ys) (any (λ z. alike z x) ys))
+    where
+      regroup : (a b c d : Bool) → (not (a || (b || false)) && (c && not d)) ≡ (not a && c && not (b || d))
+      regroup true b c d = refl
+      regroup false true c d = sym (and-false c)
+      regroup false false c d = refl
+
+  -- a repeat stays one, whatever follows
+  pub noRepeats-more : (alike : A → A → Bool) (xs ys : List A) → noRepeats alike xs ≡ false → noRepeats alike (xs ++ ys) ≡ false
+  unfolding noRepeats
+  noRepeats-more alike [] ys e = absurd (true≢false e)
+  noRepeats-more alike (x ∷ xs) ys e =
+      rw (any-append (alike x) xs ys) (by-test (any (alike x) xs) (any (alike x) ys) (noRepeats alike xs) e (noRepeats-more alike xs ys))
+    where
+      by-test : (a b c : Bool) → (not a && c) ≡ false → (c ≡ false → noRepeats alike (xs ++ ys) ≡ false) → (not (a || b) && noRepeats alike (xs ++ ys)) ≡ false
+      by-test true b c z r = refl
+      by-test false true c z r = refl
+      by-test false false c z r = r z

@@ -13,5 +13,6 @@ pub mod Bits
 pub mod MaskCount
 pub mod ChartFields
 pub mod ChartEdges
+pub mod ChartWords
 pub mod ChartOrder
 pub mod ChartReading

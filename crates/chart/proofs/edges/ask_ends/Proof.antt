@@ -1,70 +1,63 @@
+use borrow.Author.Needs.{needs}
+use Prim.Native.Nat.{_+_, _-_}
+use native.Mathlib.Omega.{arith}
+use mathlib.Core.Path.{sym, _∙_}
+use lib.ListN.{length}
+use borrow.Author.Tests.{not-true, not-false}
+use Rattle.laws.specs.ChartEdges.{EndsUpTo, ends-start, ends-next, ends-bad, ends-end, answer-odd, answer-outside, answer-within}
 use Rattle.chart.proofs.edges.ask_ends.Statement.{statement}
 use Rattle.chart.proofs.edges.ask_ends.Tie as tie
-use Rattle.chart.proofs.edges.ask_ends.Reads as reads
-use Rattle.chart.proofs.edges.ask_ends.Lts as lts
-use Rattle.chart.proofs.edges.is_edge.Reads as is-edge-reads
 
 abbrev Inv-loop : tie.InvT-loop
-Inv-loop n links i₀ i = ?
+Inv-loop n links i₀ i = EndsUpTo n links i
 
 abbrev μ-loop : tie.MeasureT-loop
-μ-loop n links i₀ i = ?
+μ-loop n links i₀ i = length links - i
 
--- src/edges.rt:19:9
 returns : tie.Need-returns Inv-loop μ-loop
-returns c = ?
+returns c = answer-odd (c .before .before .args .n) (c .before .before .args .links .now) (c .if1 .taken)
 
--- src/edges.rt:22:5
 loop-holds : tie.Need-loop-holds Inv-loop μ-loop
-loop-holds c = ?
+loop-holds c = ends-start
 
--- src/edges.rt:22:11
 add-loop : tie.Need-add-loop Inv-loop μ-loop
-add-loop c = ?
+add-loop c = omega arith
 
--- src/edges.rt:23:24
 shared-slice-read-is-edge : tie.Need-shared-slice-read-is-edge Inv-loop μ-loop
-shared-slice-read-is-edge c = ?
+shared-slice-read-is-edge c = omega arith
 
--- src/edges.rt:23:24
 cast-is-edge : tie.Need-cast-is-edge Inv-loop μ-loop
-cast-is-edge c = ?
+cast-is-edge c = omega (arith, c .shared-slice-known2 .given (c .before .before .loop .i))
 
--- src/edges.rt:23:49
 add-is-edge : tie.Need-add-is-edge Inv-loop μ-loop
-add-is-edge c = ?
+add-is-edge c = omega arith
 
--- src/edges.rt:23:43
 shared-slice-read-is-edge-2 : tie.Need-shared-slice-read-is-edge-2 Inv-loop μ-loop
-shared-slice-read-is-edge-2 c = ?
+shared-slice-read-is-edge-2 c = omega arith
 
--- src/edges.rt:23:43
 cast-is-edge-2 : tie.Need-cast-is-edge-2 Inv-loop μ-loop
-cast-is-edge-2 c = ?
+cast-is-edge-2 c = omega (arith, c .shared-slice-known3 .given (c .before .before .before .loop .i + 1))
 
--- src/edges.rt:23:13
 is-edge-requires : tie.Need-is-edge-requires Inv-loop μ-loop
-is-edge-requires c κs = ?
+is-edge-requires c κs = search needs
 
--- src/edges.rt:24:13
 returns-2 : tie.Need-returns-2 Inv-loop μ-loop
-returns-2 c = ?
+returns-2 c = 
+    let at-loop = c .before .before .before .before .before in
+    answer-outside (c .before .before .before .before .before .before .before .before .args .n) (c .before .before .before .before .before .before .before .before .args .links .now) (at-loop .before .if1 .left)
+    (ends-bad (at-loop .loop .inv) (c .before .before .before .before .loop-test .taken) (sym (c .before .is-edge .ensures) ∙ not-true (c .before .is-edge .result) (c .if2 .taken)))
 
--- src/edges.rt:26:9
 add-i : tie.Need-add-i Inv-loop μ-loop
-add-i c = ?
+add-i c = omega arith
 
--- src/edges.rt:22:5
 loop-less : tie.Need-loop-less Inv-loop μ-loop
-loop-less c = ?
+loop-less c = omega arith
 
--- src/edges.rt:22:5
 loop-again : tie.Need-loop-again Inv-loop μ-loop
-loop-again c = ?
+loop-again c = ends-next (c .before .before .before .before .before .loop .inv) (c .before .before .before .before .loop-test .taken) (sym (c .before .is-edge .ensures) ∙ not-false (c .before .is-edge .result) (c .if2 .left))
 
--- src/edges.rt:15:1
 returns-3 : tie.Need-returns-3 Inv-loop μ-loop
-returns-3 c = ?
+returns-3 c = answer-within (c .before .before .before .before .args .n) (c .before .before .before .before .args .links .now) (c .before .before .if1 .left) (ends-end (c .before .loop .inv) (c .loop-test .left))
 
 pub ask-ends-spec : {M : Type 1} → statement M
 ask-ends-spec =
