@@ -2,11 +2,11 @@
 use model::Asked;
 
 ghost use mathlib.Core.Path.{_≡_};
-ghost use mathlib.Core.List.{[], _++_};
+ghost use mathlib.Core.List.{[]};
 ghost use Prim.Native.Nat.{_≤_};
-ghost use lib.ListN.{length, drop};
+ghost use lib.ListN.{length, replicate};
 ghost use Rattle.model.specs.Charts.{asked, answer, placeChecks};
-ghost use Rattle.laws.specs.ChartOrder.{vertexSet};
+ghost use Rattle.laws.specs.ChartOrder.{vertexSet, padded};
 
 // Question 8: n bytes that hold each vertex once. n bytes that hold each vertex hold it once.
 pub fn ask_order(n: usize, body: &[u8]) -> Asked
@@ -36,10 +36,10 @@ fn vertices_in(body: &[u8]) -> u64
     found
 }
 
-// The body goes into the first places; the others stay as they are.
+// The body goes into the first places of an empty order.
 pub fn copy_order(body: &[u8], order: &mut [u8; 64])
-    requires { ⌜ (length (now body) ≤ 64) × (length (now order) ≡ 64) ⌝ }
-    ensures { λ r. ⌜ now (order .exit) ≡ now (body .entry) ++ drop (length (now (body .entry))) (now (order .entry)) ⌝ }
+    requires { ⌜ (length (now body) ≤ 64) × (now order ≡ replicate 64 0) ⌝ }
+    ensures { λ r. ⌜ now (order .exit) ≡ padded (now (body .entry)) ⌝ }
 {
     let mut i = 0;
     while i < body.len() {

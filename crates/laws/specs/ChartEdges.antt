@@ -6,7 +6,7 @@ use native.Mathlib.Decide.{ℕ-discrete}
 use native.Mathlib.Omega.{arith}
 use mathlib.Core.Path.{_≡_, refl, sym, ap, ap₂, _∙_, subst}
 use mathlib.Core.Logic.{⊎-elim}
-use mathlib.Core.Bool.{Bool, true, false, not, _&&_, _||_, true≢false, false≢true, and-false, or-assoc}
+use mathlib.Core.Bool.{Bool, true, false, not, _&&_, _||_, true≢false, false≢true, and-false, or-assoc, or-true, or-false}
 use mathlib.Core.List.{List, [], _∷_, _++_, append-assoc}
 use lib.ListN.{length, getD, drop, length-drop}
 use lib.Seq.{drop-cons}
@@ -18,14 +18,7 @@ use Rattle.model.specs.Lists.{every, any, noRepeats}
 use Rattle.model.specs.Checks.{refusal, byRefusal, checked}
 use Rattle.model.specs.Charts.{edgesIn, sameEdge, edgeWithin, joins, asked, answer, endChecks, repeatChecks}
 use Rattle.laws.specs.Indicators.{Order, less, same, more, order}
-
-left : (x y : Bool) → (x && y) ≡ true → x ≡ true
-left true y z = refl
-left false y z = z
-
-right : (x y : Bool) → (x && y) ≡ true → y ≡ true
-right true y z = z
-right false y z = absurd (false≢true z)
+use Rattle.laws.specs.ChartFields.{both-left, both-right}
 
 -- ---- an edge with two ends
 
@@ -54,8 +47,8 @@ pub record Ends (n a b : ℕ) : Type 0 where
 pub edge-ends : (n a b : ℕ) → edgeWithin n (edge a b) ≡ true → Ends n a b
 unfolding edgeWithin edge
 edge-ends n a b e =
-    let low : min a b < max a b = ltb-true (min a b) (max a b) (left (ltb (min a b) (max a b)) (ltb (max a b) n) e) in
-    let high : max a b < n = ltb-true (max a b) n (right (ltb (min a b) (max a b)) (ltb (max a b) n) e) in
+    let low : min a b < max a b = ltb-true (min a b) (max a b) (both-left (ltb (min a b) (max a b)) (ltb (max a b) n) e) in
+    let high : max a b < n = ltb-true (max a b) n (both-right (ltb (min a b) (max a b)) (ltb (max a b) n) e) in
     record { first = omega arith; second = omega arith; differ = λ z. omega arith }
 
 -- the same edge has the same ends, either way round
@@ -131,7 +124,7 @@ module _ {n : ℕ} {s : List ℕ} where
 
   -- where all pass, so does the next
   pub ends-known : {i : ℕ} → EndsUpTo n s i → i + 1 < length s → every (edgeWithin n) (edgesIn s) ≡ true → edgeWithin n (edge (getD s i 0) (getD s (i + 1) 0)) ≡ true
-  ends-known {i} r h e = left (edgeWithin n (edge (getD s i 0) (getD s (i + 1) 0))) (every (edgeWithin n) (edgesIn (drop (i + 2) s))) (sym (ends-split r h) ∙ e)
+  ends-known {i} r h e = both-left (edgeWithin n (edge (getD s i 0) (getD s (i + 1) 0))) (every (edgeWithin n) (edgesIn (drop (i + 2) s))) (sym (ends-split r h) ∙ e)
 
 module _ (n : ℕ) (s : List ℕ) where
   pub answer-odd : (length s % 2 ≡ 0 → ⊥) → asked (asks.Refused 5) ≡ answer (endChecks n s) []
@@ -152,20 +145,29 @@ unfolding every edgeWithin
 within-mono n m h [] e = refl
 within-mono n m h (x ∷ xs) e =
     ap₂ (λ (a b : Bool). a && b)
-    (ap₂ (λ (a b : Bool). a && b) (left (ltb (x .low) (x .high)) (ltb (x .high) n) first)
-    (lt-ltb (x .high) m (lt-of-lt-of-le (ltb-true (x .high) n (right (ltb (x .low) (x .high)) (ltb (x .high) n) first)) h)))
-    (within-mono n m h xs (right (edgeWithin n x) (every (edgeWithin n) xs) e))
+    (ap₂ (λ (a b : Bool). a && b) (both-left (ltb (x .low) (x .high)) (ltb (x .high) n) first)
+    (lt-ltb (x .high) m (lt-of-lt-of-le (ltb-true (x .high) n (both-right (ltb (x .low) (x .high)) (ltb (x .high) n) first)) h)))
+    (within-mono n m h xs (both-right (edgeWithin n x) (every (edgeWithin n) xs) e))
   where
     first : edgeWithin n x ≡ true
-    first = left (edgeWithin n x) (every (edgeWithin n) xs) e
+    first = both-left (edgeWithin n x) (every (edgeWithin n) xs) e
 
 -- ---- no repeats, one entry after the other
 
 module _ {A : Type 0} where
-  pub any-append : (p : A → Bool) (xs ys : List A) → any p (xs ++ ys) ≡ (any p xs || any p ys)
+  any-append : (p : A → Bool) (xs ys : List A) → any p (xs ++ ys) ≡ (any p xs || any p ys)
   unfolding any
   any-append p [] ys = refl
   any-append p (x ∷ xs) ys = ap (λ (b : Bool). p x || b) (any-append p xs ys) ∙ sym (or-assoc (p x) (any p xs) (any p ys))
+
+  module _ (p : A → Bool) (xs : List A) (x : A) where
+    pub any-new : p x ≡ true → any p (xs ++ (x ∷ [])) ≡ true
+    unfolding any
+    any-new t = rw (any-append p xs (x ∷ []), t) (or-true (any p xs))
+
+    pub any-old : p x ≡ false → any p (xs ++ (x ∷ [])) ≡ any p xs
+    unfolding any
+    any-old t = rw (any-append p xs (x ∷ []), t) (or-false (any p xs))
 
   -- one entry more
   pub noRepeats-last : (alike : A → A → Bool) (xs : List A) (x : A) → noRepeats alike (xs ++ (x ∷ [])) ≡ (noRepeats alike xs && not (any (λ y. alike y x) xs))

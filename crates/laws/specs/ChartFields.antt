@@ -19,6 +19,15 @@ use Rattle.model.specs.Charts.{Field, Fields, bodyLength, startsWithField, firs
 use Rattle.laws.specs.Indicators.{Order, less, same, more, order}
 use Rattle.model.specs.Charts.{Answer, accept, refuse, asked, fieldFound, bodiesFound, answer, fieldAnswer, divisionAnswer, bodiesAnswer, sizeFound, sizeChecks, sizeAnswer}
 
+-- both of two tests pass
+pub both-left : (x y : Bool) → (x && y) ≡ true → x ≡ true
+both-left true y z = refl
+both-left false y z = z
+
+pub both-right : (x y : Bool) → (x && y) ≡ true → y ≡ true
+both-right true y z = z
+both-right false y z = absurd (false≢true z)
+
 -- what is behind the first field
 unfoldable pub behindField : List ℕ → List ℕ
 behindField s = drop (3 + bodyLength s) s
@@ -45,11 +54,7 @@ step-none (suc k) s e = rw (e, fieldsIn)
 -- a field has a header, and its body is there
 pub field-fits : (s : List ℕ) → startsWithField s ≡ true → 3 + bodyLength s ≤ length s
 unfolding startsWithField
-field-fits s e = leb-true (3 + bodyLength s) (length s) (second (leb 3 (length s)) (leb (3 + bodyLength s) (length s)) e)
-  where
-    second : (a b : Bool) → (a && b) ≡ true → b ≡ true
-    second true b e = e
-    second false b e = absurd (false≢true e)
+field-fits s e = leb-true (3 + bodyLength s) (length s) (both-right (leb 3 (length s)) (leb (3 + bodyLength s) (length s)) e)
 
 no-bytes : (s : List ℕ) → length s ≤ 0 → startsWithField s ≡ false
 no-bytes s h = by-test (startsWithField s) refl

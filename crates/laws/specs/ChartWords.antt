@@ -5,7 +5,7 @@ use native.Mathlib.Numerals.{add-one}
 use native.Mathlib.Decide.{ℕ-discrete}
 use native.Mathlib.Omega.{arith}
 use mathlib.Core.Path.{_≡_, refl, sym, ap, ap₂, _∙_, subst}
-use mathlib.Core.Bool.{Bool, true, false, not, cond, _&&_, or-true, or-false}
+use mathlib.Core.Bool.{Bool, true, false, not, cond, _&&_}
 use mathlib.Core.List.{List, [], _∷_, _++_, map, append-assoc, append-nil}
 use lib.ListN.{length, getD, drop, set, replicate, length-set, length-map, length-append, List·getD-append}
 use lib.Seq.{ext-getD, getD-set-same, getD-set-other, getD-at}
@@ -24,7 +24,7 @@ use Rattle.laws.specs.Indicators.{Order, less, same, more, order, one-eq
 use Rattle.laws.specs.Sums.{sum}
 use Rattle.laws.specs.ListSums.{sumOver-upto}
 use Rattle.laws.specs.Bits.{bit-beyond, bits-ext, set-same, set-other, or-power}
-use Rattle.laws.specs.ChartEdges.{edge, edge-swap, same-edge, other-edge, Ends, edge-ends, edges-next, edges-last, EndsUpTo, ends-start, ends-next, ends-known, any-append, noRepeats-last, noRepeats-more}
+use Rattle.laws.specs.ChartEdges.{edge, edge-swap, same-edge, other-edge, Ends, edge-ends, edges-next, edges-last, EndsUpTo, ends-start, ends-next, ends-known, any-new, any-old, noRepeats-last, noRepeats-more}
 
 -- ---- a word made of its bits
 
@@ -128,15 +128,6 @@ unfolding wordIn any sumOver upto
 no-edges = refl
 
 -- ---- one edge more
-
-module _ (p : Edge → Bool) (es : List Edge) (e : Edge) where
-  any-new : p e ≡ true → any p (es ++ (e ∷ [])) ≡ true
-  unfolding any
-  any-new t = rw (any-append p es (e ∷ []), t) (or-true (any p es))
-
-  any-old : p e ≡ false → any p (es ++ (e ∷ [])) ≡ any p es
-  unfolding any
-  any-old t = rw (any-append p es (e ∷ []), t) (or-false (any p es))
 
 joins-edge : (u v a b : ℕ) → joins u v (edge a b) ≡ sameEdge (edge a b) (edge u v)
 unfolding joins edge

@@ -1,3 +1,4 @@
+use borrow.Author.Needs.{needs}
 use Rattle.chart.proofs.read.Statement.{statement}
 use Rattle.chart.proofs.read.Tie as tie
 use Rattle.chart.proofs.read.Reads as reads
@@ -13,22 +14,22 @@ use Rattle.chart.proofs.size_code.Reads as size-code-reads
 
 -- src/lib.rt:19:9
 ask-fields-requires : tie.Need-ask-fields-requires
-ask-fields-requires c κs = ?
+ask-fields-requires c κs = search needs
 
 enum-told : tie.Need-enum-told
-enum-told c = ?
+enum-told c = search needs
 
 -- src/lib.rt:21:24
 enum-told-2 : tie.Need-enum-told-2
-enum-told-2 c = ?
+enum-told-2 c = search needs
 
 -- src/lib.rt:21:24
 asked-code-requires : tie.Need-asked-code-requires
-asked-code-requires c κs = ?
+asked-code-requires c κs = search needs
 
 -- src/lib.rt:21:9
 refused-requires : tie.Need-refused-requires
-refused-requires c κs = ?
+refused-requires c κs = search needs
 
 -- src/lib.rt:21:9
 returns : tie.Need-returns
@@ -36,23 +37,23 @@ returns c = ?
 
 -- src/lib.rt:23:9
 find-bodies-requires : tie.Need-find-bodies-requires
-find-bodies-requires c κs = ?
+find-bodies-requires c κs = search needs
 
 -- src/lib.rt:24:28
 enum-known-bodies : tie.Need-enum-known-bodies
-enum-known-bodies c = ?
+enum-known-bodies c = search needs
 
 -- src/lib.rt:25:24
 enum-told-3 : tie.Need-enum-told-3
-enum-told-3 c = ?
+enum-told-3 c = search needs
 
 -- src/lib.rt:25:24
 bodies-code-requires : tie.Need-bodies-code-requires
-bodies-code-requires c κs = ?
+bodies-code-requires c κs = search needs
 
 -- src/lib.rt:25:9
 refused-requires-2 : tie.Need-refused-requires-2
-refused-requires-2 c κs = ?
+refused-requires-2 c κs = search needs
 
 -- src/lib.rt:25:9
 returns-2 : tie.Need-returns-2
@@ -64,11 +65,11 @@ add-size-end c = ?
 
 -- src/lib.rt:28:34
 sub-find-size : tie.Need-sub-find-size
-sub-find-size c = ?
+sub-find-size c = search needs
 
 -- src/lib.rt:28:34
 part-find-size-start : tie.Need-part-find-size-start
-part-find-size-start c = ?
+part-find-size-start c = search needs
 
 -- src/lib.rt:28:34
 part-find-size-end : tie.Need-part-find-size-end
@@ -76,23 +77,23 @@ part-find-size-end c = ?
 
 -- src/lib.rt:28:9
 find-size-requires : tie.Need-find-size-requires
-find-size-requires c κs = ?
+find-size-requires c κs = search needs
 
 -- src/lib.rt:29:26
 enum-known-size : tie.Need-enum-known-size
-enum-known-size c = ?
+enum-known-size c = search needs
 
 -- src/lib.rt:30:24
 enum-told-4 : tie.Need-enum-told-4
-enum-told-4 c = ?
+enum-told-4 c = search needs
 
 -- src/lib.rt:30:24
 size-code-requires : tie.Need-size-code-requires
-size-code-requires c κs = ?
+size-code-requires c κs = search needs
 
 -- src/lib.rt:30:9
 refused-requires-3 : tie.Need-refused-requires-3
-refused-requires-3 c κs = ?
+refused-requires-3 c κs = search needs
 
 -- src/lib.rt:30:9
 returns-3 : tie.Need-returns-3
@@ -116,11 +117,11 @@ add-order-end c = ?
 
 -- src/lib.rt:36:20
 sub-read-bodies : tie.Need-sub-read-bodies
-sub-read-bodies c = ?
+sub-read-bodies c = search needs
 
 -- src/lib.rt:36:20
 part-read-bodies-start : tie.Need-part-read-bodies-start
-part-read-bodies-start c = ?
+part-read-bodies-start c = search needs
 
 -- src/lib.rt:36:20
 part-read-bodies-end : tie.Need-part-read-bodies-end
@@ -128,11 +129,11 @@ part-read-bodies-end c = ?
 
 -- src/lib.rt:36:52
 sub-read-bodies-2 : tie.Need-sub-read-bodies-2
-sub-read-bodies-2 c = ?
+sub-read-bodies-2 c = search needs
 
 -- src/lib.rt:36:52
 part-read-bodies-start-2 : tie.Need-part-read-bodies-start-2
-part-read-bodies-start-2 c = ?
+part-read-bodies-start-2 c = search needs
 
 -- src/lib.rt:36:52
 part-read-bodies-end-2 : tie.Need-part-read-bodies-end-2

@@ -1,30 +1,28 @@
 use borrow.Author.Needs.{needs}
+use mathlib.Core.Path.{sym, _∙_}
+use Rattle.laws.specs.ChartOrder.{answer-length, answer-places, answer-misplaced}
 use Rattle.chart.proofs.order.ask_order.Statement.{statement}
 use Rattle.chart.proofs.order.ask_order.Tie as tie
-use Rattle.chart.proofs.order.ask_order.Reads as reads
-use Rattle.chart.proofs.order.ask_order.Lts as lts
-use Rattle.chart.proofs.order.vertices_in.Reads as vertices-in-reads
-use Rattle.words.proofs.low_bits.Reads as low-bits-reads
 
--- src/order.rt:17:9
 returns : tie.Need-returns
-returns c = ?
+returns c = answer-length (c .before .before .args .n) (c .before .before .args .body .now) (c .if1 .taken)
 
--- src/order.rt:19:8
 vertices-in-requires : tie.Need-vertices-in-requires
 vertices-in-requires c κs = search needs
 
--- src/order.rt:19:29
 low-bits-requires : tie.Need-low-bits-requires
 low-bits-requires c κs = search needs
 
--- src/order.rt:12:1
 returns-2 : tie.Need-returns-2
-returns-2 c = ?
+returns-2 c = 
+    let a = c .before .before .before .before .before .args in
+    answer-places (a .n) (a .body .now) (c .before .before .before .before .before .pre) (c .before .before .before .if1 .left) (sym (c .before .before .vertices-in .ensures) ∙ c .if2 .taken ∙ c .before .low-bits .ensures)
 
--- src/order.rt:12:1
 returns-3 : tie.Need-returns-3
-returns-3 c = ?
+returns-3 c = 
+    let a = c .before .before .before .before .before .args in
+    answer-misplaced (a .n) (a .body .now) (c .before .before .before .before .before .pre) (c .before .before .before .if1 .left)
+    (λ e. c .if2 .left (c .before .before .vertices-in .ensures ∙ e ∙ sym (c .before .low-bits .ensures)))
 
 pub ask-order-spec : {M : Type 1} → statement M
 ask-order-spec =

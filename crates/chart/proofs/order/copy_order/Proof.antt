@@ -1,41 +1,36 @@
+use Prim.Native.Nat.{_-_}
+use native.Mathlib.Omega.{arith}
+use lib.ListN.{length}
+use Rattle.laws.specs.ChartOrder.{CopiedUpTo, copied-start, copied-next, copied-end}
 use Rattle.chart.proofs.order.copy_order.Statement.{statement}
 use Rattle.chart.proofs.order.copy_order.Tie as tie
-use Rattle.chart.proofs.order.copy_order.Reads as reads
-use Rattle.chart.proofs.order.copy_order.Lts as lts
 
 abbrev Inv-loop : tie.InvT-loop
-Inv-loop body order₀ i₀ order i = ?
+Inv-loop body order₀ i₀ order i = CopiedUpTo body order i
 
 abbrev μ-loop : tie.MeasureT-loop
-μ-loop body order₀ i₀ order i = ?
+μ-loop body order₀ i₀ order i = length body - i
 
--- src/order.rt:45:5
 loop-holds : tie.Need-loop-holds Inv-loop μ-loop
-loop-holds c = ?
+loop-holds c = copied-start (c .pre .1)
 
--- src/order.rt:46:20
 shared-slice-read-order : tie.Need-shared-slice-read-order Inv-loop μ-loop
-shared-slice-read-order c = ?
+shared-slice-read-order c = omega arith
 
--- src/order.rt:46:9
 element-write-order : tie.Need-element-write-order Inv-loop μ-loop
-element-write-order c = ?
+element-write-order c = omega arith
 
--- src/order.rt:47:9
 add-i : tie.Need-add-i Inv-loop μ-loop
-add-i c = ?
+add-i c = omega arith
 
--- src/order.rt:45:5
 loop-less : tie.Need-loop-less Inv-loop μ-loop
-loop-less c = ?
+loop-less c = omega arith
 
--- src/order.rt:45:5
 loop-again : tie.Need-loop-again Inv-loop μ-loop
-loop-again c = ?
+loop-again c = copied-next (c .before .before .loop .inv) (c .before .loop-test .taken) (c .before .before .before .pre .0)
 
--- src/order.rt:40:1
 returns : tie.Need-returns Inv-loop μ-loop
-returns c = ?
+returns c = copied-end (c .before .loop .inv) (c .loop-test .left)
 
 pub copy-order-spec : {M : Type 1} → statement M
 copy-order-spec =

@@ -1,46 +1,40 @@
+use borrow.Author.Needs.{needs}
+use Prim.Native.Nat.{_-_}
+use native.Mathlib.Omega.{arith}
+use lib.ListN.{length}
+use Rattle.laws.specs.ChartOrder.{SetUpTo, set-start, set-next, set-end}
 use Rattle.chart.proofs.order.vertices_in.Statement.{statement}
 use Rattle.chart.proofs.order.vertices_in.Tie as tie
-use Rattle.chart.proofs.order.vertices_in.Reads as reads
-use Rattle.chart.proofs.order.vertices_in.Lts as lts
-use Rattle.words.proofs.set.Reads as set-reads
 
 abbrev Inv-loop : tie.InvT-loop
-Inv-loop body found₀ i₀ found i = ?
+Inv-loop body found₀ i₀ found i = SetUpTo body found i
 
 abbrev μ-loop : tie.MeasureT-loop
-μ-loop body found₀ i₀ found i = ?
+μ-loop body found₀ i₀ found i = length body - i
 
--- src/order.rt:32:5
 loop-holds : tie.Need-loop-holds Inv-loop μ-loop
-loop-holds c = ?
+loop-holds c = set-start
 
--- src/order.rt:33:35
 shared-slice-read-set : tie.Need-shared-slice-read-set Inv-loop μ-loop
-shared-slice-read-set c = ?
+shared-slice-read-set c = omega arith
 
--- src/order.rt:33:35
 cast-set : tie.Need-cast-set Inv-loop μ-loop
-cast-set c = ?
+cast-set c = omega (arith, c .shared-slice-known2 .given (c .before .before .loop .i))
 
--- src/order.rt:33:9
 set-requires : tie.Need-set-requires Inv-loop μ-loop
-set-requires c κs = ?
+set-requires c κs = search needs
 
--- src/order.rt:34:9
 add-i : tie.Need-add-i Inv-loop μ-loop
-add-i c = ?
+add-i c = omega arith
 
--- src/order.rt:32:5
 loop-less : tie.Need-loop-less Inv-loop μ-loop
-loop-less c = ?
+loop-less c = omega arith
 
--- src/order.rt:32:5
 loop-again : tie.Need-loop-again Inv-loop μ-loop
-loop-again c = ?
+loop-again c = set-next (c .before .before .before .loop .inv) (c .before .before .loop-test .taken) (c .set .ensures)
 
--- src/order.rt:27:1
 returns : tie.Need-returns Inv-loop μ-loop
-returns c = ?
+returns c = set-end (c .before .loop .inv) (c .loop-test .left)
 
 pub vertices-in-spec : {M : Type 1} → statement M
 vertices-in-spec =
