@@ -8,9 +8,8 @@ use model::{Asked, BodiesFound, ChartRead, Layout, SizeFound};
 
 ghost use mathlib.Core.Path.{_≡_};
 ghost use Prim.Native.Nat.{_≤_};
-ghost use Rattle.model.specs.Layouts.{emptyLayout};
 ghost use Rattle.model.specs.Charts.{asked, bodiesFound, sizeFound, readOf};
-ghost use Rattle.laws.specs.ChartReading.{readBodies};
+ghost use Rattle.laws.specs.ChartReading.{refusedRead, readBodies};
 
 // An accepted chart gives its edges, its order and its crossings; a refused one the empty layout.
 pub fn read(bytes: &[u8]) -> ChartRead
@@ -69,7 +68,7 @@ fn read_bodies(n: usize, links: &[u8], body: &[u8]) -> ChartRead
 }
 
 fn refused(code: u8) -> ChartRead
-    ensures { λ r. ⌜ (r .refusal ≡ code) × (r .layout ≡ emptyLayout) ⌝ }
+    ensures { λ r. ⌜ r ≡ refusedRead code ⌝ }
 {
     ChartRead {
         refusal: code,

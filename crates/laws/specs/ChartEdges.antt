@@ -18,6 +18,7 @@ use Rattle.model.specs.Lists.{every, any, noRepeats}
 use Rattle.model.specs.Checks.{refusal, byRefusal, checked}
 use Rattle.model.specs.Charts.{edgesIn, sameEdge, edgeWithin, joins, asked, answer, endChecks, repeatChecks}
 use Rattle.laws.specs.Indicators.{Order, less, same, more, order}
+use Rattle.laws.specs.ListSums.{All, none, also, all-mono}
 use Rattle.laws.specs.ChartFields.{both-left, both-right}
 
 -- ---- an edge with two ends
@@ -139,22 +140,20 @@ module _ (n : ℕ) (s : List ℕ) where
   unfolding endChecks answer checked byRefusal refusal asked
   answer-within d e = rw (eq-eqb (length s % 2) 0 d, e)
 
--- ends below n are below m
-pub within-mono : (n m : ℕ) → n ≤ m → (es : List Edge) → every (edgeWithin n) es ≡ true → every (edgeWithin m) es ≡ true
-unfolding every edgeWithin
-within-mono n m h [] e = refl
-within-mono n m h (x ∷ xs) e =
-    ap₂ (λ (a b : Bool). a && b)
-    (ap₂ (λ (a b : Bool). a && b) (both-left (ltb (x .low) (x .high)) (ltb (x .high) n) first)
-    (lt-ltb (x .high) m (lt-of-lt-of-le (ltb-true (x .high) n (both-right (ltb (x .low) (x .high)) (ltb (x .high) n) first)) h)))
-    (within-mono n m h xs (both-right (edgeWithin n x) (every (edgeWithin n) xs) e))
-  where
-    first : edgeWithin n x ≡ true
-    first = both-left (edgeWithin n x) (every (edgeWithin n) xs) e
-
 -- ---- no repeats, one entry after the other
 
 module _ {A : Type 0} where
+  -- a test that passes everywhere
+  pub every-all : {p : A → Bool} {xs : List A} → All (λ x. p x ≡ true) xs → every p xs ≡ true
+  unfolding every
+  every-all none = refl
+  every-all (also e es) = ap₂ (λ (a b : Bool). a && b) e (every-all es)
+
+  pub all-every : (p : A → Bool) (xs : List A) → every p xs ≡ true → All (λ x. p x ≡ true) xs
+  unfolding every
+  all-every p [] e = none
+  all-every p (x ∷ xs) e = also (both-left (p x) (every p xs) e) (all-every p xs (both-right (p x) (every p xs) e))
+
   any-append : (p : A → Bool) (xs ys : List A) → any p (xs ++ ys) ≡ (any p xs || any p ys)
   unfolding any
   any-append p [] ys = refl
@@ -192,3 +191,42 @@ module _ {A : Type 0} where
       by-test true b c z r = refl
       by-test false true c z r = refl
       by-test false false c z r = r z
+
+-- ---- edges whose ends are below n
+
+-- ends below n are below m
+pub within-mono : (n m : ℕ) → n ≤ m → (es : List Edge) → every (edgeWithin n) es ≡ true → every (edgeWithin m) es ≡ true
+unfolding edgeWithin
+within-mono n m h es e = every-all (all-mono (all-every (edgeWithin n) es e) wider)
+  where
+    wider : (x : Edge) → edgeWithin n x ≡ true → edgeWithin m x ≡ true
+    wider x w =
+        ap₂ (λ (a b : Bool). a && b) (both-left (ltb (x .low) (x .high)) (ltb (x .high) n) w)
+        (lt-ltb (x .high) m (lt-of-lt-of-le (ltb-true (x .high) n (both-right (ltb (x .low) (x .high)) (ltb (x .high) n) w)) h))
+
+-- what they join are ends
+ends-joined : (n u v : ℕ) (x : Edge) → edgeWithin n x ≡ true → joins u v x ≡ true → Ends n u v
+unfolding edgeWithin joins sameEdge
+ends-joined n u v x w j =
+    let rising : x .low < x .high = ltb-true (x .low) (x .high) (both-left (ltb (x .low) (x .high)) (ltb (x .high) n) w) in
+    let below : x .high < n = ltb-true (x .high) n (both-right (ltb (x .low) (x .high)) (ltb (x .high) n) w) in
+    let low : x .low ≡ min u v = eqb-true (x .low) (min u v) (both-left (eqb (x .low) (min u v)) (eqb (x .high) (max u v)) j) in
+    let high : x .high ≡ max u v = eqb-true (x .high) (max u v) (both-right (eqb (x .low) (min u v)) (eqb (x .high) (max u v)) j) in
+    record { first = omega arith; second = omega arith; differ = λ z. omega arith }
+
+pub joins-none : (n u v : ℕ) (es : List Edge) → every (edgeWithin n) es ≡ true → (Ends n u v → ⊥) → any (joins u v) es ≡ false
+unfolding any
+joins-none n u v es e d = none-joins (all-mono (all-every (edgeWithin n) es e) (λ x w. one-joins x w (joins u v x) refl))
+  where
+    none-joins : {xs : List Edge} → All (λ x. joins u v x ≡ false) xs → any (joins u v) xs ≡ false
+    none-joins none = refl
+    none-joins (also z zs) = ap₂ (λ (a b : Bool). a || b) z (none-joins zs)
+
+    one-joins : (x : Edge) → edgeWithin n x ≡ true → (b : Bool) → joins u v x ≡ b → b ≡ false
+    one-joins x w true z = absurd (d (ends-joined n u v x w z))
+    one-joins x w false z = refl
+
+-- either end first
+pub joins-swap : (u v : ℕ) (es : List Edge) → any (joins u v) es ≡ any (joins v u) es
+unfolding joins edge
+joins-swap u v es = ap (λ (x : Edge). any (λ e. sameEdge e x) es) (edge-swap u v)

@@ -1,6 +1,6 @@
 -- The fields of a chart, read one after the other.
 use Prim.Native.Nat.{ℕ, zero, suc, _+_, _*_, _-_, _≤_, _<_, zero-le}
-use native.Mathlib.Nat.{add-assoc}
+use native.Mathlib.Nat.{add-assoc, add-sub-cancel-left}
 use native.Mathlib.Decide.{ℕ-discrete}
 use native.Mathlib.Omega.{arith}
 use mathlib.Core.Path.{_≡_, refl, sym, ap, ap₂, _∙_, subst}
@@ -322,6 +322,10 @@ module _ (s : List ℕ) where
           where
             sized : (from size : ℕ) → from + size ≤ length s → size ≡ length (take size (drop from s))
             sized from size h = sym (length-take-le size (drop from s) (omega (arith, length-drop from s)))
+
+-- a part from a start to an end, by its size
+pub part-sized : (s : List ℕ) (start size : ℕ) → take (start + size - start) (drop start s) ≡ take size (drop start s)
+part-sized s start size = ap (λ (k : ℕ). take k (drop start s)) (add-sub-cancel-left start size)
 
 -- where the bodies stand
 pub record BodiesAt (s : List ℕ) (a b c : ℕ) : Type 0 where

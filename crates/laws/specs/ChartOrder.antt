@@ -25,8 +25,8 @@ use Rattle.laws.specs.Permutations.{at, Permutation, occurrences-places,
 use Rattle.laws.specs.Bits.{set-same, set-other, bit-beyond}
 use Rattle.laws.specs.MaskCount.{bit-full}
 use Rattle.laws.specs.Validity.{each-once}
-use Rattle.laws.specs.ChartEdges.{any-new, any-old}
-use Rattle.laws.specs.ChartFields.{both-left, both-right}
+use Rattle.laws.specs.ChartEdges.{every-all, any-new, any-old}
+use Rattle.laws.specs.ListSums.{all-mono, all-upto}
 use Rattle.laws.specs.ChartWords.{wordOf, wordOf-lt, wordOf-bit, wordOf-ext, set-lt}
 
 one-true : (b : Bool) → one b ≡ 1 → b ≡ true
@@ -124,21 +124,11 @@ all-once n o l h = no-more n (λ v. occurrences v o) h total
         ∙ sum-ext (length o) (λ i. sum n (λ v. one (eqb v (at o i)))) (λ i. one (ltb (at o i) n)) (λ i b. sum-hits n (at o i))))
         (le-trans (sum-mono (length o) (λ i. one (ltb (at o i) n)) (λ i. 1) (λ i b. one-le (ltb (at o i) n))) (le-trans (le-of-eq (sum-const (length o) 1 ∙ mul-one (length o))) l))
 
--- every number below n passes
-pub every-below : (p : ℕ → Bool) (n : ℕ) → ((i : ℕ) → i < n → p i ≡ true) → every p (upto n) ≡ true
-unfolding every upto
-every-below p zero h = refl
-every-below p (suc n) h = every-last (upto n) (every-below p n (λ i l. h i (le-step l)))
-  where
-    every-last : (xs : List ℕ) → every p xs ≡ true → every p (xs ++ (n ∷ [])) ≡ true
-    every-last [] e = rw (h n (lt-suc-self n))
-    every-last (x ∷ xs) e = ap₂ (λ (a b : Bool). a && b) (both-left (p x) (every p xs) e) (every-last xs (both-right (p x) (every p xs) e))
-
 module _ (n : ℕ) (o : List ℕ) (few : n ≤ 64) (long : length o ≡ n) where
   -- all of the n lowest bits
   pub full-once : vertexSet o ≡ 2 ^ min n 64 - 1 → eachOnce n o ≡ true
   unfolding eachOnce vertexSet
-  full-once e = every-below (λ v. eqb (occurrences v o) 1) n (λ v l. eq-eqb (occurrences v o) 1 (all-once n o (le-of-eq long) there v l))
+  full-once e = every-all (all-mono (all-upto n) (λ v l. eq-eqb (occurrences v o) 1 (all-once n o (le-of-eq long) there v l)))
     where
       there : (v : ℕ) → v < n → 0 < occurrences v o
       there v l =

@@ -2,7 +2,7 @@
 use Prim.Native.Nat.{ℕ, zero, suc, _+_, _*_, _-_, _^_, _≤_, _<_}
 use native.Mathlib.Nat.{add-zero, zero-mul, one-mul, le-step, lt-suc-self, lt-of-lt-of-le, not-suc-le-zero, pow-suc, zero-lt-suc, le-of-suc-le-suc}
 use native.Mathlib.Numerals.{add-one}
-use native.Mathlib.Decide.{ℕ-discrete}
+use native.Mathlib.Decide.{ℕ-discrete, decLt}
 use native.Mathlib.Omega.{arith}
 use mathlib.Core.Path.{_≡_, refl, sym, ap, ap₂, _∙_, subst}
 use mathlib.Core.Bool.{Bool, true, false, not, cond, _&&_}
@@ -63,6 +63,20 @@ wordOf-bit p (suc k) v h =
     top : (b : Bool) → bit (wordOf p k + cond b (2 ^ k) 0) k ≡ one b
     top true = ap (λ (x : ℕ). bit x k) (sym (set-above k (wordOf p k) (wordOf-lt p k))) ∙ set-same (wordOf p k) k
     top false = ap (λ (x : ℕ). bit x k) (add-zero (wordOf p k)) ∙ bit-beyond k (wordOf p k) k (wordOf-lt p k) (omega arith)
+
+-- no bit from n on
+pub wordOf-below : (p : ℕ → Bool) (n k : ℕ) → n ≤ k → ((v : ℕ) → n ≤ v → p v ≡ false) → wordOf p k < 2 ^ n
+unfolding one
+wordOf-below p n k h none =
+    subst (λ (w : ℕ). w < 2 ^ n)
+    (bits-ext k (wordOf p n) (wordOf p k) (lt-of-lt-of-le (wordOf-lt p n) (pow-mono h)) (wordOf-lt p k) bits) (wordOf-lt p n)
+  where
+    bits : (v : ℕ) → v < k → bit (wordOf p n) v ≡ bit (wordOf p k) v
+    bits v l =
+        elim (decLt v n) [
+          | yes b ↦ wordOf-bit p n v b ∙ sym (wordOf-bit p k v l)
+          | no b ↦ bit-beyond n (wordOf p n) v (wordOf-lt p n) (omega arith) ∙ sym (wordOf-bit p k v l ∙ ap one (none v (omega arith)))
+        ]
 
 -- two words with the same bits
 pub wordOf-ext : (w : ℕ) (p : ℕ → Bool) (k : ℕ) → w < 2 ^ k → ((v : ℕ) → v < k → bit w v ≡ one (p v)) → w ≡ wordOf p k
@@ -126,6 +140,15 @@ adjacency-ext adj es n h e =
 pub no-edges : replicate 64 0 ≡ adjacencyOf []
 unfolding wordIn any sumOver upto
 no-edges = refl
+
+-- bit v of the word of u says whether an edge joins them
+pub adjacency-linked : (es : List Edge) (u v : ℕ) → u < 64 → v < 64 → linked (adjacencyOf es) u v ≡ any (joins u v) es
+unfolding linked one
+adjacency-linked es u v h l = ap (λ (x : ℕ). eqb x 1) (adjacency-bit es u v h l) ∙ as-test (any (joins u v) es)
+  where
+    as-test : (t : Bool) → eqb (one t) 1 ≡ t
+    as-test true = refl
+    as-test false = refl
 
 -- ---- one edge more
 
@@ -222,12 +245,8 @@ pub record JoinedUpTo (s adj : List ℕ) (i : ℕ) : Type 0 where
 
 -- a pair is written already exactly when its bit is set
 set-already : (es : List Edge) (a b : ℕ) → a < 64 → b < 64 → eqb (bit (getD (adjacencyOf es) a 0) b) 1 ≡ any (λ e. sameEdge e (edge a b)) es
-unfolding joins edge one
-set-already es a b h l = ap (λ (x : ℕ). eqb x 1) (adjacency-bit es a b h l) ∙ as-test (any (joins a b) es)
-  where
-    as-test : (t : Bool) → eqb (one t) 1 ≡ t
-    as-test true = refl
-    as-test false = refl
+unfolding joins edge linked
+set-already es a b h l = adjacency-linked es a b h l
 
 module _ {s adj : List ℕ} where
   pub joined-start : adj ≡ replicate 64 0 → JoinedUpTo s adj 0
