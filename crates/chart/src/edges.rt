@@ -1,6 +1,5 @@
 // Questions 5 to 7: the edges (links), two bytes each, and their adjacency words.
 use model::Asked;
-
 ghost use mathlib.Core.Path.{_≡_};
 ghost use mathlib.Core.Bool.{true};
 ghost use mathlib.Core.List.{[]};

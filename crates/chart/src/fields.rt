@@ -1,6 +1,8 @@
 // Questions 1 to 4: the fields of a chart and the number of vertices.
-use model::{Asked, BodiesFound, FieldFound, SizeFound};
-
+use model::Asked;
+use model::BodiesFound;
+use model::FieldFound;
+use model::SizeFound;
 ghost use mathlib.Core.Path.{_≡_};
 ghost use mathlib.Core.List.{[], _∷_};
 ghost use Prim.Native.Nat.{_≤_};

@@ -4,8 +4,11 @@ mod edges;
 mod fields;
 mod order;
 
-use model::{Asked, BodiesFound, ChartRead, Layout, SizeFound};
-
+use model::Asked;
+use model::BodiesFound;
+use model::ChartRead;
+use model::Layout;
+use model::SizeFound;
 ghost use mathlib.Core.Path.{_≡_};
 ghost use Prim.Native.Nat.{_≤_};
 ghost use Rattle.model.specs.Charts.{asked, bodiesFound, sizeFound, readOf};
@@ -32,7 +35,11 @@ pub fn read(bytes: &[u8]) -> ChartRead
     let links_end = links_start + links_length;
     let order_start = links_end + 3;
     let order_end = order_start + order_length;
-    read_bodies(n, &bytes[links_start..links_end], &bytes[order_start..order_end])
+    read_bodies(
+        n,
+        &bytes[links_start..links_end],
+        &bytes[order_start..order_end],
+    )
 }
 
 // The rest, once the number of vertices is known: links and order are the bodies of 4C and 52.

@@ -1,6 +1,5 @@
 // Question 8: the order.
 use model::Asked;
-
 ghost use mathlib.Core.Path.{_≡_};
 ghost use mathlib.Core.List.{[]};
 ghost use Prim.Native.Nat.{_≤_};

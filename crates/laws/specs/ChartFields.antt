@@ -196,7 +196,7 @@ field-at s at f rest h e = by-test (startsWithField (drop at s)) refl
     there t =
         let size = bodyLength (drop at s) in
         let both : record { tag = getD (drop at s) 0 0; body = take size (drop (at + 3) s) } ∷ fieldsOf (drop (at + 3 + size) s) .fields ≡ f ∷ rest =
-            sym (fields-at s at (getD (drop at s) 0 0) size t) ∙ e in
+        sym (fields-at s at (getD (drop at s) 0 0) size t) ∙ e in
         let body : f .body ≡ take size (drop (at + 3) s) = ap (λ (x : Field). x .body) (let y : f ≡ record { tag = getD (drop at s) 0 0; body = take size (drop (at + 3) s) } = cc in y) in
         let fits : at + 3 + size ≤ length s = field-inside s h t in
         let long : length (f .body) ≡ size = ap length body ∙ length-take-le size (drop (at + 3) s) (omega (arith, length-drop (at + 3) s)) in

@@ -1,151 +1,191 @@
 use borrow.Author.Needs.{needs}
+use Prim.Native.Nat.{ℕ, _+_}
+use native.Mathlib.Omega.{arith}
+use mathlib.Core.Path.{_≡_, sym, ap, ap₂, _∙_}
+use mathlib.Core.Bool.{true}
+use mathlib.Core.List.{List}
+use lib.ListN.{getD, take, drop}
+use Rattle.model.specs.declared.Asked.{Asked}
+use Rattle.model.specs.declared.BodiesFound.{BodiesFound}
+use Rattle.model.specs.declared.SizeFound.{SizeFound}
+use Rattle.model.specs.Charts.{bodyOf, chartSize, accept, refuse, asked, bodiesFound, sizeFound, sizeAnswer}
+use Rattle.laws.specs.ChartFields.{part-sized, BodiesAt, bodies-at}
+use Rattle.laws.specs.ChartReading.{refusedRead, readBodies, read-undivided, read-untagged, read-missized, size-value, size-small, read-rest}
 use Rattle.chart.proofs.read.Statement.{statement}
 use Rattle.chart.proofs.read.Tie as tie
-use Rattle.chart.proofs.read.Reads as reads
-use Rattle.chart.proofs.read.Lts as lts
-use Rattle.chart.proofs.asked_code.Reads as asked-code-reads
-use Rattle.chart.proofs.bodies_code.Reads as bodies-code-reads
-use Rattle.chart.proofs.fields.ask_fields.Reads as ask-fields-reads
-use Rattle.chart.proofs.fields.find_bodies.Reads as find-bodies-reads
-use Rattle.chart.proofs.fields.find_size.Reads as find-size-reads
-use Rattle.chart.proofs.read_bodies.Reads as read-bodies-reads
-use Rattle.chart.proofs.refused.Reads as refused-reads
-use Rattle.chart.proofs.size_code.Reads as size-code-reads
 
--- src/lib.rt:18:9
+division-passed : (c : tie.After-enum-told) → asked (c .before .before .ask-fields .result) .accepted ≡ true
+unfolding asked accept
+division-passed c = ap (λ (x : Asked). asked x .accepted) (c .enum-told .given .1)
+
+-- question 3 passed, and where the bodies stand
+tags-passed : (c : tie.After-known-told) → bodiesFound (c .before .before .before .find-bodies .result) .accepted ≡ true
+unfolding bodiesFound accept
+tags-passed c = ap (λ (x : BodiesFound). bodiesFound x .accepted) (c .before .bodies .given .1)
+
+standing : (c : tie.After-known-told)
+    → BodiesAt (c .before .before .before .before .before .before .before .before .args .bytes .now) (c .before .bodies .given .0 .0) (c .before .bodies .given .0 .1 .0) (c .before .bodies .given .0 .1 .1 .0)
+standing c =
+    let f = c .before .bodies .given in
+    bodies-at (c .before .before .before .before .before .before .before .before .args .bytes .now) (f .0 .0) (f .0 .1 .0) (f .0 .1 .1 .0) (ap bodiesFound (sym (f .1)) ∙ c .before .before .before .find-bodies .ensures)
+
+-- question 4 is asked of the body of field 44
+size-said : (c : tie.After-find-size) → sizeFound (c .find-size .result) ≡ sizeAnswer (bodyOf (c .before .before .before .before .before .before .before .before .before .before .args .bytes .now) 0)
+size-said c =
+    c .find-size .ensures
+    ∙ ap sizeAnswer (part-sized (c .before .before .before .before .before .before .before .before .before .before .args .bytes .now) 3 (c .before .before .before .bodies .given .0 .0) ∙ sym (standing (c .before .before) .size-body))
+
+size-passed : (c : tie.After-known-told2) → sizeFound (c .before .before .before .find-size .result) .accepted ≡ true
+unfolding sizeFound accept
+size-passed c = ap (λ (x : SizeFound). sizeFound x .accepted) (c .before .size .given .1)
+
+-- the number of vertices
+size-is : (c : tie.After-known-told2) → c .before .size .given .0 .0 ≡ chartSize (c .before .before .before .before .before .before .before .before .before .before .before .before .before .args .bytes .now)
+unfolding sizeFound accept
+size-is c =
+    let said = c .before .before .before .before .before .before .before .before .before .before .before .ask-fields in
+    let found = c .before .before .before .before .before .before .before .before .find-bodies in
+    ap (λ (x : List ℕ). getD x 0 0)
+    (sym (ap (λ (x : SizeFound). sizeFound x .values) (c .before .size .given .1))
+    ∙ size-value (c .before .before .before .before .before .before .before .before .before .before .before .before .before .args .bytes .now) (asked (said .result)) (said .ensures) (division-passed (c .before .before .before .before .before .before .before .before .before))
+    (bodiesFound (found .result)) (found .ensures) (tags-passed (c .before .before .before .before .before)) (sizeFound (c .before .before .before .find-size .result)) (size-said (c .before .before .before)) (size-passed c))
+
 ask-fields-requires : tie.Need-ask-fields-requires
 ask-fields-requires c κs = search needs
 
 enum-told : tie.Need-enum-told
 enum-told c = search needs
 
--- src/lib.rt:20:24
 enum-told-2 : tie.Need-enum-told-2
 enum-told-2 c = search needs
 
--- src/lib.rt:20:24
 asked-code-requires : tie.Need-asked-code-requires
 asked-code-requires c κs = search needs
 
--- src/lib.rt:20:9
 refused-requires : tie.Need-refused-requires
 refused-requires c κs = search needs
 
--- src/lib.rt:20:9
 returns : tie.Need-returns
-returns c = ?
+unfolding asked refuse
+returns c =
+    let said = c .before .before .before .before .ask-fields in
+    c .refused .ensures ∙ ap refusedRead (c .before .asked-code .ensures)
+    ∙ sym (read-undivided (c .before .before .before .before .before .before .args .bytes .now) (asked (said .result)) (said .ensures) (ap (λ (x : Asked). asked x .accepted) (c .before .before .enum-told2 .given .1)))
 
--- src/lib.rt:22:9
 find-bodies-requires : tie.Need-find-bodies-requires
 find-bodies-requires c κs = search needs
 
--- src/lib.rt:23:28
 enum-known-bodies : tie.Need-enum-known-bodies
 enum-known-bodies c = search needs
 
--- src/lib.rt:24:24
 enum-told-3 : tie.Need-enum-told-3
 enum-told-3 c = search needs
 
--- src/lib.rt:24:24
 bodies-code-requires : tie.Need-bodies-code-requires
 bodies-code-requires c κs = search needs
 
--- src/lib.rt:24:9
 refused-requires-2 : tie.Need-refused-requires-2
 refused-requires-2 c κs = search needs
 
--- src/lib.rt:24:9
 returns-2 : tie.Need-returns-2
-returns-2 c = ?
+unfolding bodiesFound refuse
+returns-2 c =
+    let said = c .before .before .before .before .before .before .before .ask-fields in
+    let found = c .before .before .before .before .find-bodies in
+    c .refused2 .ensures ∙ ap refusedRead (c .before .bodies-code .ensures)
+    ∙ sym (read-untagged (c .before .before .before .before .before .before .before .before .before .args .bytes .now) (asked (said .result)) (said .ensures) (division-passed (c .before .before .before .before .before))
+    (bodiesFound (found .result)) (found .ensures) (ap (λ (x : BodiesFound). bodiesFound x .accepted) (c .before .before .enum-told3 .given .1)))
 
--- src/lib.rt:26:20
 add-size-end : tie.Need-add-size-end
-add-size-end c = ?
+add-size-end c = omega (arith, standing c .inside)
 
--- src/lib.rt:27:34
 sub-find-size : tie.Need-sub-find-size
 sub-find-size c = search needs
 
--- src/lib.rt:27:34
 part-find-size-start : tie.Need-part-find-size-start
 part-find-size-start c = search needs
 
--- src/lib.rt:27:34
 part-find-size-end : tie.Need-part-find-size-end
-part-find-size-end c = ?
+part-find-size-end c = omega (arith, standing c .inside)
 
--- src/lib.rt:27:9
 find-size-requires : tie.Need-find-size-requires
 find-size-requires c κs = search needs
 
--- src/lib.rt:28:26
 enum-known-size : tie.Need-enum-known-size
 enum-known-size c = search needs
 
--- src/lib.rt:29:24
 enum-told-4 : tie.Need-enum-told-4
 enum-told-4 c = search needs
 
--- src/lib.rt:29:24
 size-code-requires : tie.Need-size-code-requires
 size-code-requires c κs = search needs
 
--- src/lib.rt:29:9
 refused-requires-3 : tie.Need-refused-requires-3
 refused-requires-3 c κs = search needs
 
--- src/lib.rt:29:9
 returns-3 : tie.Need-returns-3
-returns-3 c = ?
+unfolding sizeFound refuse
+returns-3 c =
+    let said = c .before .before .before .before .before .before .before .before .before .before .before .before .ask-fields in
+    let found = c .before .before .before .before .before .before .before .before .before .find-bodies in
+    c .refused3 .ensures ∙ ap refusedRead (c .before .size-code .ensures)
+    ∙ sym (read-missized (c .before .before .before .before .before .before .before .before .before .before .before .before .before .before .args .bytes .now) (asked (said .result)) (said .ensures) (division-passed (c .before .before .before .before .before .before .before .before .before .before))
+    (bodiesFound (found .result)) (found .ensures) (tags-passed (c .before .before .before .before .before .before))
+    (sizeFound (c .before .before .before .before .find-size .result)) (size-said (c .before .before .before .before)) (ap (λ (x : SizeFound). sizeFound x .accepted) (c .before .before .enum-told4 .given .1)))
 
--- src/lib.rt:31:23
 add-links-start : tie.Need-add-links-start
-add-links-start c = ?
+add-links-start c = omega (arith, standing (c .before .before .before .before .before) .inside)
 
--- src/lib.rt:32:21
 add-links-end : tie.Need-add-links-end
-add-links-end c = ?
+add-links-end c = omega (arith, standing (c .before .before .before .before .before) .inside)
 
--- src/lib.rt:33:23
 add-order-start : tie.Need-add-order-start
-add-order-start c = ?
+add-order-start c = omega (arith, standing (c .before .before .before .before .before) .inside)
 
--- src/lib.rt:34:21
 add-order-end : tie.Need-add-order-end
-add-order-end c = ?
+add-order-end c = omega (arith, standing (c .before .before .before .before .before) .inside)
 
--- src/lib.rt:35:20
 sub-read-bodies : tie.Need-sub-read-bodies
 sub-read-bodies c = search needs
 
--- src/lib.rt:35:20
 part-read-bodies-start : tie.Need-part-read-bodies-start
 part-read-bodies-start c = search needs
 
--- src/lib.rt:35:20
 part-read-bodies-end : tie.Need-part-read-bodies-end
-part-read-bodies-end c = ?
+part-read-bodies-end c = omega (arith, standing (c .before .before .before .before .before) .inside)
 
--- src/lib.rt:35:52
 sub-read-bodies-2 : tie.Need-sub-read-bodies-2
 sub-read-bodies-2 c = search needs
 
--- src/lib.rt:35:52
 part-read-bodies-start-2 : tie.Need-part-read-bodies-start-2
 part-read-bodies-start-2 c = search needs
 
--- src/lib.rt:35:52
 part-read-bodies-end-2 : tie.Need-part-read-bodies-end-2
-part-read-bodies-end-2 c = ?
+part-read-bodies-end-2 c = omega (arith, standing (c .before .before .before .before .before .before) .inside)
 
--- src/lib.rt:35:5
 read-bodies-requires : tie.Need-read-bodies-requires
-read-bodies-requires c κs = ?
+read-bodies-requires c κs =
+    let said = c .before .before .before .before .before .before .before .before .before .before .before .before .before .ask-fields in
+    let found = c .before .before .before .before .before .before .before .before .before .before .find-bodies in
+    omega (
+      arith,
+      size-is (c .before .before),
+      size-small (c .before .before .before .before .before .before .before .before .before .before .before .before .before .before .before .args .bytes .now) (asked (said .result)) (said .ensures) (division-passed (c .before .before .before .before .before .before .before .before .before .before .before))
+          (bodiesFound (found .result)) (found .ensures) (tags-passed (c .before .before .before .before .before .before .before)) (sizeFound (c .before .before .before .before .before .find-size .result)) (size-said (c .before .before .before .before .before)) (size-passed (c .before .before)),
+    )
 
--- src/lib.rt:15:1
 returns-4 : tie.Need-returns-4
-returns-4 c = ?
+returns-4 c =
+    let said = c .before .before .before .before .before .before .before .before .before .before .before .before .before .before .ask-fields in
+    let found = c .before .before .before .before .before .before .before .before .before .before .before .find-bodies in
+    let s = c .before .before .before .before .before .before .before .before .before .before .before .before .before .before .before .before .args .bytes .now in
+    let at = standing (c .before .before .before .before .before .before .before .before) in
+    let f = c .before .before .before .before .before .before .before .before .before .bodies .given .0 in
+    c .read-bodies .ensures
+    ∙ ap₂ (readBodies (c .before .before .before .before .size .given .0 .0)) (part-sized s (3 + f .0 + 3) (f .1 .0) ∙ sym (at .links-body)) (part-sized s (3 + f .0 + 3 + f .1 .0 + 3) (f .1 .1 .0) ∙ sym (at .order-body))
+    ∙ ap (λ (k : ℕ). readBodies k (bodyOf s 1) (bodyOf s 2)) (size-is (c .before .before .before))
+    ∙ sym (read-rest s (asked (said .result)) (said .ensures) (division-passed (c .before .before .before .before .before .before .before .before .before .before .before .before))
+    (bodiesFound (found .result)) (found .ensures) (tags-passed (c .before .before .before .before .before .before .before .before)) (sizeFound (c .before .before .before .before .before .before .find-size .result)) (size-said (c .before .before .before .before .before .before)) (size-passed (c .before .before .before)))
 
 pub read-spec : {M : Type 1} → statement M
 read-spec =

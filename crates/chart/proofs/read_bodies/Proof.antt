@@ -40,14 +40,14 @@ refused-requires c κs = search needs
 
 returns : tie.Need-returns
 unfolding asked refuse
-returns c = 
+returns c =
     let a = c .before .before .before .before .before .before .before .args in
     let ends = c .before .before .before .before .ask-ends in
     c .refused .ensures ∙ ap refusedRead (c .before .asked-code .ensures)
     ∙ sym (read-outside (a .n) (a .links .now) (a .body .now) (asked (ends .result)) (ends .ensures) (ap (λ (x : Asked). asked x .accepted) (c .before .before .enum-told2 .given .1)))
 
 join-edges-requires : tie.Need-join-edges-requires
-join-edges-requires c κs = 
+join-edges-requires c κs =
     let a = c .before .before .before .before .before .before .args in
     let ends = c .before .before .before .ask-ends in
     (within-mono (a .n) 64 (c .before .before .before .before .before .before .pre) (edgesIn (a .links .now)) (ends-below (a .n) (a .links .now) (a .body .now) (asked (ends .result)) (ends .ensures) (ends-passed (c .before))), refl)
@@ -66,7 +66,7 @@ refused-requires-2 c κs = search needs
 
 returns-2 : tie.Need-returns-2
 unfolding asked refuse
-returns-2 c = 
+returns-2 c =
     let a = c .before .before .before .before .before .before .before .before .before .before .before .args in
     let ends = c .before .before .before .before .before .before .before .before .ask-ends in
     let repeats = c .before .before .before .before .join-edges in
@@ -91,7 +91,7 @@ refused-requires-3 c κs = search needs
 
 returns-3 : tie.Need-returns-3
 unfolding asked refuse
-returns-3 c = 
+returns-3 c =
     let a = c .before .before .before .before .before .before .before .before .before .before .before .before .before .before .args in
     let ends = c .before .before .before .before .before .before .before .before .before .before .before .ask-ends in
     let repeats = c .before .before .before .before .before .before .before .join-edges in
@@ -102,19 +102,25 @@ returns-3 c =
     (asked (places .result)) (places .ensures) (ap (λ (x : Asked). asked x .accepted) (c .before .before .enum-told6 .given .1)))
 
 copy-order-requires : tie.Need-copy-order-requires
-copy-order-requires c κs = 
+copy-order-requires c κs =
     let a = c .before .before .before .before .before .before .before .before .before .before .before .before .before .args in
     let ends = c .before .before .before .before .before .before .before .before .before .before .ask-ends in
     let repeats = c .before .before .before .before .before .before .join-edges in
-    let places = c .before .before .before .ask-order in
-    (omega (arith, c .before .before .before .before .before .before .before .before .before .before .before .before .before .pre, order-long (a .n) (a .links .now) (a .body .now) (asked (ends .result)) (ends .ensures) (ends-passed (c .before .before .before .before .before .before .before .before))
-    (asked (repeats .result)) (repeats .ensures .0) (repeats-passed (c .before .before .before .before)) (asked (places .result)) (places .ensures) (places-passed (c .before))), refl)
+    let places = c .before .before .before .ask-order in (
+      omega (
+        arith,
+        c .before .before .before .before .before .before .before .before .before .before .before .before .before .pre,
+        order-long (a .n) (a .links .now) (a .body .now) (asked (ends .result)) (ends .ensures) (ends-passed (c .before .before .before .before .before .before .before .before))
+            (asked (repeats .result)) (repeats .ensures .0) (repeats-passed (c .before .before .before .before)) (asked (places .result)) (places .ensures) (places-passed (c .before)),
+      ),
+      refl,
+    )
 
 count-crossings-requires : tie.Need-count-crossings-requires
 count-crossings-requires c κs = search needs
 
 returns-4 : tie.Need-returns-4
-returns-4 c = 
+returns-4 c =
     let a = c .before .before .before .before .before .before .before .before .before .before .before .before .before .before .before .before .before .args in
     let ends = c .before .before .before .before .before .before .before .before .before .before .before .before .before .before .ask-ends in
     let repeats = c .before .before .before .before .before .before .before .before .before .before .join-edges in

@@ -42,7 +42,7 @@ is-edge-requires : tie.Need-is-edge-requires Inv-loop μ-loop
 is-edge-requires c κs = search needs
 
 returns-2 : tie.Need-returns-2 Inv-loop μ-loop
-returns-2 c = 
+returns-2 c =
     let at-loop = c .before .before .before .before .before in
     answer-outside (c .before .before .before .before .before .before .before .before .args .n) (c .before .before .before .before .before .before .before .before .args .links .now) (at-loop .before .if1 .left)
     (ends-bad (at-loop .loop .inv) (c .before .before .before .before .loop-test .taken) (sym (c .before .is-edge .ensures) ∙ not-true (c .before .is-edge .result) (c .if2 .taken)))

@@ -40,7 +40,7 @@ element-write-adjacency-2 c = search needs
 
 returns : tie.Need-returns
 unfolding atBothEnds
-returns c = 
+returns c =
     let a = c .before .before .before .before .args in
     ap₂ (λ (x y : ℕ). set (set (a .adjacency .now) (a .a) x) (a .b) y)
     (c .before .before .set .ensures ∙ rw (lt-ltb (a .b) 64 (c .before .before .before .before .pre .1)))

@@ -37,7 +37,7 @@ shared-slice-read-b c = omega arith
 cast-b : tie.Need-cast-b Inv-loop μ-loop
 cast-b c = omega (arith, c .shared-slice-known3 .given (c .before .before .before .loop .i + 1))
 
-ends : (c : tie.After-shared-slice-known3 Inv-loop μ-loop) 
+ends : (c : tie.After-shared-slice-known3 Inv-loop μ-loop)
     → Ends 64 (getD (c .before .before .before .before .before .args .links .now) (c .before .before .before .loop .i) 0) (getD (c .before .before .before .before .before .args .links .now) (c .before .before .before .loop .i + 1) 0)
 ends c = joined-ends (c .before .before .before .loop .inv) (c .before .before .loop-test .taken) (c .before .before .before .before .before .pre .0)
 
@@ -53,9 +53,9 @@ is-set-requires c κs = search needs
 returns : tie.Need-returns Inv-loop μ-loop
 unfolding asked refuse
 returns c = (
-      answer-repeat (c .before .before .before .before .before .before .before .before .args .links .now) (joined-repeat (c .before .before .before .before .before .before .loop .inv) (c .before .before .before .before .before .loop-test .taken) (c .before .before .before .before .before .before .before .before .pre .0) (sym (c .before .is-set .ensures) ∙ c .if1 .taken)),
-      (λ z. absurd (false≢true z)),
-    )
+  answer-repeat (c .before .before .before .before .before .before .before .before .args .links .now) (joined-repeat (c .before .before .before .before .before .before .loop .inv) (c .before .before .before .before .before .loop-test .taken) (c .before .before .before .before .before .before .before .before .pre .0) (sym (c .before .is-set .ensures) ∙ c .if1 .taken)),
+  (λ z. absurd (false≢true z)),
+)
 
 join-requires : tie.Need-join-requires Inv-loop μ-loop
 join-requires c κs = let e = ends (c .before .before .before .before) in (e .first, e .second)
@@ -67,14 +67,14 @@ loop-less : tie.Need-loop-less Inv-loop μ-loop
 loop-less c = omega arith
 
 loop-again : tie.Need-loop-again Inv-loop μ-loop
-loop-again c = 
+loop-again c =
     joined-next (c .before .before .before .before .before .before .before .before .loop .inv) (c .before .before .before .before .before .before .before .loop-test .taken) (c .before .before .before .before .before .before .before .before .before .before .pre .0) (sym (c .before .before .before .is-set .ensures) ∙ c .before .before .if1 .left) (c .join .ensures)
 
 returns-2 : tie.Need-returns-2 Inv-loop μ-loop
 returns-2 c = (
-      answer-once (c .before .before .before .args .links .now) (joined-once (c .before .loop .inv) (c .loop-test .left)),
-      (λ z. joined-words (c .before .loop .inv) (c .loop-test .left)),
-    )
+  answer-once (c .before .before .before .args .links .now) (joined-once (c .before .loop .inv) (c .loop-test .left)),
+  (λ z. joined-words (c .before .loop .inv) (c .loop-test .left)),
+)
 
 pub join-edges-spec : {M : Type 1} → statement M
 join-edges-spec =

@@ -36,7 +36,7 @@ next c =
     (field-there (drop (at-loop .loop .at) (at-loop .before .before .args .bytes .now)) (f .0 .0) (f .0 .1 .0) (ap fieldFound (sym (f .1)) ∙ c .before .before .before .field-at .ensures))
 
 returns : tie.Need-returns Inv-loop μ-loop
-returns c = 
+returns c =
     let at-loop = c .before .before .before in
     divided-end (at-loop .loop .inv)
     (field-none (drop (at-loop .loop .at) (at-loop .before .before .args .bytes .now)) (ap fieldFound (sym (c .enum-told .given .1)) ∙ c .before .before .field-at .ensures))

@@ -68,7 +68,7 @@ enum-told-2 : tie.Need-enum-told-2
 enum-told-2 c = search needs
 
 returns-2 : tie.Need-returns-2
-returns-2 c = 
+returns-2 c =
     let earlier = c .before .before .before in
     let s = earlier .before .before .before .before .before .args .bytes .now in
     one-field s (first-there earlier) (field-none (drop (3 + earlier .before .first .given .0 .1 .0) s) (ap fieldFound (sym (c .enum-told2 .given .1)) ∙ c .before .before .field-at2 .ensures))
@@ -89,7 +89,7 @@ enum-told-3 : tie.Need-enum-told-3
 enum-told-3 c = search needs
 
 returns-3 : tie.Need-returns-3
-returns-3 c = 
+returns-3 c =
     let earlier = c .before .before .before in
     let first = earlier .before .before .before .before in
     let s = first .before .before .before .before .before .args .bytes .now in
@@ -112,7 +112,7 @@ enum-told-5 : tie.Need-enum-told-5
 enum-told-5 c = search needs
 
 returns-4 : tie.Need-returns-4
-returns-4 c = 
+returns-4 c =
     let third = c .before .before .before in
     let second = third .before .before .before .before in
     let first = second .before .before .before .before in
@@ -126,7 +126,7 @@ are-tags-requires : tie.Need-are-tags-requires
 are-tags-requires c κs = search needs
 
 returns-5 : tie.Need-returns-5
-returns-5 c = 
+returns-5 c =
     let third = c .before .before .before .before .before in
     let second = third .before .before .before .before in
     let first = second .before .before .before .before in
@@ -134,7 +134,7 @@ returns-5 c =
     (last-none (c .before .before)) (sym (c .before .are-tags .ensures) ∙ c .if1 .taken)
 
 returns-6 : tie.Need-returns-6
-returns-6 c = 
+returns-6 c =
     let third = c .before .before .before .before .before in
     let second = third .before .before .before .before in
     let first = second .before .before .before .before in

@@ -14,12 +14,12 @@ low-bits-requires : tie.Need-low-bits-requires
 low-bits-requires c κs = search needs
 
 returns-2 : tie.Need-returns-2
-returns-2 c = 
+returns-2 c =
     let a = c .before .before .before .before .before .args in
     answer-places (a .n) (a .body .now) (c .before .before .before .before .before .pre) (c .before .before .before .if1 .left) (sym (c .before .before .vertices-in .ensures) ∙ c .if2 .taken ∙ c .before .low-bits .ensures)
 
 returns-3 : tie.Need-returns-3
-returns-3 c = 
+returns-3 c =
     let a = c .before .before .before .before .before .args in
     answer-misplaced (a .n) (a .body .now) (c .before .before .before .before .before .pre) (c .before .before .before .if1 .left)
     (λ e. c .if2 .left (c .before .before .vertices-in .ensures ∙ e ∙ sym (c .before .low-bits .ensures)))
