@@ -12,7 +12,7 @@ ghost use Rattle.laws.specs.ChartEdges.{edge};
 ghost use Rattle.laws.specs.ChartWords.{adjacencyOf};
 
 // Questions 5 and 6: an even length, and the ends of each edge below n and different.
-pub fn ask_ends(n: usize, links: &[u8]) -> Asked
+pub(crate) fn ask_ends(n: usize, links: &[u8]) -> Asked
     ensures { λ r. ⌜ asked r ≡ answer (endChecks n (now (links .entry))) [] ⌝ }
 {
     if links.len() % 2 != 0 {
@@ -28,6 +28,7 @@ pub fn ask_ends(n: usize, links: &[u8]) -> Asked
     Asked::Passed
 }
 
+// Are a and b the ends of an edge of n vertices?
 fn is_edge(n: usize, a: usize, b: usize) -> bool
     ensures { λ r. ⌜ r ≡ edgeWithin n (edge a b) ⌝ }
 {
@@ -40,11 +41,13 @@ fn is_edge(n: usize, a: usize, b: usize) -> bool
     a != b
 }
 
-// Question 7: no pair twice, either way round. The edges go into the words, one after the other, so a
-// pair is written twice exactly when its bit is set already.
-pub fn join_edges(links: &[u8], adjacency: &mut [u64; 64]) -> Asked
-    requires { ⌜ (every (edgeWithin 64) (edgesIn (now links)) ≡ true) × (now adjacency ≡ replicate 64 0) ⌝ }
-    ensures { λ r. ⌜ (asked r ≡ answer (repeatChecks (now (links .entry))) []) × (asked r .accepted ≡ true → now (adjacency .exit) ≡ adjacencyOf (edgesIn (now (links .entry)))) ⌝ }
+// Question 7: each pair only once, either way round. The edges go into the words one after the other,
+// so a pair is written again exactly when its bit is set already.
+pub(crate) fn join_edges(links: &[u8], adjacency: &mut [u64; 64]) -> Asked
+    requires { ⌜ every (edgeWithin 64) (edgesIn (now links)) ≡ true ⌝ }
+    requires { ⌜ now adjacency ≡ replicate 64 0 ⌝ }
+    ensures { λ r. ⌜ asked r ≡ answer (repeatChecks (now (links .entry))) [] ⌝ }
+    ensures { λ r. ⌜ (asked r .accepted ≡ true → now (adjacency .exit) ≡ adjacencyOf (edgesIn (now (links .entry)))) ⌝ }
 {
     let mut i = 0;
     while i + 1 < links.len() {
@@ -59,6 +62,7 @@ pub fn join_edges(links: &[u8], adjacency: &mut [u64; 64]) -> Asked
     Asked::Passed
 }
 
+// The edge between a and b: a bit in the word of either end.
 fn join(a: usize, b: usize, adjacency: &mut [u64; 64])
     requires { ⌜ (a < 64) × (b < 64) ⌝ }
     ensures { λ r. ⌜ now (adjacency .exit) ≡ atBothEnds withBit (now (adjacency .entry)) a b ⌝ }

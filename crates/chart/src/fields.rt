@@ -12,7 +12,7 @@ ghost use Rattle.model.specs.Charts.{fieldsOf, fieldAnswer, divisionAnswer, bod
 ghost use Rattle.laws.specs.ChartFields.{rightTags};
 
 // Questions 1 and 2: at most 8,192 bytes, which divide exactly into fields.
-pub fn ask_fields(bytes: &[u8]) -> Asked
+pub(crate) fn ask_fields(bytes: &[u8]) -> Asked
     ensures { λ r. ⌜ asked r ≡ divisionAnswer (now (bytes .entry)) ⌝ }
 {
     if 8192 < bytes.len() {
@@ -25,6 +25,7 @@ pub fn ask_fields(bytes: &[u8]) -> Asked
     }
 }
 
+// Question 2: field after field, up to the very end.
 fn divides(bytes: &[u8]) -> bool
     ensures { λ r. ⌜ r ≡ fieldsOf (now (bytes .entry)) .complete ⌝ }
 {
@@ -44,7 +45,8 @@ fn field_at(bytes: &[u8], at: usize) -> FieldFound
     first_field(&bytes[at..])
 }
 
-// The field that the bytes start with: header and body are there whole.
+// The field that the bytes start with, if its header and body are there whole. The length has its high
+// byte first.
 fn first_field(bytes: &[u8]) -> FieldFound
     ensures { λ r. ⌜ fieldFound r ≡ fieldAnswer (now (bytes .entry)) ⌝ }
 {
@@ -59,8 +61,8 @@ fn first_field(bytes: &[u8]) -> FieldFound
     }
 }
 
-// Question 3: fields 44, 4C and 52 in that sequence, and no other.
-pub fn find_bodies(bytes: &[u8]) -> BodiesFound
+// Question 3: fields 44, 4C and 52 in that sequence, and no other behind them.
+pub(crate) fn find_bodies(bytes: &[u8]) -> BodiesFound
     ensures { λ r. ⌜ bodiesFound r ≡ bodiesAnswer (now (bytes .entry)) ⌝ }
 {
     let FieldFound::Field(first, size_length) = field_at(bytes, 0) else {
@@ -98,7 +100,7 @@ fn are_tags(first: u8, second: u8, third: u8) -> bool
 }
 
 // Question 4: the body of field 44 is one byte, at most 64.
-pub fn find_size(body: &[u8]) -> SizeFound
+pub(crate) fn find_size(body: &[u8]) -> SizeFound
     ensures { λ r. ⌜ sizeFound r ≡ sizeAnswer (now (body .entry)) ⌝ }
 {
     if body.len() != 1 {

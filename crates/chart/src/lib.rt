@@ -1,5 +1,5 @@
-// Charts: the questions of document 01, each asked of the whole input before the next, and the layout
-// that an accepted chart gives. fields has questions 1 to 4, edges 5 to 7, order 8.
+// Reading charts: the questions of document 01, each asked of the whole input before the next, and the
+// layout (ring) that an accepted chart gives. fields has questions 1 to 4, edges 5 to 7, order 8.
 mod edges;
 mod fields;
 mod order;
@@ -26,6 +26,7 @@ pub fn read(bytes: &[u8]) -> ChartRead
     let BodiesFound::Found(size_length, links_length, order_length) = bodies else {
         return refused(bodies_code(bodies));
     };
+    // a header is three bytes
     let size_end = 3 + size_length;
     let size = fields::find_size(&bytes[3..size_end]);
     let SizeFound::Found(n) = size else {
@@ -42,7 +43,8 @@ pub fn read(bytes: &[u8]) -> ChartRead
     )
 }
 
-// The rest, once the number of vertices is known: links and order are the bodies of 4C and 52.
+// Questions 5 to 8, once the number of vertices is known: links is the body of field 4C, body that of
+// field 52.
 fn read_bodies(n: usize, links: &[u8], body: &[u8]) -> ChartRead
     requires { ⌜ n ≤ 64 ⌝ }
     ensures { λ r. ⌜ r ≡ readBodies n (now (links .entry)) (now (body .entry)) ⌝ }
@@ -74,6 +76,7 @@ fn read_bodies(n: usize, links: &[u8], body: &[u8]) -> ChartRead
     }
 }
 
+// A refused chart: the number and the empty layout.
 fn refused(code: u8) -> ChartRead
     ensures { λ r. ⌜ r ≡ refusedRead code ⌝ }
 {

@@ -1,4 +1,4 @@
-// Question 8: the order.
+// Question 8: the vertices (devices) in their order.
 use model::Asked;
 ghost use mathlib.Core.Path.{_≡_};
 ghost use mathlib.Core.List.{[]};
@@ -7,8 +7,8 @@ ghost use lib.ListN.{length, replicate};
 ghost use Rattle.model.specs.Charts.{asked, answer, placeChecks};
 ghost use Rattle.laws.specs.ChartOrder.{vertexSet, padded};
 
-// Question 8: n bytes that hold each vertex once. n bytes that hold each vertex hold it once.
-pub fn ask_order(n: usize, body: &[u8]) -> Asked
+// Question 8: n bytes that hold each vertex once. Where n bytes hold every vertex, each is there once.
+pub(crate) fn ask_order(n: usize, body: &[u8]) -> Asked
     requires { ⌜ n ≤ 64 ⌝ }
     ensures { λ r. ⌜ asked r ≡ answer (placeChecks n (now (body .entry))) [] ⌝ }
 {
@@ -36,7 +36,7 @@ fn vertices_in(body: &[u8]) -> u64
 }
 
 // The body goes into the first places of an empty order.
-pub fn copy_order(body: &[u8], order: &mut [u8; 64])
+pub(crate) fn copy_order(body: &[u8], order: &mut [u8; 64])
     requires { ⌜ (length (now body) ≤ 64) × (now order ≡ replicate 64 0) ⌝ }
     ensures { λ r. ⌜ now (order .exit) ≡ padded (now (body .entry)) ⌝ }
 {

@@ -16,3 +16,4 @@ pub mod ChartEdges
 pub mod ChartWords
 pub mod ChartOrder
 pub mod ChartReading
+pub mod ChartLaws
