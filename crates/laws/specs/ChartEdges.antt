@@ -1,25 +1,24 @@
 -- The edges of a chart, read one after the other, and whether each pair is written only once.
-use Prim.Native.Nat.{ℕ, zero, suc, _+_, _*_, _-_, _%_, _≤_, _<_, zero-le, min, max}
+use Prim.Native.Nat.{ℕ, _+_, _-_, _%_, _≤_, _<_, zero-le, min, max}
 use native.Mathlib.Nat.{add-suc, min-comm, max-comm, lt-of-lt-of-le}
 use native.Mathlib.Numerals.{add-one}
 use native.Mathlib.Decide.{ℕ-discrete}
 use native.Mathlib.Omega.{arith}
-use mathlib.Core.Path.{_≡_, refl, sym, ap, ap₂, _∙_, subst}
-use mathlib.Core.Logic.{⊎-elim}
-use mathlib.Core.Bool.{Bool, true, false, not, _&&_, _||_, true≢false, false≢true, and-false, or-assoc, or-true, or-false}
-use mathlib.Core.List.{List, [], _∷_, _++_, append-assoc}
+use mathlib.Core.Path.{_≡_, refl, sym, ap, ap₂, _∙_}
+use mathlib.Core.Bool.{Bool, true, false, not, _&&_, _||_, and-false}
+use mathlib.Core.List.{List, [], _∷_}
 use lib.ListN.{length, getD, drop, length-drop}
 use lib.Seq.{drop-cons}
 use lib.Dec.{eqb, ltb}
 use borrow.Author.Tests.{lt-ltb, le-ltb, ltb-true, eq-eqb, ne-eqb, eqb-true}
 use Rattle.model.specs.declared.Edge.{Edge}
 use Rattle.model.specs.declared.Asked.the-variants as asks
-use Rattle.model.specs.Lists.{every, any, noRepeats}
+use Rattle.model.specs.Lists.{every, any}
 use Rattle.model.specs.Checks.{refusal, byRefusal, checked}
-use Rattle.model.specs.Charts.{edgesIn, sameEdge, edgeWithin, joins, asked, answer, endChecks, repeatChecks}
-use Rattle.laws.specs.Indicators.{Order, less, same, more, order}
+use Rattle.model.specs.Charts.{edgesIn, sameEdge, edgeWithin, joins, asked, answer, endChecks}
+use Rattle.laws.specs.Indicators.{less, same, more, order}
 use Rattle.laws.specs.ListSums.{All, none, also, all-mono}
-use Rattle.laws.specs.ChartFields.{both-left, both-right}
+use Rattle.laws.specs.ChartLists.{both-left, both-right, every-all, all-every}
 
 -- ---- an edge with two ends
 
@@ -139,58 +138,6 @@ module _ (n : ℕ) (s : List ℕ) where
   pub answer-within : length s % 2 ≡ 0 → every (edgeWithin n) (edgesIn s) ≡ true → asked asks.Passed ≡ answer (endChecks n s) []
   unfolding endChecks answer checked byRefusal refusal asked
   answer-within d e = rw (eq-eqb (length s % 2) 0 d, e)
-
--- ---- no repeats, one entry after the other
-
-module _ {A : Type 0} where
-  -- a test that passes everywhere
-  pub every-all : {p : A → Bool} {xs : List A} → All (λ x. p x ≡ true) xs → every p xs ≡ true
-  unfolding every
-  every-all none = refl
-  every-all (also e es) = ap₂ (λ (a b : Bool). a && b) e (every-all es)
-
-  pub all-every : (p : A → Bool) (xs : List A) → every p xs ≡ true → All (λ x. p x ≡ true) xs
-  unfolding every
-  all-every p [] e = none
-  all-every p (x ∷ xs) e = also (both-left (p x) (every p xs) e) (all-every p xs (both-right (p x) (every p xs) e))
-
-  any-append : (p : A → Bool) (xs ys : List A) → any p (xs ++ ys) ≡ (any p xs || any p ys)
-  unfolding any
-  any-append p [] ys = refl
-  any-append p (x ∷ xs) ys = ap (λ (b : Bool). p x || b) (any-append p xs ys) ∙ sym (or-assoc (p x) (any p xs) (any p ys))
-
-  module _ (p : A → Bool) (xs : List A) (x : A) where
-    pub any-new : p x ≡ true → any p (xs ++ (x ∷ [])) ≡ true
-    unfolding any
-    any-new t = rw (any-append p xs (x ∷ []), t) (or-true (any p xs))
-
-    pub any-old : p x ≡ false → any p (xs ++ (x ∷ [])) ≡ any p xs
-    unfolding any
-    any-old t = rw (any-append p xs (x ∷ []), t) (or-false (any p xs))
-
-  -- one entry more
-  pub noRepeats-last : (alike : A → A → Bool) (xs : List A) (x : A) → noRepeats alike (xs ++ (x ∷ [])) ≡ (noRepeats alike xs && not (any (λ y. alike y x) xs))
-  unfolding noRepeats any
-  noRepeats-last alike [] x = refl
-  noRepeats-last alike (y ∷ ys) x =
-      rw (any-append (alike y) ys (x ∷ []), noRepeats-last alike ys x) (regroup (any (alike y) ys) (alike y x) (noRepeats alike ys) (any (λ z. alike z x) ys))
-    where
-      regroup : (a b c d : Bool) → (not (a || (b || false)) && (c && not d)) ≡ (not a && c && not (b || d))
-      regroup true b c d = refl
-      regroup false true c d = sym (and-false c)
-      regroup false false c d = refl
-
-  -- a repeat stays one, whatever follows
-  pub noRepeats-more : (alike : A → A → Bool) (xs ys : List A) → noRepeats alike xs ≡ false → noRepeats alike (xs ++ ys) ≡ false
-  unfolding noRepeats
-  noRepeats-more alike [] ys e = absurd (true≢false e)
-  noRepeats-more alike (x ∷ xs) ys e =
-      rw (any-append (alike x) xs ys) (by-test (any (alike x) xs) (any (alike x) ys) (noRepeats alike xs) e (noRepeats-more alike xs ys))
-    where
-      by-test : (a b c : Bool) → (not a && c) ≡ false → (c ≡ false → noRepeats alike (xs ++ ys) ≡ false) → (not (a || b) && noRepeats alike (xs ++ ys)) ≡ false
-      by-test true b c z r = refl
-      by-test false true c z r = refl
-      by-test false false c z r = r z
 
 -- ---- edges whose ends are below n
 

@@ -1,15 +1,15 @@
 -- The fields of a chart, read one after the other.
-use Prim.Native.Nat.{ℕ, zero, suc, _+_, _*_, _-_, _≤_, _<_, zero-le}
+use Prim.Native.Nat.{ℕ, zero, suc, _+_, _-_, _≤_, _<_, zero-le}
 use native.Mathlib.Nat.{add-assoc, add-sub-cancel-left}
 use native.Mathlib.Decide.{ℕ-discrete}
 use native.Mathlib.Omega.{arith}
-use mathlib.Core.Path.{_≡_, refl, sym, ap, ap₂, _∙_, subst}
-use mathlib.Core.Bool.{Bool, true, false, cond, _&&_, true≢false, false≢true, and-false}
-use mathlib.Core.List.{List, [], _∷_, _++_, map}
+use mathlib.Core.Path.{_≡_, refl, sym, ap, _∙_}
+use mathlib.Core.Bool.{Bool, true, false, cond, true≢false, false≢true, and-false}
+use mathlib.Core.List.{List, [], _∷_, map}
 use lib.ListN.{length, getD, take, drop, length-drop, length-map}
 use lib.Seq.{take-all, drop-drop, length-take-le}
-use lib.Dec.{eqb, leb, ltb}
-use borrow.Author.Tests.{le-leb, lt-leb, leb-true, leb-false, eq-eqb, ne-eqb}
+use lib.Dec.{eqb, leb}
+use borrow.Author.Tests.{le-leb, lt-leb, leb-true, eq-eqb, ne-eqb}
 use Rattle.model.specs.declared.Asked.the-variants as asks
 use Rattle.model.specs.declared.FieldFound.the-variants as field
 use Rattle.model.specs.declared.BodiesFound.the-variants as bodies
@@ -18,15 +18,7 @@ use Rattle.model.specs.Checks.{refusal, byRefusal, checked}
 use Rattle.model.specs.Charts.{Field, Fields, bodyLength, startsWithField, firstField, fieldsIn, fieldsOf, bodyOf, sameList, chartChecks}
 use Rattle.laws.specs.Indicators.{Order, less, same, more, order}
 use Rattle.model.specs.Charts.{Answer, accept, refuse, asked, fieldFound, bodiesFound, answer, fieldAnswer, divisionAnswer, bodiesAnswer, sizeFound, sizeChecks, sizeAnswer}
-
--- both of two tests pass
-pub both-left : (x y : Bool) → (x && y) ≡ true → x ≡ true
-both-left true y z = refl
-both-left false y z = z
-
-pub both-right : (x y : Bool) → (x && y) ≡ true → y ≡ true
-both-right true y z = z
-both-right false y z = absurd (false≢true z)
+use Rattle.laws.specs.ChartLists.{both-right}
 
 -- what is behind the first field
 unfoldable pub behindField : List ℕ → List ℕ

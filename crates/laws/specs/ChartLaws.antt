@@ -1,23 +1,20 @@
 -- What reading a chart gives: a valid layout with its true crossings, whatever the sequence in which the edges are written.
-use Prim.Native.Nat.{ℕ, zero, suc, _≤_, _<_}
-use native.Mathlib.Decide.{ℕ-discrete}
-use native.Mathlib.Omega.{arith}
+use Prim.Native.Nat.{ℕ, zero, suc, _<_}
 use mathlib.Core.Path.{_≡_, refl, sym, ap, ap₂, _∙_, subst}
 use mathlib.Core.Bool.{Bool, true, _&&_, _||_}
-use mathlib.Core.List.{List, [], _∷_, map}
+use mathlib.Core.List.{List, [], _∷_}
 use lib.ListN.{length}
 use lib.Dec.{T, eqb, leb, lit<}
-use borrow.Author.Tests.{leb-true, eqb-true, eq-eqb, ne-eqb}
+use borrow.Author.Tests.{leb-true, eqb-true}
 use Rattle.model.specs.declared.Edge.{Edge}
 use Rattle.model.specs.declared.ChartRead.{ChartRead}
 use Rattle.model.specs.declared.Layout.{Layout}
 use Rattle.model.specs.Lists.{one, any}
-use Rattle.model.specs.Crossings.{crossings}
 use Rattle.model.specs.Layouts.{eachOnce, crossingsOf, valid}
-use Rattle.model.specs.Checks.{Check, refusal, byRefusal, checked}
-use Rattle.model.specs.Charts.{bodyOf, chartSize, chartEdges, chartOrder, edgesIn, sameEdge, joins, chartChecks, chartLayout, readOf}
+use Rattle.model.specs.Checks.{refusal, byRefusal, checked}
+use Rattle.model.specs.Charts.{bodyOf, chartSize, chartEdges, chartOrder, sameEdge, joins, chartChecks, chartLayout, readOf}
 use Rattle.laws.specs.ListSums.{All, none, also}
-use Rattle.laws.specs.ChartFields.{both-left, both-right}
+use Rattle.laws.specs.ChartLists.{both-left, both-right, eqb-swap}
 use Rattle.laws.specs.ChartEdges.{edge}
 use Rattle.laws.specs.ChartWords.{adjacencyOf, adjacency-length, adjacency-bit, adjacency-lt, adjacency-ext}
 use Rattle.laws.specs.ChartReading.{Numbered, all-pass, layoutFrom, Accepted, valid-read, count-true, refusedRead}
@@ -65,13 +62,6 @@ read-valid s e =
     (valid-read (accepted s e), count-true (accepted s e))
 
 -- ---- the same edges, in another sequence or with ends exchanged
-
-eqb-swap : (a b : ℕ) → eqb a b ≡ eqb b a
-eqb-swap a b =
-    elim (ℕ-discrete a b) [
-      | yes e ↦ eq-eqb a b e ∙ sym (eq-eqb b a (sym e))
-      | no d ↦ ne-eqb a b d ∙ sym (ne-eqb b a (λ e. d (sym e)))
-    ]
 
 sameEdge-swap : (e f : Edge) → sameEdge e f ≡ sameEdge f e
 unfolding sameEdge

@@ -1,38 +1,33 @@
 -- The order of a chart: that it holds each vertex once, and the array that it goes into.
 use Prim.Native.Nat.{ℕ, zero, suc, _+_, _-_, _^_, _≤_, _<_, zero-le, min}
-use native.Mathlib.Nat.{add-zero, zero-add, le-step, lt-suc-self, le-trans, le-of-eq, le-refl, lt-of-lt-of-le, min-eq-left, min-le-left, not-suc-le-zero, mul-one, add-sub-of-le}
+use native.Mathlib.Nat.{zero-add, le-step, lt-suc-self, le-trans, le-of-eq, lt-of-lt-of-le, min-eq-left, not-suc-le-zero, mul-one, add-sub-of-le}
 use native.Mathlib.Numerals.{add-one}
 use native.Mathlib.Decide.{ℕ-discrete, decLt}
 use native.Mathlib.Omega.{arith}
-use mathlib.Core.Path.{_≡_, refl, sym, ap, ap₂, _∙_, subst}
-use mathlib.Core.Bool.{Bool, true, false, cond, _&&_, _||_, true≢false, false≢true}
-use mathlib.Core.List.{List, [], _∷_, _++_, append-nil}
-use lib.ListN.{length, getD, take, drop, set, replicate, length-take, length-append, length-replicate, length-set, getD-replicate, List·getD-append, List·getD-eq-default}
+use mathlib.Core.Path.{_≡_, refl, sym, ap, _∙_}
+use mathlib.Core.Bool.{Bool, true, false, cond, _||_}
+use mathlib.Core.List.{List, [], _∷_, _++_}
+use lib.ListN.{length, getD, take, set, replicate, length-take, length-append, length-replicate, length-set, getD-replicate, List·getD-append, List·getD-eq-default}
 use lib.Seq.{take-suc, take-all, length-take-le, getD-take, getD-append-add, getD-set-same, getD-set-other, ext-getD}
-use lib.Dec.{T, eqb, ltb}
+use lib.Dec.{eqb, ltb}
 use lib.Pow.{ones-lt, pow-mono}
 use borrow.Author.Tests.{lt-ltb, le-ltb, ltb-true, eq-eqb, ne-eqb}
 use Rattle.model.specs.declared.Asked.the-variants as asks
-use Rattle.model.specs.Lists.{one, upto, every, any, member, sumOver, occurrences}
+use Rattle.model.specs.Lists.{one, any, member, sumOver, occurrences}
 use Rattle.model.specs.Crossings.{bit}
 use Rattle.model.specs.Layouts.{eachOnce}
 use Rattle.model.specs.Edits.{withBit}
 use Rattle.model.specs.Checks.{refusal, byRefusal, checked}
 use Rattle.model.specs.Charts.{asked, answer, placeChecks}
-use Rattle.laws.specs.Indicators.{Order, less, same, more, order, one-le, T-true}
+use Rattle.laws.specs.Indicators.{less, same, more, order, one-le}
 use Rattle.laws.specs.Sums.{sum, sum-ext, sum-const, sum-swap, sum-mono}
 use Rattle.laws.specs.Permutations.{at, Permutation, occurrences-places, sum-hits, none-beyond}
 use Rattle.laws.specs.Bits.{set-same, set-other, bit-beyond}
 use Rattle.laws.specs.MaskCount.{bit-full}
 use Rattle.laws.specs.Validity.{each-once}
-use Rattle.laws.specs.ChartEdges.{every-all, any-new, any-old}
 use Rattle.laws.specs.ListSums.{all-mono, all-upto}
+use Rattle.laws.specs.ChartLists.{one-true, every-all, any-new, any-old}
 use Rattle.laws.specs.ChartWords.{wordOf, wordOf-lt, wordOf-bit, wordOf-ext, set-lt}
-
-one-true : (b : Bool) → one b ≡ 1 → b ≡ true
-unfolding one
-one-true true e = refl
-one-true false e = absurd (omega arith)
 
 -- ---- the entries as bits of a word
 

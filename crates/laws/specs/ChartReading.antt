@@ -2,22 +2,21 @@
 use Prim.Native.Nat.{ℕ, zero, suc, _+_, _-_, _^_, _%_, _≤_, _<_}
 use native.Mathlib.Nat.{le-of-eq, lt-of-lt-of-le, mod-eq-of-lt, not-suc-le-zero}
 use native.Mathlib.Omega.{arith}
-use mathlib.Core.Path.{_≡_, refl, sym, ap, ap₂, _∙_, subst}
-use mathlib.Core.Bool.{Bool, true, false, Bool·beq, not, cond, _&&_, true≢false, false≢true}
-use mathlib.Core.List.{List, [], _∷_, _++_, map}
+use mathlib.Core.Path.{_≡_, refl, sym, ap, _∙_}
+use mathlib.Core.Bool.{Bool, true, false, Bool·beq, not, cond, true≢false, false≢true}
+use mathlib.Core.List.{List, [], _∷_, _++_}
 use lib.ListN.{length, getD, take, drop, List·getD-eq-default}
 use lib.Seq.{ext-getD, getD-take, length-take-le}
-use lib.Dec.{T, eqb, leb, ltb, lit<}
+use lib.Dec.{T, eqb, leb, lit<}
 use lib.Arith.{lt-one}
 use borrow.Author.Tests.{le-leb, leb-true, lt-ltb, eq-eqb, eqb-true}
-use Rattle.model.specs.declared.Edge.{Edge}
 use Rattle.model.specs.declared.ChartRead.{ChartRead}
 use Rattle.model.specs.declared.Layout.{Layout}
-use Rattle.model.specs.Lists.{one, upto, every, any, keep, noRepeats}
+use Rattle.model.specs.Lists.{every, any}
 use Rattle.model.specs.Crossings.{linked, crossings}
-use Rattle.model.specs.Layouts.{capacity, emptyLayout, vertexOrder, crossingsOf, eachOnce, zeroFrom, symmetric, loopless, bitsBelow, valid}
+use Rattle.model.specs.Layouts.{emptyLayout, vertexOrder, crossingsOf, eachOnce, zeroFrom, symmetric, loopless, bitsBelow, valid}
 use Rattle.model.specs.Checks.{Check, refusal, byRefusal, checked}
-use Rattle.model.specs.Charts.{bodyOf, chartSize, chartEdges, chartOrder, edgesIn, sameEdge, edgeWithin, joins, wordIn, chartChecks, chartLayout, readOf}
+use Rattle.model.specs.Charts.{bodyOf, chartSize, chartEdges, chartOrder, edgesIn, edgeWithin, joins, chartChecks, chartLayout, readOf}
 use Rattle.model.specs.Charts.{Answer, accept, refuse, answer, divisionAnswer, bodiesAnswer, sizeChecks, sizeAnswer, endChecks, repeatChecks, placeChecks}
 use Rattle.laws.specs.ListSums.{All, none, also, all-mono, all-upto}
 use Rattle.laws.specs.Permutations.{at, Permutation, at-lt}
@@ -25,9 +24,9 @@ use Rattle.laws.specs.Pairs.{Symmetric}
 use Rattle.laws.specs.EdgeCounts.{weight}
 use Rattle.laws.specs.MaskCount.{vertexAt, countOn, countOn-crossings}
 use Rattle.laws.specs.Validity.{each-once, symmetric-weight}
-use Rattle.laws.specs.ChartFields.{both-left, both-right}
-use Rattle.laws.specs.ChartEdges.{Ends, every-all, joins-none, joins-swap}
-use Rattle.laws.specs.ChartWords.{wordOf, wordOf-below, adjacencyOf, adjacency-length, adjacency-at, adjacency-bit, adjacency-lt, adjacency-ext, adjacency-linked}
+use Rattle.laws.specs.ChartLists.{both-left, both-right, every-all, all-kept}
+use Rattle.laws.specs.ChartEdges.{Ends, joins-none, joins-swap}
+use Rattle.laws.specs.ChartWords.{wordOf-below, adjacencyOf, adjacency-at, adjacency-linked}
 use Rattle.laws.specs.ChartOrder.{padded, padded-length, padded-at}
 
 -- ---- questions, one group after the other
@@ -78,16 +77,6 @@ module _ (cs : List Check) (values : List ℕ) (a : Answer) where
       by-number : (k : ℕ) → a ≡ byRefusal k (accept values) refuse → byRefusal k x f ≡ f (a .code)
       by-number zero z = absurd (true≢false (sym (ap (λ (y : Answer). y .accepted) z) ∙ t))
       by-number (suc k) z = ap f (sym (ap (λ (y : Answer). y .code) z))
-
--- the entries that are kept pass
-all-kept : {A : Type 0} {P : A → Type 0} (q : A → Bool) {xs : List A} → All P xs → All (λ x. P x × (q x ≡ true)) (keep q xs)
-unfolding keep
-all-kept q none = none
-all-kept {A} {P} q (also {x} {xs} p ps) = by-test (q x) refl (all-kept q ps)
-  where
-    by-test : (b : Bool) → q x ≡ b → All (λ y. P y × (q y ≡ true)) (keep q xs) → All (λ y. P y × (q y ≡ true)) (cond b (x ∷ keep q xs) (keep q xs))
-    by-test true e r = also (p, e) r
-    by-test false e r = r
 
 -- ---- the layout that two bodies give
 

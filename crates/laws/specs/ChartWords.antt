@@ -1,30 +1,29 @@
 -- The adjacency words that a list of edges gives, and what one edge more does to them.
 use Prim.Native.Nat.{ℕ, zero, suc, _+_, _*_, _-_, _^_, _≤_, _<_}
-use native.Mathlib.Nat.{add-zero, zero-mul, one-mul, le-step, lt-suc-self, lt-of-lt-of-le, not-suc-le-zero, pow-suc, zero-lt-suc, le-of-suc-le-suc}
-use native.Mathlib.Numerals.{add-one}
+use native.Mathlib.Nat.{add-zero, lt-of-lt-of-le, not-suc-le-zero, pow-suc, zero-lt-suc}
 use native.Mathlib.Decide.{ℕ-discrete, decLt}
 use native.Mathlib.Omega.{arith}
 use mathlib.Core.Path.{_≡_, refl, sym, ap, ap₂, _∙_, subst}
 use mathlib.Core.Bool.{Bool, true, false, not, cond, _&&_}
 use mathlib.Core.List.{List, [], _∷_, _++_, map, append-assoc, append-nil}
-use lib.ListN.{length, getD, drop, set, replicate, length-set, length-map, length-append, List·getD-append}
-use lib.Seq.{ext-getD, getD-set-same, getD-set-other, getD-at}
-use lib.Dec.{eqb, lit<}
-use lib.Pow.{pow-mono, pow-lt, pow-pos}
+use lib.ListN.{length, getD, drop, set, replicate, length-set, length-map}
+use lib.Seq.{ext-getD, getD-set-same, getD-set-other}
+use lib.Dec.{eqb}
+use lib.Pow.{pow-mono, pow-lt}
 use lib.Bits.{or-lt}
 use Rattle.model.specs.declared.Edge.{Edge}
 use Rattle.model.specs.declared.Asked.the-variants as asks
 use Rattle.model.specs.Lists.{one, upto, every, any, sumOver, noRepeats}
 use Rattle.model.specs.Crossings.{bit, linked}
-use Rattle.model.specs.Layouts.{capacity}
 use Rattle.model.specs.Edits.{withBit, atBothEnds}
 use Rattle.model.specs.Checks.{refusal, byRefusal, checked}
 use Rattle.model.specs.Charts.{edgesIn, edgeWithin, joins, sameEdge, wordIn, asked, answer, repeatChecks}
-use Rattle.laws.specs.Indicators.{Order, less, same, more, order, one-eq, one-ne}
+use Rattle.laws.specs.Indicators.{less, same, more, order}
 use Rattle.laws.specs.Sums.{sum}
 use Rattle.laws.specs.ListSums.{sumOver-upto}
 use Rattle.laws.specs.Bits.{bit-beyond, bits-ext, set-same, set-other, or-power}
-use Rattle.laws.specs.ChartEdges.{edge, edge-swap, same-edge, other-edge, Ends, edge-ends, edges-next, edges-last, EndsUpTo, ends-start, ends-next, ends-known, any-new, any-old, noRepeats-last, noRepeats-more}
+use Rattle.laws.specs.ChartLists.{any-new, any-old, noRepeats-last, noRepeats-more, length-upto, upto-at, map-at}
+use Rattle.laws.specs.ChartEdges.{edge, edge-swap, same-edge, other-edge, Ends, edge-ends, edges-next, edges-last, EndsUpTo, ends-start, ends-next, ends-known}
 
 -- ---- a word made of its bits
 
@@ -94,26 +93,6 @@ word-is es u = sumOver-upto (λ v. cond (any (joins u v) es) (2 ^ v) 0) 64
 -- the words as a list
 abbrev pub adjacencyOf : List Edge → List ℕ
 adjacencyOf es = map (wordIn es) (upto 64)
-
-length-upto : (n : ℕ) → length (upto n) ≡ n
-unfolding upto
-length-upto zero = refl
-length-upto (suc n) = length-append (upto n) (n ∷ []) ∙ add-one (length (upto n)) ∙ ap suc (length-upto n)
-
-upto-at : (n i : ℕ) → i < n → getD (upto n) i 0 ≡ i
-unfolding upto
-upto-at zero i h = absurd (not-suc-le-zero h)
-upto-at (suc n) i h =
-    elim (order i n) [
-      | less l ↦ List·getD-append (upto n) (n ∷ []) 0 i (omega (arith, length-upto n)) ∙ upto-at n i l
-      | same e ↦ getD-at (upto n) n [] 0 i (length-upto n ∙ sym e) ∙ sym e
-      | more l ↦ absurd (omega arith)
-    ]
-
-map-at : (f : ℕ → ℕ) (xs : List ℕ) (i : ℕ) → i < length xs → getD (map f xs) i 0 ≡ f (getD xs i 0)
-map-at f [] i h = absurd (not-suc-le-zero h)
-map-at f (x ∷ xs) zero h = refl
-map-at f (x ∷ xs) (suc i) h = map-at f xs i (le-of-suc-le-suc h)
 
 pub adjacency-length : (es : List Edge) → length (adjacencyOf es) ≡ 64
 adjacency-length es = length-map (upto 64) (wordIn es) ∙ length-upto 64

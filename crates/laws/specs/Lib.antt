@@ -11,6 +11,7 @@ pub mod Bound
 pub mod Validity
 pub mod Bits
 pub mod MaskCount
+pub mod ChartLists
 pub mod ChartFields
 pub mod ChartEdges
 pub mod ChartWords

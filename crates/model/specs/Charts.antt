@@ -148,7 +148,7 @@ readOf s =
 
 -- ---- the passes of the reader: "each reader pass answers an enum"
 
--- what an answer says: is the part accepted, document 01's number (0 where it is), and the values found
+-- what an answer says: do the questions of the pass pass, the number of the first that does not (0 where all do), and the values found
 pub record Answer : Type 0 where
   pub accepted : Bool
   pub code : ℕ
@@ -160,19 +160,22 @@ accept values = record { accepted = true; code = 0; values = values }
 unfoldable pub refuse : ℕ → Answer
 refuse r = record { accepted = false; code = r; values = [] }
 
--- the number and the values of each case
+-- the number and the values of each case of the enums
 unfoldable pub asked : Asked → Answer
 asked asks.Passed = accept []
 asked (asks.Refused r) = refuse r
 
+-- a field's tag and the length of its body; no field is no number yet
 unfoldable pub fieldFound : FieldFound → Answer
 fieldFound (field.Field tag length) = accept (tag ∷ length ∷ [])
 fieldFound field.Nothing = refuse 0
 
+-- the lengths of the bodies of 44, 4C and 52
 unfoldable pub bodiesFound : BodiesFound → Answer
 bodiesFound (bodies.Found a b c) = accept (a ∷ b ∷ c ∷ [])
 bodiesFound (bodies.Refused r) = refuse r
 
+-- the number of vertices (devices)
 unfoldable pub sizeFound : SizeFound → Answer
 sizeFound (size.Found n) = accept (n ∷ [])
 sizeFound (size.Refused r) = refuse r
@@ -194,7 +197,7 @@ unfoldable pub bodiesAnswer : List ℕ → Answer
 bodiesAnswer s =
     answer (take 1 (drop 2 (chartChecks s))) (length (bodyOf s 0) ∷ length (bodyOf s 1) ∷ length (bodyOf s 2) ∷ [])
 
--- the questions that are asked of the bodies alone: 4 of that of 44, 5 to 7 of that of 4C, 8 of that of 52
+-- the same questions of the bodies alone, as chartChecks puts them to a whole chart: 4 to the body of 44, 5 to 7 to that of 4C, 8 to that of 52
 unfoldable pub sizeChecks : List ℕ → List Check
 sizeChecks body = record { passes = eqb (length body) 1 && leb (getD body 0 0) capacity; code = 4 } ∷ []
 

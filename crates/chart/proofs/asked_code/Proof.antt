@@ -1,6 +1,5 @@
 use borrow.Author.Needs.{needs}
 use mathlib.Core.Path.{sym, ap}
-use Prim.Native.Nat.{ℕ}
 use Rattle.model.specs.declared.Asked.{Asked}
 use Rattle.model.specs.Charts.{asked, accept, refuse}
 use Rattle.chart.proofs.asked_code.Statement.{statement}

@@ -1,6 +1,5 @@
 use borrow.Author.Needs.{needs}
 use mathlib.Core.Path.{sym, ap}
-use Prim.Native.Nat.{ℕ}
 use Rattle.model.specs.declared.BodiesFound.{BodiesFound}
 use Rattle.model.specs.Charts.{bodiesFound, accept, refuse}
 use Rattle.chart.proofs.bodies_code.Statement.{statement}

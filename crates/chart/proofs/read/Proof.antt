@@ -4,7 +4,7 @@ use native.Mathlib.Omega.{arith}
 use mathlib.Core.Path.{_≡_, sym, ap, ap₂, _∙_}
 use mathlib.Core.Bool.{true}
 use mathlib.Core.List.{List}
-use lib.ListN.{getD, take, drop}
+use lib.ListN.{getD}
 use Rattle.model.specs.declared.Asked.{Asked}
 use Rattle.model.specs.declared.BodiesFound.{BodiesFound}
 use Rattle.model.specs.declared.SizeFound.{SizeFound}

@@ -1,8 +1,7 @@
 use borrow.Author.Needs.{needs}
 use native.Mathlib.Omega.{arith}
 use mathlib.Core.Path.{_≡_, refl, sym, ap, _∙_}
-use mathlib.Core.Bool.{true, false}
-use mathlib.Core.List.{[]}
+use mathlib.Core.Bool.{true}
 use Rattle.model.specs.declared.Asked.{Asked}
 use Rattle.model.specs.Charts.{asked, accept, refuse, edgesIn}
 use Rattle.laws.specs.ChartEdges.{within-mono}

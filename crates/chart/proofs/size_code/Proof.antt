@@ -1,6 +1,5 @@
 use borrow.Author.Needs.{needs}
 use mathlib.Core.Path.{sym, ap}
-use Prim.Native.Nat.{ℕ}
 use Rattle.model.specs.declared.SizeFound.{SizeFound}
 use Rattle.model.specs.Charts.{sizeFound, accept, refuse}
 use Rattle.chart.proofs.size_code.Statement.{statement}

@@ -1,10 +1,9 @@
 use borrow.Author.Needs.{needs}
 use Prim.Native.Nat.{ℕ}
-use mathlib.Core.Path.{_≡_, ap, ap₂, _∙_}
-use mathlib.Core.Bool.{Bool, cond}
-use lib.ListN.{getD, set}
+use mathlib.Core.Path.{ap₂, _∙_}
+use lib.ListN.{set}
 use borrow.Author.Tests.{lt-ltb}
-use Rattle.model.specs.Edits.{withBit, atBothEnds}
+use Rattle.model.specs.Edits.{atBothEnds}
 use Rattle.chart.proofs.edges.join.Statement.{statement}
 use Rattle.chart.proofs.edges.join.Tie as tie
 
