@@ -28,3 +28,10 @@ pub mod Writing
 pub mod EdgeTotals
 pub mod FirstCrossing
 pub mod ListingText
+pub mod ChartLists
+pub mod ChartFields
+pub mod ChartEdges
+pub mod ChartWords
+pub mod ChartOrder
+pub mod ChartReading
+pub mod ChartLaws
