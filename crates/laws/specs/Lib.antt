@@ -24,3 +24,14 @@ pub mod SiftingCalls
 pub mod MovedPlaces
 pub mod SiftingWalk
 pub mod SiftingLoops
+pub mod Writing
+pub mod EdgeTotals
+pub mod FirstCrossing
+pub mod ListingText
+pub mod ChartLists
+pub mod ChartFields
+pub mod ChartEdges
+pub mod ChartWords
+pub mod ChartOrder
+pub mod ChartReading
+pub mod ChartLaws

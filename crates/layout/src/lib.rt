@@ -3,6 +3,7 @@
 
 mod checks;
 mod counter;
+mod crossing;
 mod edges;
 mod moves;
 mod reading;
@@ -12,6 +13,7 @@ mod vertices;
 
 pub use checks::vertex_refusal;
 pub use counter::count_crossings;
+pub use crossing::first_crossing;
 pub use edges::add_edge;
 pub use edges::remove_edge;
 pub use moves::move_after;

@@ -7,6 +7,14 @@ use lib.Dec.{eqb, leb, ltb}
 use Rattle.model.specs.declared.Edge.{Edge}
 use Rattle.model.specs.declared.Layout.{Layout}
 use Rattle.model.specs.declared.ChartRead.{ChartRead}
+use Rattle.model.specs.declared.Asked.{Asked}
+use Rattle.model.specs.declared.Asked.the-variants as asks
+use Rattle.model.specs.declared.FieldFound.{FieldFound}
+use Rattle.model.specs.declared.FieldFound.the-variants as field
+use Rattle.model.specs.declared.BodiesFound.{BodiesFound}
+use Rattle.model.specs.declared.BodiesFound.the-variants as bodies
+use Rattle.model.specs.declared.SizeFound.{SizeFound}
+use Rattle.model.specs.declared.SizeFound.the-variants as size
 use Rattle.model.specs.Lists.{upto, every, any, sumOver, noRepeats}
 use Rattle.model.specs.Crossings.{crossings}
 use Rattle.model.specs.Layouts.{capacity, emptyLayout, eachOnce}
@@ -137,3 +145,74 @@ readOf s =
     checked (chartChecks s)
     (record { refusal = 0; layout = chartLayout s })
     (λ r. record { refusal = r; layout = emptyLayout })
+
+-- ---- the passes of the reader: "each reader pass answers an enum"
+
+-- what an answer says: do the questions of the pass pass, the number of the first that does not (0 where all do), and the values found
+pub record Answer : Type 0 where
+  pub accepted : Bool
+  pub code : ℕ
+  pub values : List ℕ
+
+unfoldable pub accept : List ℕ → Answer
+accept values = record { accepted = true; code = 0; values = values }
+
+unfoldable pub refuse : ℕ → Answer
+refuse r = record { accepted = false; code = r; values = [] }
+
+-- the number and the values of each case of the enums
+unfoldable pub asked : Asked → Answer
+asked asks.Passed = accept []
+asked (asks.Refused r) = refuse r
+
+-- a field's tag and the length of its body; no field is no number yet
+unfoldable pub fieldFound : FieldFound → Answer
+fieldFound (field.Field tag length) = accept (tag ∷ length ∷ [])
+fieldFound field.Nothing = refuse 0
+
+-- the lengths of the bodies of 44, 4C and 52
+unfoldable pub bodiesFound : BodiesFound → Answer
+bodiesFound (bodies.Found a b c) = accept (a ∷ b ∷ c ∷ [])
+bodiesFound (bodies.Refused r) = refuse r
+
+-- the number of vertices (devices)
+unfoldable pub sizeFound : SizeFound → Answer
+sizeFound (size.Found n) = accept (n ∷ [])
+sizeFound (size.Refused r) = refuse r
+
+-- the first number among the questions of a pass, or what it finds
+unfoldable pub answer : List Check → List ℕ → Answer
+answer checks values = checked checks (accept values) refuse
+
+-- the field at the start of what is left: its tag and the length of its body
+unfoldable pub fieldAnswer : List ℕ → Answer
+fieldAnswer s = cond (startsWithField s) (accept (getD s 0 0 ∷ bodyLength s ∷ [])) (refuse 0)
+
+-- questions 1 and 2
+unfoldable pub divisionAnswer : List ℕ → Answer
+divisionAnswer s = answer (take 2 (chartChecks s)) []
+
+-- question 3: the lengths of the three bodies
+unfoldable pub bodiesAnswer : List ℕ → Answer
+bodiesAnswer s =
+    answer (take 1 (drop 2 (chartChecks s))) (length (bodyOf s 0) ∷ length (bodyOf s 1) ∷ length (bodyOf s 2) ∷ [])
+
+-- the same questions of the bodies alone, as chartChecks puts them to a whole chart: 4 to the body of 44, 5 to 7 to that of 4C, 8 to that of 52
+unfoldable pub sizeChecks : List ℕ → List Check
+sizeChecks body = record { passes = eqb (length body) 1 && leb (getD body 0 0) capacity; code = 4 } ∷ []
+
+unfoldable pub endChecks : ℕ → List ℕ → List Check
+endChecks n links =
+    record { passes = eqb (length links % 2) 0; code = 5 }
+    ∷ record { passes = every (edgeWithin n) (edgesIn links); code = 6 }
+    ∷ []
+
+unfoldable pub repeatChecks : List ℕ → List Check
+repeatChecks links = record { passes = noRepeats sameEdge (edgesIn links); code = 7 } ∷ []
+
+unfoldable pub placeChecks : ℕ → List ℕ → List Check
+placeChecks n o = record { passes = eqb (length o) n && eachOnce n o; code = 8 } ∷ []
+
+-- question 4: the number of vertices
+unfoldable pub sizeAnswer : List ℕ → Answer
+sizeAnswer body = answer (sizeChecks body) (getD body 0 0 ∷ [])

@@ -4,7 +4,7 @@ use Prim.Native.String.{String, len, charAt}
 use Prim.Native.Char.{code}
 use mathlib.Core.Bool.{Bool, true, false, cond}
 use mathlib.Core.List.{List, [], _∷_, _++_, map, flatMap}
-use lib.ListN.{length}
+use lib.ListN.{length, drop}
 use lib.Dec.{ltb}
 use Rattle.model.specs.declared.Layout.{Layout}
 use Rattle.model.specs.Lists.{upto}
@@ -54,3 +54,18 @@ unfoldable pub listingOf : List ℕ → List ℕ
 listingOf chart =
     let r = readOf chart in
     byRefusal (r .refusal) (listing (r .layout)) (λ refused. line "refused" (spaced refused))
+
+-- ---- into a lent buffer
+
+-- a listing fits a buffer of this many bytes; a shorter one is not written to
+abbrev pub listingRoom : ℕ
+listingRoom = 1024
+
+-- how many bytes are written
+unfoldable pub listedLength : List ℕ → List ℕ → ℕ
+listedLength chart buffer = cond (ltb (length buffer) listingRoom) 0 (length (listingOf chart))
+
+-- the buffer's bytes afterwards: the listing, and the rest untouched
+unfoldable pub listedBytes : List ℕ → List ℕ → List ℕ
+listedBytes chart buffer =
+    cond (ltb (length buffer) listingRoom) buffer (listingOf chart ++ drop (length (listingOf chart)) buffer)

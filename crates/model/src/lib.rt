@@ -83,3 +83,31 @@ pub struct ChartRead {
     pub refusal: u8,
     pub layout: Layout,
 }
+
+// What the passes of the chart reader answer. specs/Charts.antt says for each case which number and
+// values of document 01 it stands for.
+
+// A pass that only asks: questions 1 and 2, 5 and 6, 7, and 8.
+pub enum Asked {
+    Passed,
+    Refused(u8),
+}
+
+// A field at the start of the bytes that are left: its tag and the length of its body. Nothing where
+// no header and body stand there whole; questions 2 and 3 say what that means.
+pub enum FieldFound {
+    Field(u8, usize),
+    Nothing,
+}
+
+// Question 3: the lengths of the bodies of fields 44, 4C and 52.
+pub enum BodiesFound {
+    Found(usize, usize, usize),
+    Refused(u8),
+}
+
+// Question 4: the number of vertices.
+pub enum SizeFound {
+    Found(usize),
+    Refused(u8),
+}

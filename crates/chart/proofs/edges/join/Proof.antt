@@ -1,0 +1,62 @@
+use borrow.Author.Needs.{needs}
+use Prim.Native.Nat.{ℕ}
+use mathlib.Core.Path.{ap₂, _∙_}
+use lib.ListN.{set}
+use borrow.Author.Tests.{lt-ltb}
+use Rattle.model.specs.Edits.{atBothEnds}
+use Rattle.chart.proofs.edges.join.Statement.{statement}
+use Rattle.chart.proofs.edges.join.Tie as tie
+
+mul-set : tie.Need-mul-set
+mul-set c = search needs
+
+element-copy-out-set : tie.Need-element-copy-out-set
+element-copy-out-set c = search needs
+
+set-requires : tie.Need-set-requires
+set-requires c κs = search needs
+
+mul-set-2 : tie.Need-mul-set-2
+mul-set-2 c = search needs
+
+element-copy-out-set-2 : tie.Need-element-copy-out-set-2
+element-copy-out-set-2 c = search needs
+
+set-requires-2 : tie.Need-set-requires-2
+set-requires-2 c κs = search needs
+
+mul-adjacency : tie.Need-mul-adjacency
+mul-adjacency c = search needs
+
+element-write-adjacency : tie.Need-element-write-adjacency
+element-write-adjacency c = search needs
+
+mul-adjacency-2 : tie.Need-mul-adjacency-2
+mul-adjacency-2 c = search needs
+
+element-write-adjacency-2 : tie.Need-element-write-adjacency-2
+element-write-adjacency-2 c = search needs
+
+returns : tie.Need-returns
+unfolding atBothEnds
+returns c =
+    let a = c .before .before .before .before .args in
+    ap₂ (λ (x y : ℕ). set (set (a .adjacency .now) (a .a) x) (a .b) y)
+    (c .before .before .set .ensures ∙ rw (lt-ltb (a .b) 64 (c .before .before .before .before .pre .1)))
+    (c .set2 .ensures ∙ rw (lt-ltb (a .a) 64 (c .before .before .before .before .pre .0)))
+
+pub join-spec : {M : Type 1} → statement M
+join-spec =
+    tie.close
+    (tie.spec
+    mul-set
+    element-copy-out-set
+    set-requires
+    mul-set-2
+    element-copy-out-set-2
+    set-requires-2
+    mul-adjacency
+    element-write-adjacency
+    mul-adjacency-2
+    element-write-adjacency-2
+    returns)

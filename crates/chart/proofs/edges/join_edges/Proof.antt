@@ -1,0 +1,100 @@
+use borrow.Author.Needs.{needs}
+use Prim.Native.Nat.{_+_, _-_}
+use native.Mathlib.Omega.{arith}
+use mathlib.Core.Path.{sym, _∙_}
+use mathlib.Core.Bool.{false≢true}
+use lib.ListN.{length, getD}
+use Rattle.model.specs.Charts.{asked, refuse}
+use Rattle.laws.specs.ChartEdges.{Ends}
+use Rattle.laws.specs.ChartWords.{JoinedUpTo, joined-start, joined-ends, joined-next, joined-repeat, joined-words, joined-once, answer-once, answer-repeat}
+use Rattle.chart.proofs.edges.join_edges.Statement.{statement}
+use Rattle.chart.proofs.edges.join_edges.Tie as tie
+
+abbrev Inv-loop : tie.InvT-loop
+Inv-loop links adjacency₀ i₀ adjacency i = JoinedUpTo links adjacency i
+
+abbrev μ-loop : tie.MeasureT-loop
+μ-loop links adjacency₀ i₀ adjacency i = length links - i
+
+loop-holds : tie.Need-loop-holds Inv-loop μ-loop
+loop-holds c = joined-start (c .before .pre .1)
+
+add-loop : tie.Need-add-loop Inv-loop μ-loop
+add-loop c = omega (arith, c .loop .inv .ends)
+
+shared-slice-read-a : tie.Need-shared-slice-read-a Inv-loop μ-loop
+shared-slice-read-a c = omega arith
+
+cast-a : tie.Need-cast-a Inv-loop μ-loop
+cast-a c = omega (arith, c .shared-slice-known2 .given (c .before .before .loop .i))
+
+add-b : tie.Need-add-b Inv-loop μ-loop
+add-b c = omega arith
+
+shared-slice-read-b : tie.Need-shared-slice-read-b Inv-loop μ-loop
+shared-slice-read-b c = omega arith
+
+cast-b : tie.Need-cast-b Inv-loop μ-loop
+cast-b c = omega (arith, c .shared-slice-known3 .given (c .before .before .before .loop .i + 1))
+
+ends : (c : tie.After-shared-slice-known3 Inv-loop μ-loop)
+    → Ends 64 (getD (c .before .before .before .before .before .args .links .now) (c .before .before .before .loop .i) 0) (getD (c .before .before .before .before .before .args .links .now) (c .before .before .before .loop .i + 1) 0)
+ends c = joined-ends (c .before .before .before .loop .inv) (c .before .before .loop-test .taken) (c .before .before .before .before .before .pre .0)
+
+mul-is-set : tie.Need-mul-is-set Inv-loop μ-loop
+mul-is-set c = omega (arith, ends c .first)
+
+element-copy-out-is-set : tie.Need-element-copy-out-is-set Inv-loop μ-loop
+element-copy-out-is-set c = ends c .first
+
+is-set-requires : tie.Need-is-set-requires Inv-loop μ-loop
+is-set-requires c κs = search needs
+
+returns : tie.Need-returns Inv-loop μ-loop
+unfolding asked refuse
+returns c = (
+  answer-repeat (c .before .before .before .before .before .before .before .before .args .links .now) (joined-repeat (c .before .before .before .before .before .before .loop .inv) (c .before .before .before .before .before .loop-test .taken) (c .before .before .before .before .before .before .before .before .pre .0) (sym (c .before .is-set .ensures) ∙ c .if1 .taken)),
+  (λ z. absurd (false≢true z)),
+)
+
+join-requires : tie.Need-join-requires Inv-loop μ-loop
+join-requires c κs = let e = ends (c .before .before .before .before) in (e .first, e .second)
+
+add-i : tie.Need-add-i Inv-loop μ-loop
+add-i c = omega arith
+
+loop-less : tie.Need-loop-less Inv-loop μ-loop
+loop-less c = omega arith
+
+loop-again : tie.Need-loop-again Inv-loop μ-loop
+loop-again c =
+    joined-next (c .before .before .before .before .before .before .before .before .loop .inv) (c .before .before .before .before .before .before .before .loop-test .taken) (c .before .before .before .before .before .before .before .before .before .before .pre .0) (sym (c .before .before .before .is-set .ensures) ∙ c .before .before .if1 .left) (c .join .ensures)
+
+returns-2 : tie.Need-returns-2 Inv-loop μ-loop
+returns-2 c = (
+  answer-once (c .before .before .before .args .links .now) (joined-once (c .before .loop .inv) (c .loop-test .left)),
+  (λ z. joined-words (c .before .loop .inv) (c .loop-test .left)),
+)
+
+pub join-edges-spec : {M : Type 1} → statement M
+join-edges-spec =
+    tie.close
+    (tie.spec
+    Inv-loop
+    μ-loop
+    loop-holds
+    add-loop
+    shared-slice-read-a
+    cast-a
+    add-b
+    shared-slice-read-b
+    cast-b
+    mul-is-set
+    element-copy-out-is-set
+    is-set-requires
+    returns
+    join-requires
+    add-i
+    loop-less
+    loop-again
+    returns-2)

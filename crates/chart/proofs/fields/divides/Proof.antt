@@ -1,0 +1,70 @@
+use borrow.Author.Needs.{needs}
+use Prim.Native.Nat.{_+_, _-_}
+use native.Mathlib.Omega.{arith}
+use mathlib.Core.Path.{sym, ap, _∙_}
+use lib.ListN.{length, drop}
+use Rattle.model.specs.Charts.{fieldFound}
+use Rattle.laws.specs.ChartFields.{field-there, field-none, DividedUpTo, divided-start, divided-next, divided-end}
+use Rattle.chart.proofs.fields.divides.Statement.{statement}
+use Rattle.chart.proofs.fields.divides.Tie as tie
+
+abbrev Inv-loop : tie.InvT-loop
+Inv-loop bytes at₀ at = DividedUpTo bytes at
+
+abbrev μ-loop : tie.MeasureT-loop
+μ-loop bytes at₀ at = length bytes - at
+
+loop-holds : tie.Need-loop-holds Inv-loop μ-loop
+loop-holds c = divided-start
+
+field-at-requires : tie.Need-field-at-requires Inv-loop μ-loop
+field-at-requires c κs = omega arith
+
+enum-known-length : tie.Need-enum-known-length Inv-loop μ-loop
+enum-known-length c = search needs
+
+enum-told : tie.Need-enum-told Inv-loop μ-loop
+enum-told c = search needs
+
+next : (c : tie.After-known-told Inv-loop μ-loop)
+    → DividedUpTo (c .before .before .before .before .before .before .args .bytes .now)
+    (c .before .before .before .before .loop .at + (3 + c .before .length .given .0 .1 .0))
+next c =
+    let at-loop = c .before .before .before .before in
+    let f = c .before .length .given in
+    divided-next (at-loop .loop .inv)
+    (field-there (drop (at-loop .loop .at) (at-loop .before .before .args .bytes .now)) (f .0 .0) (f .0 .1 .0) (ap fieldFound (sym (f .1)) ∙ c .before .before .before .field-at .ensures))
+
+returns : tie.Need-returns Inv-loop μ-loop
+returns c =
+    let at-loop = c .before .before .before in
+    divided-end (at-loop .loop .inv)
+    (field-none (drop (at-loop .loop .at) (at-loop .before .before .args .bytes .now)) (ap fieldFound (sym (c .enum-told .given .1)) ∙ c .before .before .field-at .ensures))
+
+add-at : tie.Need-add-at Inv-loop μ-loop
+add-at c = omega (arith, next c .inside)
+
+add-at-2 : tie.Need-add-at-2 Inv-loop μ-loop
+add-at-2 c = omega (arith, next c .inside)
+
+loop-less : tie.Need-loop-less Inv-loop μ-loop
+loop-less c = omega (arith, next c .inside)
+
+loop-again : tie.Need-loop-again Inv-loop μ-loop
+loop-again c = next c
+
+pub divides-spec : {M : Type 1} → statement M
+divides-spec =
+    tie.close
+    (tie.spec
+    Inv-loop
+    μ-loop
+    loop-holds
+    field-at-requires
+    enum-known-length
+    enum-told
+    returns
+    add-at
+    add-at-2
+    loop-less
+    loop-again)

@@ -1,0 +1,89 @@
+-- What reading a chart gives: a valid layout with its true crossings, whatever the sequence in which the edges are written.
+use Prim.Native.Nat.{ℕ, zero, suc, _<_}
+use mathlib.Core.Path.{_≡_, refl, sym, ap, ap₂, _∙_, subst}
+use mathlib.Core.Bool.{Bool, true, _&&_, _||_}
+use mathlib.Core.List.{List, [], _∷_}
+use lib.ListN.{length}
+use lib.Dec.{T, eqb, leb, lit<}
+use borrow.Author.Tests.{leb-true, eqb-true}
+use Rattle.model.specs.declared.Edge.{Edge}
+use Rattle.model.specs.declared.ChartRead.{ChartRead}
+use Rattle.model.specs.declared.Layout.{Layout}
+use Rattle.model.specs.Lists.{one, any}
+use Rattle.model.specs.Layouts.{eachOnce, crossingsOf, valid}
+use Rattle.model.specs.Checks.{refusal, byRefusal, checked}
+use Rattle.model.specs.Charts.{bodyOf, chartSize, chartEdges, chartOrder, sameEdge, joins, chartChecks, chartLayout, readOf}
+use Rattle.laws.specs.ListSums.{All, none, also}
+use Rattle.laws.specs.ChartLists.{both-left, both-right, eqb-swap}
+use Rattle.laws.specs.ChartEdges.{edge}
+use Rattle.laws.specs.ChartWords.{adjacencyOf, adjacency-length, adjacency-bit, adjacency-lt, adjacency-ext}
+use Rattle.laws.specs.ChartReading.{Numbered, all-pass, layoutFrom, Accepted, valid-read, count-true, refusedRead}
+
+-- ---- an accepted chart
+
+-- no question has a number to give
+accepted-checks : (s : List ℕ) → readOf s .refusal ≡ 0 → refusal (chartChecks s) ≡ 0
+unfolding readOf checked byRefusal refusedRead
+accepted-checks s = by-number (refusal (chartChecks s))
+  where
+    by-number : (k : ℕ) → byRefusal {A = ChartRead} k (record { refusal = 0; layout = chartLayout s }) refusedRead .refusal ≡ 0 → k ≡ 0
+    by-number zero e = refl
+    by-number (suc k) e = e
+
+read-is : (s : List ℕ) → readOf s .refusal ≡ 0 → readOf s ≡ record { refusal = 0; layout = chartLayout s }
+unfolding readOf checked byRefusal refusedRead
+read-is s e = ap (λ (k : ℕ). byRefusal {A = ChartRead} k (record { refusal = 0; layout = chartLayout s }) refusedRead) (accepted-checks s e)
+
+numbered : (s : List ℕ) → Numbered (chartChecks s)
+unfolding chartChecks
+numbered s = also (lit< tt) (also (lit< tt) (also (lit< tt) (also (lit< tt) (also (lit< tt) (also (lit< tt) (also (lit< tt) (also (lit< tt) none)))))))
+
+pub accepted : (s : List ℕ) → readOf s .refusal ≡ 0 → Accepted (chartSize s) (bodyOf s 1) (bodyOf s 2)
+unfolding chartChecks chartEdges chartOrder
+accepted s e = from (all-pass (numbered s) (accepted-checks s e))
+  where
+    from : All (λ c. c .passes ≡ true) (chartChecks s) → Accepted (chartSize s) (bodyOf s 1) (bodyOf s 2)
+    from (also _ (also _ (also _ (also size (also _ (also ends (also _ (also places none)))))))) =
+        record {
+          few = leb-true (chartSize s) 64 (both-right (eqb (length (bodyOf s 0)) 1) (leb (chartSize s) 64) size);
+          within = ends;
+          long = eqb-true (length (bodyOf s 2)) (chartSize s) (both-left (eqb (length (bodyOf s 2)) (chartSize s)) (eachOnce (chartSize s) (bodyOf s 2)) places);
+          each = both-right (eqb (length (bodyOf s 2)) (chartSize s)) (eachOnce (chartSize s) (bodyOf s 2)) places;
+        }
+
+layout-is : (s : List ℕ) → chartLayout s ≡ layoutFrom (chartSize s) (bodyOf s 1) (bodyOf s 2)
+unfolding chartLayout layoutFrom chartEdges chartOrder
+layout-is s = refl
+
+-- "a ring read from a chart its true crossings"
+pub read-valid : (s : List ℕ) → readOf s .refusal ≡ 0 → T (valid (readOf s .layout)) × (readOf s .layout .count ≡ crossingsOf (readOf s .layout))
+read-valid s e =
+    subst (λ (l : Layout). T (valid l) × (l .count ≡ crossingsOf l)) (sym (ap (λ (r : ChartRead). r .layout) (read-is s e) ∙ layout-is s))
+    (valid-read (accepted s e), count-true (accepted s e))
+
+-- ---- the same edges, in another sequence or with ends exchanged
+
+sameEdge-swap : (e f : Edge) → sameEdge e f ≡ sameEdge f e
+unfolding sameEdge
+sameEdge-swap e f = ap₂ (λ (x y : Bool). x && y) (eqb-swap (e .low) (f .low)) (eqb-swap (e .high) (f .high))
+
+joins-member : (u v : ℕ) (es : List Edge) → any (joins u v) es ≡ any (sameEdge (edge u v)) es
+unfolding any joins edge
+joins-member u v [] = refl
+joins-member u v (e ∷ es) = ap₂ (λ (x y : Bool). x || y) (sameEdge-swap e (edge u v)) (joins-member u v es)
+
+pub same-words : (es fs : List Edge) → ((e : Edge) → any (sameEdge e) es ≡ any (sameEdge e) fs) → adjacencyOf es ≡ adjacencyOf fs
+same-words es fs h =
+    adjacency-ext (adjacencyOf es) fs (adjacency-length es) (adjacency-lt es)
+    (λ u v a b. adjacency-bit es u v a b ∙ ap one (joins-member u v es ∙ h (edge u v) ∙ sym (joins-member u v fs)))
+
+same-layouts : (s t : List ℕ) → chartSize s ≡ chartSize t → chartOrder s ≡ chartOrder t → adjacencyOf (chartEdges s) ≡ adjacencyOf (chartEdges t)
+    → chartLayout s ≡ chartLayout t
+unfolding chartLayout
+same-layouts s t sizes orders words = rw (sizes, orders, words)
+
+-- two accepted charts of the same vertices, order and edges give the same layout
+pub same-charts : (s t : List ℕ) → readOf s .refusal ≡ 0 → readOf t .refusal ≡ 0 → chartSize s ≡ chartSize t → chartOrder s ≡ chartOrder t
+    → ((e : Edge) → any (sameEdge e) (chartEdges s) ≡ any (sameEdge e) (chartEdges t)) → readOf s ≡ readOf t
+same-charts s t p q sizes orders edges =
+    read-is s p ∙ ap (λ (l : Layout). record { refusal = 0; layout = l }) (same-layouts s t sizes orders (same-words (chartEdges s) (chartEdges t) edges)) ∙ sym (read-is t q)

@@ -1,0 +1,54 @@
+use borrow.Author.Needs.{needs}
+use native.Mathlib.Omega.{arith}
+use Rattle.model.specs.Lists.{upto}
+use Rattle.model.specs.Listing.{text, line}
+use Rattle.laws.specs.Writing.{Written, written-none, written-step}
+use Rattle.listing.proofs.lines.put_settled.Statement.{statement}
+use Rattle.listing.proofs.lines.put_settled.Tie as tie
+
+slice-aggregate-put-text : tie.Need-slice-aggregate-put-text
+slice-aggregate-put-text c = search needs
+
+put-text-requires : tie.Need-put-text-requires
+put-text-requires c κs = search needs
+
+slice-aggregate-put-text-2 : tie.Need-slice-aggregate-put-text-2
+slice-aggregate-put-text-2 c = search needs
+
+put-text-requires-2 : tie.Need-put-text-requires-2
+put-text-requires-2 c κs = search needs
+
+same-length : tie.Need-same-length
+same-length c = search needs
+
+returns : tie.Need-returns
+unfolding line text upto
+returns c = 
+    let start = c .before .before .before .before .before .before .before in
+    let e = c .before .before .put-text .ensures in
+    rw (c .before .before .before .before .before .if1 .taken)
+    (written-step (written-none (start .args .out .now) (start .args .at)) (line "settled" (text " yes")) (omega arith) (e .0) (e .1), omega (arith, e .1))
+
+same-length-2 : tie.Need-same-length-2
+same-length-2 c = search needs
+
+returns-2 : tie.Need-returns-2
+unfolding line text upto
+returns-2 c = 
+    let start = c .before .before .before .before .before .before .before in
+    let e = c .before .before .put-text2 .ensures in
+    rw (c .before .before .before .before .before .if1 .left)
+    (written-step (written-none (start .args .out .now) (start .args .at)) (line "settled" (text " no")) (omega arith) (e .0) (e .1), omega (arith, e .1))
+
+pub put-settled-spec : {M : Type 1} → statement M
+put-settled-spec =
+    tie.close
+    (tie.spec
+    slice-aggregate-put-text
+    put-text-requires
+    slice-aggregate-put-text-2
+    put-text-requires-2
+    same-length
+    returns
+    same-length-2
+    returns-2)

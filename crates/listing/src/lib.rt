@@ -1,0 +1,3 @@
+// The listing that ringlist prints, as bytes in a lent buffer.
+mod lines;
+mod writing;

@@ -1,0 +1,56 @@
+// The lines of a listing.
+ghost use mathlib.Core.Path.{_≡_};
+ghost use mathlib.Core.Bool.{cond};
+ghost use mathlib.Core.List.{_++_, flatMap};
+ghost use Prim.Native.Nat.{_+_, _≤_};
+ghost use lib.ListN.{length};
+ghost use Rattle.model.specs.Crossings.{edges as edgesIn};
+ghost use Rattle.model.specs.Listing.{text, line, spaced};
+ghost use Rattle.laws.specs.Recount.{Drawn};
+ghost use Rattle.laws.specs.Writing.{Written, written};
+use super::writing::put_byte;
+use super::writing::put_line;
+use super::writing::put_order;
+use super::writing::put_text;
+
+// The numbers of a listing, one to a line.
+pub struct Numbers {
+    pub vertices: u32,
+    pub edges: u32,
+    pub before: u32,
+    pub after: u32,
+    pub rounds: u32,
+}
+
+pub fn put_numbers(out: &mut [u8], x: Numbers) -> usize
+    requires { ⌜ 1024 ≤ length (now out) ⌝ }
+    ensures { λ r. ⌜ Written (now (out .entry)) 0 (line "devices" (spaced (x .vertices)) ++ line "links" (spaced (x .edges)) ++ line "before" (spaced (x .before)) ++ line "after" (spaced (x .after)) ++ line "rounds" (spaced (x .rounds))) (now (out .exit)) r × (r ≤ 100) ⌝ }
+{
+    let links = put_line(out, 0, b"devices", x.vertices);
+    let before = put_line(out, links, b"links", x.edges);
+    let after = put_line(out, before, b"before", x.before);
+    let rounds = put_line(out, after, b"after", x.after);
+    put_line(out, rounds, b"rounds", x.rounds)
+}
+
+// Whether the last round moved no vertex.
+pub fn put_settled(out: &mut [u8], at: usize, converged: bool) -> usize
+    requires { ⌜ at + 12 ≤ length (now out) ⌝ }
+    ensures { λ r. ⌜ Written (now (out .entry)) at (line "settled" (text (cond converged " yes" " no"))) (now (out .exit)) r × (r ≤ at + 12) ⌝ }
+{
+    if converged {
+        put_text(out, at, b"settled yes\n")
+    } else {
+        put_text(out, at, b"settled no\n")
+    }
+}
+
+// The order, with single spaces.
+pub fn put_order_line(out: &mut [u8], at: usize, order: &[u8]) -> usize
+    requires { ⌜ (at ≤ 200) × (length (now order) ≤ 64) × (1024 ≤ length (now out)) ⌝ }
+    ensures { λ r. ⌜ Written (now (out .entry)) at (line "order" (flatMap spaced (now (order .entry)))) (now (out .exit)) r × (r ≤ length (now (out .exit))) ⌝ }
+{
+    let places = put_text(out, at, b"order");
+    let end = put_order(out, places, order);
+    put_byte(out, end, b'\n')
+}
