@@ -29,12 +29,13 @@ low-ones n w h =
     sum-ext 64 (λ i. bit w i * bit (2 ^ n - 1) i) (λ i. one (ltb i n) * bit w i) (λ i l. term i)
     ∙ sum-below 64 n (bit w) h
   where
-  term : (i : ℕ) → bit w i * bit (2 ^ n - 1) i ≡ one (ltb i n) * bit w i
-  term i =
-      elim (order i n)
-      [ less l ↦ rw (bit-full n i l, one-lt i n l) (mul-comm (bit w i) 1)
-      | same e ↦ rw (bit-beyond n (2 ^ n - 1) i (ones-lt n) (omega arith), one-ge i n (omega arith)) (mul-comm (bit w i) 0)
-      | more l ↦ rw (bit-beyond n (2 ^ n - 1) i (ones-lt n) (omega arith), one-ge i n (omega arith)) (mul-comm (bit w i) 0) ]
+    term : (i : ℕ) → bit w i * bit (2 ^ n - 1) i ≡ one (ltb i n) * bit w i
+    term i =
+        elim (order i n) [
+          | less l ↦ rw (bit-full n i l, one-lt i n l) (mul-comm (bit w i) 1)
+          | same e ↦ rw (bit-beyond n (2 ^ n - 1) i (ones-lt n) (omega arith), one-ge i n (omega arith)) (mul-comm (bit w i) 0)
+          | more l ↦ rw (bit-beyond n (2 ^ n - 1) i (ones-lt n) (omega arith), one-ge i n (omega arith)) (mul-comm (bit w i) 0)
+        ]
 
 -- each edge stands in two words
 pub edges-twice : (n : ℕ) (adj : List ℕ) → n ≤ 64 → Symmetric n (weight adj)

@@ -40,10 +40,10 @@ pub settled-fifty : (l : Layout) → T (valid l) → CountRight l → {r : Conve
 settled-fifty l t c e =
     let s = settling 50 l t in
     rw e
-    (record
-    { is-valid = settle-keeps l 50 t .0
-    ; same-n = ap (λ (x : Converged). x .layout .n) (settle-accepted l 50 t (omega arith) (omega arith)) ∙ s .improved .same-n
-    ; right = settle-keeps l 50 t .1 c
+    (record {
+      is-valid = settle-keeps l 50 t .0;
+      same-n = ap (λ (x : Converged). x .layout .n) (settle-accepted l 50 t (omega arith) (omega arith)) ∙ s .improved .same-n;
+      right = settle-keeps l 50 t .1 c;
     })
 
 -- the text of a listing, from its numbers and an order of n places

@@ -1,23 +1,13 @@
-// The calls that edit a layout, and the start from the empty one. Each function makes the call and
-// writes the answer line, which any answer fits.
+// The calls that edit a layout. Each function makes the call and writes the answer line.
 ghost use Prim.Native.Nat.{_≤_};
 ghost use mathlib.Core.Path.{_≡_};
 ghost use lib.ListN.{length};
 use crate::answer::Played;
 use crate::answer::put_head;
 use crate::answer::told;
-use crate::fields;
 use crate::text::put_number;
 use model::Changed;
 use model::Layout;
-
-pub(crate) fn empty(l: Layout, line: &mut [u8]) -> Played
-    requires { ⌜ length (now line) ≡ 4096 ⌝ }
-    ensures { λ r. ⌜ r .written ≤ 4096 ⌝ }
-{
-    let at = put_head(line, b"empty", 0);
-    told(line, at, l, fields::empty())
-}
 
 pub(crate) fn add(l: Layout, line: &mut [u8]) -> Played
     requires { ⌜ length (now line) ≡ 4096 ⌝ }

@@ -10,9 +10,14 @@ mod fields;
 mod reads;
 mod record;
 mod sifts;
+mod starts;
 mod text;
 
 pub use answer::Played;
 pub use dispatch::play;
+pub use dispatch::play_chart;
+pub use dispatch::starts_chart;
 pub use fields::empty;
+pub use record::chart_kept;
+pub use record::chart_rest;
 pub use record::number;

@@ -1,5 +1,5 @@
 // The calls that only read a layout.
-ghost use Prim.Native.Nat.{_≤_};
+ghost use Prim.Native.Nat.{_+_, _≤_};
 ghost use mathlib.Core.Path.{_≡_};
 ghost use lib.ListN.{length};
 use crate::answer::Played;
@@ -8,6 +8,8 @@ use crate::answer::told;
 use crate::text::put_bytes;
 use crate::text::put_number;
 use crate::text::put_text;
+use model::Edge;
+use model::FirstCrossing;
 use model::Layout;
 
 pub(crate) fn count(l: Layout, line: &mut [u8]) -> Played
@@ -40,6 +42,41 @@ fn order_into(l: Layout, line: &mut [u8], buffer: &mut [u8]) -> Played
     let name_end = put_text(line, head_end, b" buffer");
     let end = put_bytes(line, name_end, buffer);
     told(line, end, l, l)
+}
+
+pub(crate) fn pair(l: Layout, line: &mut [u8]) -> Played
+    requires { ⌜ length (now line) ≡ 4096 ⌝ }
+    ensures { λ r. ⌜ r .written ≤ 4096 ⌝ }
+{
+    let answer = layout::first_crossing(l);
+    let end = put_crossing(line, answer);
+    told(line, end, l, l)
+}
+
+fn put_crossing(line: &mut [u8], answer: FirstCrossing) -> usize
+    requires { ⌜ length (now line) ≡ 4096 ⌝ }
+    ensures { λ r. ⌜ r ≤ 100 ⌝ }
+{
+    match answer {
+        FirstCrossing::Pair(first, second) => {
+            let name_end = put_text(line, 0, b"pair 0 pair");
+            let first_end = put_edge(line, name_end, first);
+            put_edge(line, first_end, second)
+        }
+        FirstCrossing::Nothing => put_text(line, 0, b"pair 0 none"),
+        FirstCrossing::Refused(refusal) => {
+            let head_end = put_head(line, b"pair", refusal);
+            put_text(line, head_end, b" refused")
+        }
+    }
+}
+
+fn put_edge(line: &mut [u8], at: usize, edge: Edge) -> usize
+    requires { ⌜ at + 42 ≤ length (now line) ⌝ }
+    ensures { λ r. ⌜ r ≤ at + 42 ⌝ }
+{
+    let end = put_number(line, at, edge.low as u64);
+    put_number(line, end, edge.high as u64)
 }
 
 fn filled(byte: u8) -> [u8; 255]

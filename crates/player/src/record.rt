@@ -1,4 +1,4 @@
-// The numbers of a record: eight bytes each, low byte first.
+// The numbers of a record, eight bytes each, low byte first, and the sizes of a chart in a list.
 ghost use mathlib.Core.Path.{_≡_};
 ghost use Prim.Native.Nat.{_+_, _*_, _^_, _≤_, _<_};
 ghost use lib.ListN.{length};
@@ -27,4 +27,23 @@ fn wide(byte: u8) -> u64
     ensures { λ r. ⌜ (r ≡ byte) × (r < 256) ⌝ }
 {
     byte as u64
+}
+
+// Of a chart of length bytes, how many are kept to be read: one that is longer than 8,192 bytes is
+// refused for that.
+pub fn chart_kept(length: u64) -> usize
+    ensures { λ r. ⌜ r ≤ 8193 ⌝ }
+{
+    if length < 8193 { length as usize } else { 8193 }
+}
+
+// How many bytes follow in the list behind those kept: the others, and the padding to a multiple
+// of 32.
+pub fn chart_rest(length: u64) -> u64 {
+    let padding = (32 - length % 32) % 32;
+    if length < 8193 {
+        padding
+    } else {
+        length - 8193 + padding
+    }
 }

@@ -1,16 +1,8 @@
 use borrow.Author.Needs.{needs}
-use Prim.Native.Nat.{ℕ, _≤_}
-use native.Mathlib.Omega.{arith}
-use mathlib.Core.Path.{_≡_, sym, _∙_}
-use mathlib.Core.List.{List}
-use lib.ListN.{length}
-use lib.Seq.{length-take-le}
-use Rattle.io.specs.Counts.{Counts}
+use mathlib.Core.Path.{_∙_}
+use Rattle.player.proofs.Lines.{counted}
 use Rattle.player.proofs.dispatch.play.Statement.{statement}
 use Rattle.player.proofs.dispatch.play.Tie as tie
-
-counted : (n : ℕ) (line : List ℕ) → n ≤ 4096 → length line ≡ 4096 → Counts n line
-counted n line few size = let fits : n ≤ length line = omega arith in (fits, sym (length-take-le n line fits))
 
 end-requires : tie.Need-end-requires
 end-requires c κs = search needs
