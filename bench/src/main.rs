@@ -9,7 +9,7 @@ mod timing;
 use std::fmt::Debug;
 use std::hint::black_box;
 
-use layouts::{layout, pairs};
+use layouts::{chart, fan, layout, pairs};
 use second::calls;
 use second::circle::Circle;
 use second::crossings::crossings;
@@ -22,6 +22,8 @@ fn main() {
     for edges in [1000, 2015] {
         accepted(edges);
     }
+    no_pair();
+    charts();
     sifting();
     refused();
     handing_over();
@@ -80,12 +82,44 @@ fn accepted(edges: usize) {
         || into_buffer(l, proved::order),
         || into_buffer(l, calls::order),
     );
+    row(
+        &name("pair"),
+        || proved::first_crossing(l),
+        || calls::first_crossing(l),
+    );
     let fewer = black_box(layout(63, edges.min(1953)));
     let name = format!("add, 63 vertices, {} edges", edges.min(1953));
     row(
         &name,
         || proved::add_vertex(fewer),
         || calls::add_vertex(fewer),
+    );
+}
+
+/// The most edges of 64 vertices of which no two cross.
+fn no_pair() {
+    let l = black_box(fan());
+    row(
+        "pair, 64 vertices, 125 edges, none",
+        || proved::first_crossing(l),
+        || calls::first_crossing(l),
+    );
+}
+
+fn charts() {
+    for edges in [1000, 2016] {
+        let bytes = chart(&layout(64, edges));
+        row(
+            &format!("reading a chart, 64 vertices, {edges} edges"),
+            || proved::read_chart(black_box(&bytes)),
+            || second::chart::read(black_box(&bytes)),
+        );
+    }
+    let bytes = [chart(&layout(64, 2016)), vec![0x52, 0, 1, 0]].concat();
+    row(
+        "reading a chart refused 3, a fourth field",
+        || proved::read_chart(black_box(&bytes)),
+        || second::chart::read(black_box(&bytes)),
     );
 }
 

@@ -2,7 +2,7 @@
 //! linked from `crates/bench_calls`: a reference is a pointer, a slice a
 //! pointer and a length.
 
-use second::calls::Answer;
+use second::calls::{Answer, Crossing};
 use second::layout::{Layout, PLACES};
 use second::sifting::{Convergence, Round};
 
@@ -68,6 +68,22 @@ extern "C" {
         reduction: &mut u32,
         rounds: &mut u32,
         converged: &mut bool,
+    ) -> u8;
+    fn bench_pair(
+        n: u64,
+        order: &Order,
+        words: &Words,
+        count: u32,
+        is_found: &mut bool,
+        ends: &mut [usize; 4],
+    ) -> u8;
+    fn bench_chart(
+        bytes: *const u8,
+        length: usize,
+        n: &mut u64,
+        order: &mut Order,
+        words: &mut Words,
+        count: &mut u32,
     ) -> u8;
     fn bench_count(n: u64, order: &Order, words: &Words, count: u32, answered: &mut u32) -> u8;
     fn bench_order(
@@ -198,6 +214,46 @@ pub fn order(layout: Layout, buffer: &mut [u8]) -> Answer<()> {
         )
     };
     answer(refusal, layout, ())
+}
+
+pub fn first_crossing(layout: Layout) -> Answer<Crossing> {
+    let mut is_found = false;
+    let mut ends = [0; 4];
+    let refusal = unsafe {
+        bench_pair(
+            layout.n,
+            &layout.order,
+            &layout.adjacency,
+            layout.count,
+            &mut is_found,
+            &mut ends,
+        )
+    };
+    let [a, b, c, d] = ends;
+    let crossing = match (refusal, is_found) {
+        (0, true) => Crossing::Pair((a, b), (c, d)),
+        (0, false) => Crossing::None,
+        _ => Crossing::Refused,
+    };
+    answer(refusal, layout, crossing)
+}
+
+pub fn read_chart(bytes: &[u8]) -> Result<Layout, u8> {
+    let mut l = Layout::EMPTY;
+    let refusal = unsafe {
+        bench_chart(
+            bytes.as_ptr(),
+            bytes.len(),
+            &mut l.n,
+            &mut l.order,
+            &mut l.adjacency,
+            &mut l.count,
+        )
+    };
+    match refusal {
+        0 => Ok(l),
+        _ => Err(refusal),
+    }
 }
 
 fn edit(call: Edit, mut layout: Layout, a: u64, b: u64) -> Answer<()> {

@@ -2,6 +2,7 @@
 // A layout is handed over as its number of vertices, its order, its adjacency words and its count,
 // and a call that changes it writes them back. Each function but the first answers the refusal
 // number.
+use model::FirstCrossing;
 use model::Layout;
 
 // The crossings, from nothing.
@@ -101,6 +102,46 @@ pub extern "C" fn bench_order(
     buffer: &mut [u8],
 ) -> u8 {
     layout::order(taken(n, order, adjacency, count), buffer)
+}
+
+// The ends of the shown crossing pair, if there is one.
+#[no_mangle]
+pub extern "C" fn bench_pair(
+    n: usize,
+    order: &[u8; 64],
+    adjacency: &[u64; 64],
+    count: u32,
+    is_found: &mut bool,
+    ends: &mut [usize; 4],
+) -> u8 {
+    let answer = layout::first_crossing(taken(n, order, adjacency, count));
+    *is_found = false;
+    match answer {
+        FirstCrossing::Pair(first, second) => {
+            *is_found = true;
+            ends[0] = first.low;
+            ends[1] = first.high;
+            ends[2] = second.low;
+            ends[3] = second.high;
+            0
+        }
+        FirstCrossing::Nothing => 0,
+        FirstCrossing::Refused(refusal) => refusal,
+    }
+}
+
+// Reads a chart.
+#[no_mangle]
+pub extern "C" fn bench_chart(
+    bytes: &[u8],
+    n: &mut usize,
+    order: &mut [u8; 64],
+    adjacency: &mut [u64; 64],
+    count: &mut u32,
+) -> u8 {
+    let answer = chart::read(bytes);
+    give_back(answer.layout, n, order, adjacency, count);
+    answer.refusal
 }
 
 #[no_mangle]
