@@ -38,20 +38,24 @@ written-more xs at s t h =
     ∙ ap (λ (x : List ℕ). take at xs ++ x) (sym (append-assoc s t (drop (at + length s + length t) xs)))
     ∙ ap (λ (k : ℕ). take at xs ++ (s ++ t ++ drop k xs)) (add-assoc at (length s) (length t) ∙ ap (λ (k : ℕ). at + k) (sym (length-append s t)))
   where
-  rest : List ℕ
-  rest = drop (at + length s) xs
-  both-length : length (take at xs ++ s) ≡ at + length s
-  both-length = length-append (take at xs) s ∙ ap (λ (k : ℕ). k + length s) (length-take-le at xs (omega arith))
-  whole : take at xs ++ (s ++ rest) ≡ (take at xs ++ s) ++ rest
-  whole = sym (append-assoc (take at xs) s rest)
-  front : take (at + length s) (take at xs ++ (s ++ rest)) ≡ take at xs ++ s
-  front = ap (take (at + length s)) whole ∙ take-at (take at xs ++ s) rest (at + length s) both-length
-  back : drop (at + length s + length t) (take at xs ++ (s ++ rest)) ≡ drop (at + length s + length t) xs
-  back =
-      ap (drop (at + length s + length t)) whole
-      ∙ ap (λ (k : ℕ). drop (k + length t) ((take at xs ++ s) ++ rest)) (sym both-length)
-      ∙ drop-append-add (take at xs ++ s) rest (length t)
-      ∙ drop-drop (length t) (at + length s) xs
+    rest : List ℕ
+    rest = drop (at + length s) xs
+
+    both-length : length (take at xs ++ s) ≡ at + length s
+    both-length = length-append (take at xs) s ∙ ap (λ (k : ℕ). k + length s) (length-take-le at xs (omega arith))
+
+    whole : take at xs ++ (s ++ rest) ≡ (take at xs ++ s) ++ rest
+    whole = sym (append-assoc (take at xs) s rest)
+
+    front : take (at + length s) (take at xs ++ (s ++ rest)) ≡ take at xs ++ s
+    front = ap (take (at + length s)) whole ∙ take-at (take at xs ++ s) rest (at + length s) both-length
+
+    back : drop (at + length s + length t) (take at xs ++ (s ++ rest)) ≡ drop (at + length s + length t) xs
+    back =
+        ap (drop (at + length s + length t)) whole
+        ∙ ap (λ (k : ℕ). drop (k + length t) ((take at xs ++ s) ++ rest)) (sym both-length)
+        ∙ drop-append-add (take at xs ++ s) rest (length t)
+        ∙ drop-drop (length t) (at + length s) xs
 
 -- one byte
 pub written-byte : (xs : List ℕ) (at b : ℕ) → at < length xs → set xs at b ≡ written xs at (b ∷ [])
@@ -76,12 +80,13 @@ decimal-fuel zero m x a b = absurd (not-suc-le-zero a)
 decimal-fuel (suc k) zero x a b = absurd (not-suc-le-zero b)
 decimal-fuel (suc k) (suc m) x a b = by-size (order x 10) (λ h. decimal-fuel k m (x / 10) (tenth-lt k x h a) (tenth-lt m x h b))
   where
-  more-digits : 10 ≤ x → decimalIn k (x / 10) ≡ decimalIn m (x / 10) → decimalIn (suc k) x ≡ decimalIn (suc m) x
-  more-digits h e = decimal-step k x h ∙ ap (λ (t : List ℕ). t ++ ((48 + x % 10) ∷ [])) e ∙ sym (decimal-step m x h)
-  by-size : Order x 10 → (10 ≤ x → decimalIn k (x / 10) ≡ decimalIn m (x / 10)) → decimalIn (suc k) x ≡ decimalIn (suc m) x
-  by-size (less l) r = decimal-last k x l ∙ sym (decimal-last m x l)
-  by-size (same e) r = more-digits (omega arith) (r (omega arith))
-  by-size (more l) r = more-digits (omega arith) (r (omega arith))
+    more-digits : 10 ≤ x → decimalIn k (x / 10) ≡ decimalIn m (x / 10) → decimalIn (suc k) x ≡ decimalIn (suc m) x
+    more-digits h e = decimal-step k x h ∙ ap (λ (t : List ℕ). t ++ ((48 + x % 10) ∷ [])) e ∙ sym (decimal-step m x h)
+
+    by-size : Order x 10 → (10 ≤ x → decimalIn k (x / 10) ≡ decimalIn m (x / 10)) → decimalIn (suc k) x ≡ decimalIn (suc m) x
+    by-size (less l) r = decimal-last k x l ∙ sym (decimal-last m x l)
+    by-size (same e) r = more-digits (omega arith) (r (omega arith))
+    by-size (more l) r = more-digits (omega arith) (r (omega arith))
 
 pub decimal-digit : (x : ℕ) → x < 10 → decimal x ≡ (48 + x) ∷ []
 unfolding decimal
@@ -99,12 +104,13 @@ pub decimal-length : (d x : ℕ) → x < 10 ^ suc d → length (decimal x) ≤ s
 decimal-length zero x h = rw (decimal-digit x h) (omega arith)
 decimal-length (suc d) x h = by-size (order x 10) (decimal-length d (x / 10) (div-lt-iff-lt-mul {k = 10} (omega arith) .1 (rw (pow-suc 10 (suc d)) at h)))
   where
-  longer : 10 ≤ x → length (decimal (x / 10)) ≤ suc d → length (decimal x) ≤ suc (suc d)
-  longer l r = rw (decimal-more x l, length-append (decimal (x / 10)) ((48 + x % 10) ∷ [])) (omega arith)
-  by-size : Order x 10 → length (decimal (x / 10)) ≤ suc d → length (decimal x) ≤ suc (suc d)
-  by-size (less l) r = rw (decimal-digit x l) (omega arith)
-  by-size (same e) r = longer (omega arith) r
-  by-size (more l) r = longer (omega arith) r
+    longer : 10 ≤ x → length (decimal (x / 10)) ≤ suc d → length (decimal x) ≤ suc (suc d)
+    longer l r = rw (decimal-more x l, length-append (decimal (x / 10)) ((48 + x % 10) ∷ [])) (omega arith)
+
+    by-size : Order x 10 → length (decimal (x / 10)) ≤ suc d → length (decimal x) ≤ suc (suc d)
+    by-size (less l) r = rw (decimal-digit x l) (omega arith)
+    by-size (same e) r = longer (omega arith) r
+    by-size (more l) r = longer (omega arith) r
 
 flatMap-snoc : (f : ℕ → List ℕ) (ys : List ℕ) (y : ℕ) → flatMap f (ys ++ (y ∷ [])) ≡ flatMap f ys ++ f y
 unfolding flatMap
@@ -127,9 +133,9 @@ module _ {start : List ℕ} {base : ℕ} {s bytes : List ℕ} {at : ℕ} (w : Wr
 
   pub written-step : (t : List ℕ) {next : List ℕ} {to : ℕ} → at ≤ length start → next ≡ written bytes at t → to ≡ at + length t → Written start base (s ++ t) next to
   written-step t {next} {to} h e p =
-      record
-      { held = e ∙ ap₂ (λ (x : List ℕ) (k : ℕ). written x k t) (w .held) (w .place) ∙ written-more start base s t (omega (arith, w .place))
-      ; place = p ∙ ap (λ (k : ℕ). k + length t) (w .place) ∙ add-assoc base (length s) (length t) ∙ ap (λ (k : ℕ). base + k) (sym (length-append s t))
+      record {
+        held = e ∙ ap₂ (λ (x : List ℕ) (k : ℕ). written x k t) (w .held) (w .place) ∙ written-more start base s t (omega (arith, w .place));
+        place = p ∙ ap (λ (k : ℕ). k + length t) (w .place) ∙ add-assoc base (length s) (length t) ∙ ap (λ (k : ℕ). base + k) (sym (length-append s t));
       }
 
 -- from the first byte on: the bytes behind the text are as they were

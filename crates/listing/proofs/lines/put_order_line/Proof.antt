@@ -24,7 +24,7 @@ same-length c = search needs
 
 returns : tie.Need-returns
 unfolding line text upto
-returns c = 
+returns c =
     let start = c .before .before .before .before .before .before .before .before .before .before .before .before .before .before .before in
     let name = c .before .before .before .before .before .before .before .before .before .before .put-text .ensures in
     let places = c .before .before .before .before .before .before .put-order .ensures in

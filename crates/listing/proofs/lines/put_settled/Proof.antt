@@ -23,7 +23,7 @@ same-length c = search needs
 
 returns : tie.Need-returns
 unfolding line text upto
-returns c = 
+returns c =
     let start = c .before .before .before .before .before .before .before in
     let e = c .before .before .put-text .ensures in
     rw (c .before .before .before .before .before .if1 .taken)
@@ -34,7 +34,7 @@ same-length-2 c = search needs
 
 returns-2 : tie.Need-returns-2
 unfolding line text upto
-returns-2 c = 
+returns-2 c =
     let start = c .before .before .before .before .before .before .before in
     let e = c .before .before .put-text2 .ensures in
     rw (c .before .before .before .before .before .if1 .left)

@@ -69,9 +69,10 @@ put-decimal-returns : (t : ℕ) → put-decimal-lts.Need-returns (
   put-decimal.Post,
 ) (put-decimal-at t) put-decimal.Post
 put-decimal-returns t c =
-    let digit = decimal-digit (c .before .before .before .before .before .before .args .x) (c .before .before .before .before .if1 .taken) in
-    ( c .before .before .put-byte .ensures .0 ∙ ap (written (c .before .before .before .before .before .before .args .out .now) (c .before .before .before .before .before .before .args .at)) (sym digit)
-    , c .before .before .put-byte .ensures .1 ∙ ap (λ (d : List ℕ). c .before .before .before .before .before .before .args .at + length d) (sym digit) )
+    let digit = decimal-digit (c .before .before .before .before .before .before .args .x) (c .before .before .before .before .if1 .taken) in (
+      c .before .before .put-byte .ensures .0 ∙ ap (written (c .before .before .before .before .before .before .args .out .now) (c .before .before .before .before .before .before .args .at)) (sym digit),
+      c .before .before .put-byte .ensures .1 ∙ ap (λ (d : List ℕ). c .before .before .before .before .before .before .args .at + length d) (sym digit),
+    )
 
 put-decimal-put-decimal-requires : (t : ℕ) → put-decimal-lts.Need-put-decimal-requires (
   put-byte-reads.Asked,
@@ -79,9 +80,10 @@ put-decimal-put-decimal-requires : (t : ℕ) → put-decimal-lts.Need-put-decima
   put-decimal-below t,
   put-decimal.Post,
 ) (put-decimal-at t) put-decimal.Post
-put-decimal-put-decimal-requires t c κs =
-    ( subst (λ (m : ℕ). c .before .before .before .args .x / 10 < m) (c .before .before .before .pre .0) (div-lt-self {n = c .before .before .before .args .x} {k = 10} (omega (arith, c .before .if1 .left)) (omega arith))
-    , omega (arith, c .before .before .before .pre .1, longer (c .before .before .before .args .x) (c .before .if1 .left)) )
+put-decimal-put-decimal-requires t c κs = (
+  subst (λ (m : ℕ). c .before .before .before .args .x / 10 < m) (c .before .before .before .pre .0) (div-lt-self {n = c .before .before .before .args .x} {k = 10} (omega (arith, c .before .if1 .left)) (omega arith)),
+  omega (arith, c .before .before .before .pre .1, longer (c .before .before .before .args .x) (c .before .if1 .left)),
+)
 
 put-decimal-cast-put-byte-2 : (t : ℕ) → put-decimal-lts.Need-cast-put-byte-2 (
   put-byte-reads.Asked,
@@ -126,12 +128,13 @@ put-decimal-returns-2 t c =
     let x = c .before .before .before .before .before .before .before .before .before .before .args .x in
     let out = c .before .before .before .before .before .before .before .before .before .before .args .out .now in
     let at = c .before .before .before .before .before .before .before .before .before .before .args .at in
-    let digits = decimal-more x (c .before .before .before .before .before .before .before .before .if1 .left) in
-    ( c .before .before .put-byte2 .ensures .0
-      ∙ ap₂ (λ (l : List ℕ) (k : ℕ). written l k ((48 + x % 10) ∷ [])) (c .before .before .before .before .before .before .put-decimal .ensures .0) (c .before .before .before .before .before .before .put-decimal .ensures .1)
-      ∙ written-more out at (decimal (x / 10)) ((48 + x % 10) ∷ []) (omega (arith, c .before .before .before .before .before .before .before .before .before .before .pre .1, longer x (c .before .before .before .before .before .before .before .before .if1 .left)))
-      ∙ ap (written out at) (sym digits)
-    , omega (arith, c .before .before .put-byte2 .ensures .1, c .before .before .before .before .before .before .put-decimal .ensures .1, longer x (c .before .before .before .before .before .before .before .before .if1 .left)) )
+    let digits = decimal-more x (c .before .before .before .before .before .before .before .before .if1 .left) in (
+      c .before .before .put-byte2 .ensures .0
+          ∙ ap₂ (λ (l : List ℕ) (k : ℕ). written l k ((48 + x % 10) ∷ [])) (c .before .before .before .before .before .before .put-decimal .ensures .0) (c .before .before .before .before .before .before .put-decimal .ensures .1)
+          ∙ written-more out at (decimal (x / 10)) ((48 + x % 10) ∷ []) (omega (arith, c .before .before .before .before .before .before .before .before .before .before .pre .1, longer x (c .before .before .before .before .before .before .before .before .if1 .left)))
+          ∙ ap (written out at) (sym digits),
+      omega (arith, c .before .before .put-byte2 .ensures .1, c .before .before .before .before .before .before .put-decimal .ensures .1, longer x (c .before .before .before .before .before .before .before .before .if1 .left)),
+    )
 
 pub +put-decimal-spec : {M : Type 1} → statement M
 +put-decimal-spec = close μ-put-decimal λ t. put-decimal-lts.spec (

@@ -21,7 +21,7 @@ same-length c = search needs
 
 returns : tie.Need-returns
 unfolding text upto
-returns c = 
+returns c =
     let start = c .before .before .before .before .before .before .before .before .before .before .before .before .before .before in
     let name = c .before .before .before .before .before .before .before .before .before .before .put-text .ensures in
     let number = c .before .before .before .before .before .before .put-spaced .ensures in

@@ -39,22 +39,23 @@ loop-less : tie.Need-loop-less Inv-loop μ-loop
 loop-less c = omega arith
 
 loop-again : tie.Need-loop-again Inv-loop μ-loop
-loop-again c = 
+loop-again c =
     let start = c .before .before .before .before .before .before .before .before .before in
-    let old = c .before .before .before .before .before .before in
-    ( omega (arith, c .before .before .before .before .before .loop-test .taken)
-    , omega (arith, old .loop .inv .1, c .before .before .put-spaced .ensures .2)
-    , rw (flatMap-next spaced (start .args .order .now) (old .loop .i) (c .before .before .before .before .before .loop-test .taken))
-      (written-step (old .loop .inv .2) (spaced (getD (start .args .order .now) (old .loop .i) 0)) (fits old) (c .before .before .put-spaced .ensures .0) (c .before .before .put-spaced .ensures .1)) )
+    let old = c .before .before .before .before .before .before in (
+      omega (arith, c .before .before .before .before .before .loop-test .taken),
+      omega (arith, old .loop .inv .1, c .before .before .put-spaced .ensures .2),
+      rw (flatMap-next spaced (start .args .order .now) (old .loop .i) (c .before .before .before .before .before .loop-test .taken))
+          (written-step (old .loop .inv .2) (spaced (getD (start .args .order .now) (old .loop .i) 0)) (fits old) (c .before .before .put-spaced .ensures .0) (c .before .before .put-spaced .ensures .1)),
+    )
 
 same-length : tie.Need-same-length Inv-loop μ-loop
 same-length c = written-size (c .before .loop .inv .2) (fits (c .before))
 
 returns : tie.Need-returns Inv-loop μ-loop
-returns c = 
+returns c =
     let all = take-all (c .before .loop .i) (c .before .before .before .before .args .order .now) (c .loop-test .left) in
     let done : Written (c .before .before .before .before .args .out .now) (c .before .before .before .before .args .at) (flatMap spaced (c .before .before .before .before .args .order .now)) (c .before .loop .out) (c .before .loop .to) =
-        subst (λ (l : List ℕ). Written (c .before .before .before .before .args .out .now) (c .before .before .before .before .args .at) (flatMap spaced l) (c .before .loop .out) (c .before .loop .to)) all (c .before .loop .inv .2) in
+    subst (λ (l : List ℕ). Written (c .before .before .before .before .args .out .now) (c .before .before .before .before .args .at) (flatMap spaced l) (c .before .loop .out) (c .before .loop .to)) all (c .before .loop .inv .2) in
     (done .held, done .place, omega (arith, c .before .loop .inv .0, c .before .loop .inv .1))
 
 pub put-order-spec : {M : Type 1} → statement M

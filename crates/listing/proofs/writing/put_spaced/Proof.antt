@@ -26,7 +26,7 @@ same-length c = search needs
 
 returns : tie.Need-returns
 unfolding spaced text upto
-returns c = 
+returns c =
     let start = c .before .before .before .before .before .before .before .before .before in
     let one = written-step (written-none (start .args .out .now) (start .args .at)) (32 ∷ []) (omega arith) (c .before .before .before .before .before .before .put-byte .ensures .0) (c .before .before .before .before .before .before .put-byte .ensures .1) in
     let both = written-step one (decimal (start .args .x)) (omega (arith, c .before .before .before .before .before .before .put-byte .ensures .1)) (c .before .before .put-decimal .ensures .0) (c .before .before .put-decimal .ensures .1) in

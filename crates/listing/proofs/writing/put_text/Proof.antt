@@ -34,13 +34,14 @@ loop-less : tie.Need-loop-less Inv-loop μ-loop
 loop-less c = omega arith
 
 loop-again : tie.Need-loop-again Inv-loop μ-loop
-loop-again c = 
+loop-again c =
     let old = c .before .before in
     let start = c .before .before .before in
-    let next = written-next (start .args .out .now) (start .args .at) (start .args .t .now) (old .loop .i) (c .before .loop-test .taken) (start .pre) in
-    ( omega arith
-    , ap (λ (l : List ℕ). set l (start .args .at + old .loop .i) (getD (start .args .t .now) (old .loop .i) 0)) (old .loop .inv .1) ∙ next
-    , length-set (old .loop .out) (start .args .at + old .loop .i) (getD (start .args .t .now) (old .loop .i) 0) ∙ old .loop .inv .2 )
+    let next = written-next (start .args .out .now) (start .args .at) (start .args .t .now) (old .loop .i) (c .before .loop-test .taken) (start .pre) in (
+      omega arith,
+      ap (λ (l : List ℕ). set l (start .args .at + old .loop .i) (getD (start .args .t .now) (old .loop .i) 0)) (old .loop .inv .1) ∙ next,
+      length-set (old .loop .out) (start .args .at + old .loop .i) (getD (start .args .t .now) (old .loop .i) 0) ∙ old .loop .inv .2,
+    )
 
 add-result : tie.Need-add-result Inv-loop μ-loop
 add-result c = omega arith
@@ -49,11 +50,12 @@ same-length : tie.Need-same-length Inv-loop μ-loop
 same-length c = c .before .loop .inv .2
 
 returns : tie.Need-returns Inv-loop μ-loop
-returns c = 
+returns c =
     let start = c .before .before in
-    let end : c .before .loop .i ≡ length (start .args .t .now) = le-antisymm (c .before .loop .inv .0) (c .loop-test .left) in
-    ( c .before .loop .inv .1 ∙ ap (written (start .args .out .now) (start .args .at)) (take-all (c .before .loop .i) (start .args .t .now) (c .loop-test .left))
-    , ap (λ (k : ℕ). start .args .at + k) end )
+    let end : c .before .loop .i ≡ length (start .args .t .now) = le-antisymm (c .before .loop .inv .0) (c .loop-test .left) in (
+      c .before .loop .inv .1 ∙ ap (written (start .args .out .now) (start .args .at)) (take-all (c .before .loop .i) (start .args .t .now) (c .loop-test .left)),
+      ap (λ (k : ℕ). start .args .at + k) end,
+    )
 
 pub put-text-spec : {M : Type 1} → statement M
 put-text-spec =
