@@ -1,8 +1,9 @@
 -- How many edges there are, from the ones of all words.
 use Prim.Native.Nat.{ℕ, zero, suc, _+_, _*_, _-_, _^_, _≤_, _<_}
-use native.Mathlib.Nat.{mul-one, mul-comm}
+use native.Mathlib.Nat.{mul-one, mul-comm, le-antisymm}
+use native.Mathlib.Numerals.{add-one}
 use native.Mathlib.Omega.{arith}
-use mathlib.Core.Path.{_≡_, refl, sym, ap, _∙_}
+use mathlib.Core.Path.{_≡_, refl, sym, ap, ap₂, _∙_}
 use mathlib.Core.List.{List, [], _∷_}
 use lib.ListN.{length, getD}
 use lib.Dec.{ltb}
@@ -13,7 +14,7 @@ use Rattle.model.specs.Crossings.{bit, edges}
 use Rattle.laws.specs.Indicators.{Order, less, same, more, order, one-lt, one-ge}
 use Rattle.laws.specs.Sums.{sum, sum-ext, sum-below}
 use Rattle.laws.specs.Pairs.{pairSum, pairSum-ext, pairSum-twice, Symmetric}
-use Rattle.laws.specs.Bits.{bit-beyond, maskedOnes}
+use Rattle.laws.specs.Bits.{bit-beyond, maskedOnes, maskedOnes-le}
 use Rattle.laws.specs.EdgeCounts.{weight, sumOver-edges}
 use Rattle.laws.specs.MaskCount.{bit-full, weight-bit}
 
@@ -48,3 +49,27 @@ edges-twice n adj h s =
     (pairSum-ext n (weight adj) (λ a b. weight adj a b * 1) (λ a b l m. sym (mul-one (weight adj a b)))
     ∙ sym (sumOver-edges n adj (λ e. 1))
     ∙ length-sum (edges n adj))
+
+-- the ones of the words before v, added up
+pub record OnesUpTo (n : ℕ) (adj : List ℕ) (total v : ℕ) : Type 0 where
+  pub inside : v ≤ n
+  pub counted : total ≡ sum v (λ u. maskedOnes (getD adj u 0) (2 ^ n - 1))
+  pub bounded : total ≤ 64 * v
+
+module _ {n : ℕ} {adj : List ℕ} where
+  pub ones-none : OnesUpTo n adj 0 0
+  unfolding sum
+  ones-none = record { inside = omega arith; counted = refl; bounded = omega arith }
+
+  pub ones-next : {total v count : ℕ} → OnesUpTo n adj total v → v < n → count ≡ maskedOnes (getD adj v 0) (2 ^ n - 1) → OnesUpTo n adj (total + count) (v + 1)
+  unfolding sum
+  ones-next {total} {v} {count} s h e =
+      rw (add-one v)
+      (record {
+        inside = h;
+        counted = ap₂ (λ (x y : ℕ). x + y) (s .counted) e;
+        bounded = omega (arith, s .bounded, maskedOnes-le (getD adj v 0) (2 ^ n - 1));
+      })
+
+  pub ones-all : {total v : ℕ} → OnesUpTo n adj total v → n ≤ v → total ≡ sum n (λ u. maskedOnes (getD adj u 0) (2 ^ n - 1))
+  ones-all {total} {v} s h = s .counted ∙ ap (λ (m : ℕ). sum m (λ u. maskedOnes (getD adj u 0) (2 ^ n - 1))) (le-antisymm (s .inside) h)

@@ -1,18 +1,22 @@
 -- The parts of a listing, from what the calls answer.
-use Prim.Native.Nat.{ℕ, _+_, _*_, _-_, _/_, _^_, _≤_, _<_}
+use Prim.Native.Nat.{ℕ, zero, suc, _+_, _*_, _-_, _/_, _^_, _≤_, _<_}
 use native.Mathlib.Nat.{mul-div-cancel-left}
 use native.Mathlib.Omega.{arith}
 use mathlib.Core.Path.{_≡_, refl, sym, ap, ap₂, _∙_, subst}
-use mathlib.Core.Bool.{cond}
+use mathlib.Core.Bool.{Bool, true, false, cond}
 use mathlib.Core.List.{List, _++_, flatMap}
-use lib.ListN.{length, getD, take}
-use lib.Dec.{T}
+use lib.ListN.{length, getD, take, drop, length-append}
+use borrow.Author.Tests.{le-ltb}
+use lib.Dec.{T, ltb}
 use Rattle.model.specs.declared.Layout.{Layout}
 use Rattle.model.specs.declared.Converged.{Converged}
 use Rattle.model.specs.Crossings.{edges}
 use Rattle.model.specs.Layouts.{vertexOrder, crossingsOf, valid}
 use Rattle.model.specs.Sifting.{settleOf}
-use Rattle.model.specs.Listing.{text, line, spaced, listing}
+use Rattle.model.specs.declared.ChartRead.{ChartRead}
+use Rattle.model.specs.Checks.{byRefusal}
+use Rattle.model.specs.Charts.{readOf}
+use Rattle.model.specs.Listing.{text, line, spaced, listing, listingRoom, listingOf, listedLength, listedBytes}
 use Rattle.laws.specs.Sums.{sum}
 use Rattle.laws.specs.Bits.{maskedOnes}
 use Rattle.laws.specs.Validity.{sound}
@@ -66,3 +70,38 @@ listing-text l t c {r} e {m} k =
     ∙ ap₂ (λ (x y : ℕ). listed (l .n) x y (r .layout .count) (r .layout .n) r) k c
     ∙ ap (λ (z : ℕ). listed (l .n) (length (edges (l .n) (l .adjacency))) (crossingsOf l) z (r .layout .n) r) (s .right)
     ∙ ap (λ (x : Converged). listed (l .n) (length (edges (l .n) (l .adjacency))) (crossingsOf l) (crossingsOf (x .layout)) (x .layout .n) x) e
+
+-- ---- a chart's listing
+
+module _ (s : List ℕ) {r : ChartRead} (e : r ≡ readOf s) where
+  pub listing-refused : (r .refusal ≡ 0 → ⊥) → listingOf s ≡ line "refused" (spaced (r .refusal))
+  unfolding listingOf byRefusal
+  listing-refused d = rw (← e) (by-number (r .refusal) d)
+    where
+      by-number : (k : ℕ) → (k ≡ 0 → ⊥) → byRefusal k (listing (r .layout)) (λ refused. line "refused" (spaced refused)) ≡ line "refused" (spaced k)
+      by-number zero n = absurd (n refl)
+      by-number (suc k) n = refl
+
+  pub listing-accepted : r .refusal ≡ 0 → listingOf s ≡ listing (r .layout)
+  unfolding listingOf byRefusal
+  listing-accepted z = rw (← e, z)
+
+-- into a buffer with room
+module _ (s buffer : List ℕ) (room : 1024 ≤ length buffer) where
+  pub listed-length : listedLength s buffer ≡ length (listingOf s)
+  unfolding listedLength
+  listed-length = rw (le-ltb (length buffer) 1024 room)
+
+  pub listed-bytes : listedBytes s buffer ≡ listingOf s ++ drop (length (listingOf s)) buffer
+  unfolding listedBytes
+  listed-bytes = rw (le-ltb (length buffer) 1024 room)
+
+-- the listing is no longer than the buffer that holds it
+pub listed-fits : (s buffer : List ℕ) {after : List ℕ} → after ≡ listedBytes s buffer → length after ≡ length buffer → listedLength s buffer ≤ length buffer
+unfolding listedLength listedBytes
+listed-fits s buffer {after} e size = by-test (ltb (length buffer) listingRoom) (ap length (sym e) ∙ size)
+  where
+    by-test : (b : Bool) → length (cond b buffer (listingOf s ++ drop (length (listingOf s)) buffer)) ≡ length buffer
+        → cond b 0 (length (listingOf s)) ≤ length buffer
+    by-test true k = omega arith
+    by-test false k = omega (arith, length-append (listingOf s) (drop (length (listingOf s)) buffer))

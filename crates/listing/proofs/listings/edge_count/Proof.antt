@@ -1,0 +1,66 @@
+use borrow.Author.Needs.{needs}
+use Prim.Native.Nat.{ℕ, _-_, _/_, _^_}
+use native.Mathlib.Omega.{arith}
+use native.Mathlib.Nat.{min-eq-left}
+use mathlib.Core.Path.{_≡_, ap, _∙_}
+use lib.ListN.{getD}
+use Rattle.laws.specs.Bits.{maskedOnes, maskedOnes-le}
+use Rattle.laws.specs.EdgeTotals.{OnesUpTo, ones-none, ones-next, ones-all}
+use Rattle.listing.proofs.listings.edge_count.Statement.{statement}
+use Rattle.listing.proofs.listings.edge_count.Tie as tie
+
+abbrev Inv-loop : tie.InvT-loop
+Inv-loop n adjacency all total₀ v₀ total v = OnesUpTo n adjacency total v × (all ≡ 2 ^ n - 1)
+
+abbrev μ-loop : tie.MeasureT-loop
+μ-loop n adjacency all total₀ v₀ total v = n - v
+
+low-bits-requires : tie.Need-low-bits-requires Inv-loop μ-loop
+low-bits-requires c κs = search needs
+
+loop-holds : tie.Need-loop-holds Inv-loop μ-loop
+loop-holds c = (ones-none, c .low-bits .ensures ∙ ap (λ (m : ℕ). 2 ^ m - 1) (min-eq-left (c .before .pre)))
+
+mul-count : tie.Need-mul-count Inv-loop μ-loop
+mul-count c = omega (arith, c .before .before .before .pre)
+
+element-copy-out-count : tie.Need-element-copy-out-count Inv-loop μ-loop
+element-copy-out-count c = omega (arith, c .before .before .before .pre)
+
+count-requires : tie.Need-count-requires Inv-loop μ-loop
+count-requires c κs = search needs
+
+add-total : tie.Need-add-total Inv-loop μ-loop
+add-total c = omega (arith, c .before .before .before .loop .inv .0 .bounded, c .before .before .before .loop .inv .0 .inside, c .before .before .before .before .before .pre, c .before .before .before .before .before .pre, c .count .ensures, maskedOnes-le (getD (c .before .before .before .before .before .args .adjacency .now) (c .before .before .before .loop .v) 0) (c .before .before .before .before .low-bits .result))
+
+add-v : tie.Need-add-v Inv-loop μ-loop
+add-v c = omega arith
+
+loop-less : tie.Need-loop-less Inv-loop μ-loop
+loop-less c = omega arith
+
+loop-again : tie.Need-loop-again Inv-loop μ-loop
+loop-again c = (
+  ones-next (c .before .before .before .loop .inv .0) (c .before .before .loop-test .taken) (c .count .ensures ∙ ap (maskedOnes (getD (c .before .before .before .before .before .args .adjacency .now) (c .before .before .before .loop .v) 0)) (c .before .before .before .loop .inv .1)),
+  c .before .before .before .loop .inv .1,
+)
+
+returns : tie.Need-returns Inv-loop μ-loop
+returns c = ap (λ (x : ℕ). x / 2) (ones-all (c .before .loop .inv .0) (c .loop-test .left))
+
+pub edge-count-spec : {M : Type 1} → statement M
+edge-count-spec =
+    tie.close
+    (tie.spec
+    Inv-loop
+    μ-loop
+    low-bits-requires
+    loop-holds
+    mul-count
+    element-copy-out-count
+    count-requires
+    add-total
+    add-v
+    loop-less
+    loop-again
+    returns)

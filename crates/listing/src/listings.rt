@@ -1,0 +1,73 @@
+// The listing of a chart: its layout settled with limit 50, or the number of the question that
+// refused it.
+ghost use mathlib.Core.Path.{_≡_};
+ghost use mathlib.Core.List.{_++_};
+ghost use Prim.Native.Nat.{_-_, _/_, _^_, _≤_};
+ghost use lib.Dec.{T};
+ghost use lib.ListN.{length, getD, drop};
+ghost use Rattle.model.specs.Layouts.{valid};
+ghost use Rattle.model.specs.Listing.{listing, listedLength, listedBytes};
+ghost use Rattle.laws.specs.Sums.{sum};
+ghost use Rattle.laws.specs.Bits.{maskedOnes};
+ghost use Rattle.laws.specs.Moving.{CountRight};
+use super::lines::Numbers;
+use super::lines::put_numbers;
+use super::lines::put_order_line;
+use super::lines::put_settled;
+use super::writing::put_line;
+use model::Layout;
+use sifting::converge;
+
+// Writes the listing to the start of a buffer of at least 1,024 bytes, and answers its length. A
+// shorter buffer is left alone, and 0 answered.
+pub fn list_chart(bytes: &[u8], out: &mut [u8]) -> usize
+    ensures { λ r. ⌜ r ≡ listedLength (now (bytes .entry)) (now (out .entry)) ⌝ }
+    ensures { λ r. ⌜ now (out .exit) ≡ listedBytes (now (bytes .entry)) (now (out .entry)) ⌝ }
+{
+    if out.len() < 1024 {
+        return 0;
+    }
+    let read = chart::read(bytes);
+    let refusal = read.refusal;
+    if refusal != 0 {
+        return put_line(out, 0, b"refused", refusal as u32);
+    }
+    let layout = read.layout;
+    list_layout(layout, out)
+}
+
+fn list_layout(l: Layout, out: &mut [u8]) -> usize
+    requires { ⌜ T (valid l) × CountRight l × (1024 ≤ length (now out)) ⌝ }
+    ensures { λ r. ⌜ (now (out .exit) ≡ listing l ++ drop (length (listing l)) (now (out .entry))) × (r ≡ length (listing l)) ⌝ }
+{
+    let n = l.n;
+    let adjacency = l.adjacency;
+    let settled = converge(l, 50);
+    let after = settled.layout;
+    let numbers = Numbers {
+        vertices: n as u32,
+        edges: edge_count(n, &adjacency),
+        before: l.count,
+        after: after.count,
+        rounds: settled.rounds,
+    };
+    let order = after.order;
+    let state = put_numbers(out, numbers);
+    let order_line = put_settled(out, state, settled.converged);
+    put_order_line(out, order_line, &order[..n])
+}
+
+// How many edges there are: each stands in the words of both its ends.
+fn edge_count(n: usize, adjacency: &[u64; 64]) -> u32
+    requires { ⌜ n ≤ 64 ⌝ }
+    ensures { λ r. ⌜ r ≡ sum n (λ v. maskedOnes (getD (now (adjacency .entry)) v 0) (2 ^ n - 1)) / 2 ⌝ }
+{
+    let all = words::low_bits(n);
+    let mut total: u32 = 0;
+    let mut v = 0;
+    while v < n {
+        total += words::count(adjacency[v], all);
+        v += 1;
+    }
+    total / 2
+}
