@@ -2,15 +2,21 @@
 
 use std::path::PathBuf;
 
+use crate::make::ops::Known;
 use crate::side::Side;
 
 pub const USAGE: &str = "usage: compare SEED COUNT [--plant] [--keep DIR] \
-                         [--list COMMAND].. [--play COMMAND]..";
+                         [--only CALLS] [--list COMMAND].. [--play COMMAND]..\n   \
+                         or: harness --stored CALLS";
 
 pub struct Options {
     pub seed: u64,
     /// How many charts, and how many lists.
     pub count: usize,
+    /// The calls that lists are to be made of, as they were named; none for
+    /// lists of all calls, and charts too.
+    pub only: Option<String>,
+    pub known: Known,
     /// The sides that list charts.
     pub list: Vec<Side>,
     /// The sides that play lists of calls.
@@ -26,6 +32,8 @@ pub fn parse(mut arguments: impl Iterator<Item = String>) -> Option<Options> {
     let mut options = Options {
         seed: 0,
         count: 0,
+        only: None,
+        known: Known::all(),
         list: Vec::new(),
         play: Vec::new(),
         plant: false,
@@ -36,6 +44,11 @@ pub fn parse(mut arguments: impl Iterator<Item = String>) -> Option<Options> {
         match argument.as_str() {
             "--plant" => options.plant = true,
             "--keep" => options.keep = arguments.next()?.into(),
+            "--only" => {
+                let names = arguments.next()?;
+                options.known = Known::parse(&names)?;
+                options.only = Some(names);
+            }
             "--list" => options.list.push(Side::shell(&arguments.next()?)),
             "--play" => options.play.push(Side::shell(&arguments.next()?)),
             "--second" => {
@@ -54,9 +67,19 @@ pub fn parse(mut arguments: impl Iterator<Item = String>) -> Option<Options> {
     Some(options)
 }
 
+/// Reads the arguments that ask for the stored list: the calls that it is to be
+/// made of.
+pub fn parse_stored(arguments: &[String]) -> Option<Known> {
+    match arguments {
+        [flag, names] if flag == "--stored" => Known::parse(names),
+        _ => None,
+    }
+}
+
 #[cfg(test)]
 mod tests {
     use super::*;
+    use crate::make::ops::{ADD, LINK};
 
     fn parsed(line: &str) -> Option<Options> {
         parse(line.split_whitespace().map(String::from))
@@ -74,6 +97,13 @@ mod tests {
     }
 
     #[test]
+    fn calls_are_restricted() {
+        let options = parsed("1 2 --only add,count").expect("options");
+        assert!(options.known.has(ADD) && !options.known.has(LINK));
+        assert!(parsed("1 2").expect("options").known.has(LINK));
+    }
+
+    #[test]
     fn wrong_arguments_are_told() {
         for line in [
             "",
@@ -84,6 +114,8 @@ mod tests {
             "1 x",
             "1 2 --keep",
             "1 2 --any",
+            "1 2 --only",
+            "1 2 --only any",
         ] {
             assert!(parsed(line).is_none(), "{line}");
         }

@@ -41,11 +41,14 @@ impl Failure {
     }
 }
 
-/// Compares all sides on all charts and lists.
+/// Compares all sides on all charts, unless lists are to be of some calls only,
+/// and on all lists.
 pub fn compare(options: &Options) -> Result<Tally, Failure> {
     let mut tally = Tally::default();
-    for index in 0..options.count {
-        compare_chart(options, index, &mut tally)?;
+    if options.only.is_none() {
+        for index in 0..options.count {
+            compare_chart(options, index, &mut tally)?;
+        }
     }
     let mut rng = Rng::new(options.seed, "plant", 0);
     let planted = options.plant.then(|| rng.below(options.count));
@@ -97,7 +100,7 @@ fn compare_list(
     tally: &mut Tally,
     mut plant: Option<&mut Rng>,
 ) -> Result<(), Failure> {
-    let made = lists::list(options.seed, index);
+    let made = lists::list(options.seed, index, &options.known);
     let due = naive::play::play(&made.bytes);
     tally.list(&made.starts, &due);
     for side in &options.play {

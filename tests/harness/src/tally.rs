@@ -2,8 +2,7 @@
 
 use std::collections::{BTreeMap, BTreeSet};
 
-/// The refusal numbers that a long run must have met.
-const NUMBERS: [u8; 16] = [1, 2, 3, 4, 5, 6, 7, 8, 11, 12, 13, 14, 15, 16, 17, 18];
+use crate::make::ops::{Known, ORDER};
 
 /// From so many charts and lists on, everything must have occurred.
 pub const ENOUGH: usize = 100;
@@ -96,17 +95,23 @@ impl Tally {
         text + &format!("lengths of buffers: {}\n", self.buffers.len())
     }
 
-    /// What a long run should have met but did not.
-    pub fn missing(&self) -> Vec<String> {
-        let mut missing: Vec<String> = NUMBERS
+    /// What a long run of such lists, and of charts if there are any, should
+    /// have met but did not.
+    pub fn missing(&self, known: &Known, charts: bool) -> Vec<String> {
+        let mut missing: Vec<String> = known
+            .refusals()
             .iter()
             .filter(|number| !self.refusals.contains_key(number))
             .map(|number| format!("refusal {number}"))
             .collect();
-        let sizes = (0..=64).filter(|n| !self.sizes.contains(n));
-        missing.extend(sizes.map(|n| format!("size {n}")));
-        let buffers = (0..=65).filter(|length| !self.buffers.contains(length));
-        missing.extend(buffers.map(|length| format!("buffer of {length}")));
+        if charts {
+            let sizes = (0..=64).filter(|n| !self.sizes.contains(n));
+            missing.extend(sizes.map(|n| format!("size {n}")));
+        }
+        if known.has(ORDER) {
+            let buffers = (0..=65).filter(|length| !self.buffers.contains(length));
+            missing.extend(buffers.map(|length| format!("buffer of {length}")));
+        }
         missing
     }
 }
@@ -122,11 +127,14 @@ mod tests {
     #[test]
     fn what_never_occurred_is_missing() {
         let mut tally = Tally::default();
-        assert_eq!(tally.missing().len(), NUMBERS.len() + 65 + 66);
+        let all = Known::all();
+        assert_eq!(tally.missing(&all, true).len(), 16 + 65 + 66);
         tally.chart("k", "refused 3\n");
         tally.chart("k", "devices 7\nlinks 0\n");
         tally.list(&["s"], "order 18 buffer 1 2 n 3 order 0\nend\n");
-        assert_eq!(tally.missing().len(), NUMBERS.len() - 2 + 64 + 65);
+        assert_eq!(tally.missing(&all, true).len(), 14 + 64 + 65);
         assert_eq!(tally.calls(), 1);
+        let few = Known::parse("add,order").expect("known names");
+        assert_eq!(tally.missing(&few, false).len(), 2 + 65);
     }
 }

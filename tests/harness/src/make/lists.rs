@@ -3,29 +3,9 @@
 use super::charts::{self, Chart};
 use super::cost;
 use super::graph::Graph;
+use super::ops::*;
 use super::spoil::{n_over_64, SPOILS};
 use crate::rng::Rng;
-
-/// A record of a list: an op and three numbers.
-pub type Record = [u64; 4];
-
-const EMPTY: u64 = 0;
-const CHART: u64 = 1;
-pub const SET_N: u64 = 2;
-pub const SET_ORDER: u64 = 3;
-pub const SET_WORD: u64 = 4;
-const SET_COUNT: u64 = 5;
-const ADD: u64 = 16;
-const LINK: u64 = 17;
-const UNLINK: u64 = 18;
-const MOVE: u64 = 19;
-const LAY: u64 = 20;
-const SIFT: u64 = 21;
-const ROUND: u64 = 22;
-const SETTLE: u64 = 23;
-const COUNT: u64 = 24;
-const ORDER: u64 = 25;
-const PAIR: u64 = 26;
 
 /// The calls, those oftener that are to come oftener.
 const CALLS: [u64; 25] = [
@@ -36,23 +16,27 @@ const CALLS: [u64; 25] = [
 /// Pairs of edges that the naive model may look at for one list.
 const BUDGET: u64 = 1 << 28;
 
-/// A way to start, and its name.
-type Start = (&'static str, fn(&mut Maker));
+/// A way to start: its name, an op that it cannot do without, and what it does.
+type Start = (&'static str, u64, fn(&mut Maker));
 
 /// The ways to start; the first start of a list takes its turn among them.
 const STARTS: [Start; 8] = [
-    ("empty", Maker::start_empty),
-    ("chart", |maker| maker.start_graph(Maker::write_chart)),
-    ("fields", |maker| maker.start_graph(Maker::write_fields)),
-    ("spoilt chart", |maker| {
+    ("empty", EMPTY, Maker::start_empty),
+    ("chart", CHART, |maker| {
+        maker.start_graph(Maker::write_chart)
+    }),
+    ("fields", EMPTY, |maker| {
+        maker.start_graph(Maker::write_fields)
+    }),
+    ("spoilt chart", CHART, |maker| {
         maker.start_spoilt(Maker::write_chart)
     }),
-    ("spoilt fields", |maker| {
+    ("spoilt fields", EMPTY, |maker| {
         maker.start_spoilt(Maker::write_fields)
     }),
-    ("fields at random", Maker::start_random),
-    ("refused chart", Maker::start_refused),
-    ("64 vertices, and add", Maker::start_full),
+    ("fields at random", EMPTY, Maker::start_random),
+    ("refused chart", CHART, Maker::start_refused),
+    ("64 vertices, and add", ADD, Maker::start_full),
 ];
 
 /// A list, and the kinds of its starts.
@@ -61,12 +45,13 @@ pub struct Made {
     pub starts: Vec<&'static str>,
 }
 
-/// The list with some number.
-pub fn list(seed: u64, index: usize) -> Made {
+/// The list with some number, of known calls.
+pub fn list(seed: u64, index: usize, known: &Known) -> Made {
     let mut rng = Rng::new(seed, "list", index);
     let target = rng.within(20, 60);
     let mut maker = Maker {
         rng,
+        known: known.clone(),
         bytes: Vec::new(),
         starts: Vec::new(),
         n: 0,
@@ -74,10 +59,12 @@ pub fn list(seed: u64, index: usize) -> Made {
         calls: 0,
         budget: BUDGET,
     };
-    maker.start(index % STARTS.len());
+    let mut starts = STARTS.to_vec();
+    starts.retain(|&(_, op, _)| known.has(op));
+    maker.start(starts[index % starts.len()]);
     maker.emit(ORDER, index as u64 % 66, 7);
     while maker.calls < target {
-        let any = maker.rng.below(STARTS.len());
+        let any = maker.rng.pick(&starts);
         maker.start(any);
     }
     maker.end();
@@ -87,10 +74,38 @@ pub fn list(seed: u64, index: usize) -> Made {
     }
 }
 
+/// A record as it stands in a list.
+pub fn bytes(record: Record) -> Vec<u8> {
+    record.iter().flat_map(|n| n.to_le_bytes()).collect()
+}
+
+/// A start from a chart, padded.
+pub fn chart(chart: &[u8]) -> Vec<u8> {
+    let mut start = bytes([CHART, chart.len() as u64, 0, 0]);
+    start.extend(chart);
+    start.resize(start.len().next_multiple_of(32), 0);
+    start
+}
+
+/// A start from a layout set field by field.
+pub fn fields(graph: &Graph) -> Vec<Record> {
+    let mut records = vec![[EMPTY, 0, 0, 0], [SET_N, graph.n() as u64, 0, 0]];
+    for (place, &v) in graph.order.iter().enumerate() {
+        records.push([SET_ORDER, place as u64, u64::from(v), 0]);
+    }
+    for (v, &word) in graph.words().iter().enumerate() {
+        if word != 0 {
+            records.push([SET_WORD, v as u64, word, 0]);
+        }
+    }
+    records
+}
+
 /// A list in the making. What is held of the layout is a guess good enough to
 /// name vertices and edges by; a refused call may have left it behind.
 struct Maker {
     rng: Rng,
+    known: Known,
     bytes: Vec<u8>,
     starts: Vec<&'static str>,
     n: usize,
@@ -101,15 +116,13 @@ struct Maker {
 
 /// Starts.
 impl Maker {
-    fn start(&mut self, which: usize) {
-        let (name, start) = STARTS[which];
+    fn start(&mut self, (name, _, start): Start) {
         self.starts.push(name);
         start(self);
     }
 
     fn record(&mut self, record: Record) {
-        self.bytes
-            .extend(record.iter().flat_map(|n| n.to_le_bytes()));
+        self.bytes.extend(bytes(record));
     }
 
     /// Calls on the layout that now stands.
@@ -182,23 +195,13 @@ impl Maker {
     }
 
     fn write_fields(&mut self, graph: &Graph) {
-        self.record([EMPTY, 0, 0, 0]);
-        self.record([SET_N, graph.n() as u64, 0, 0]);
-        for (place, &v) in graph.order.iter().enumerate() {
-            self.record([SET_ORDER, place as u64, u64::from(v), 0]);
-        }
-        for (v, &word) in graph.words().iter().enumerate() {
-            if word != 0 {
-                self.record([SET_WORD, v as u64, word, 0]);
-            }
+        for record in fields(graph) {
+            self.record(record);
         }
     }
 
-    /// A chart in the list, padded.
     fn chart(&mut self, bytes: &[u8]) {
-        self.record([CHART, bytes.len() as u64, 0, 0]);
-        self.bytes.extend(bytes);
-        self.bytes.resize(self.bytes.len().next_multiple_of(32), 0);
+        self.bytes.extend(chart(bytes));
     }
 
     /// Now and then a carried count that is not the true one.
@@ -238,7 +241,11 @@ impl Maker {
     fn start_full(&mut self) {
         let most = self.rng.pick(&[0, 100, usize::MAX]);
         let graph = Graph::random(&mut self.rng, 64, most);
-        self.write_chart(&graph);
+        if self.known.has(CHART) {
+            self.write_chart(&graph);
+        } else {
+            self.write_fields(&graph);
+        }
         self.know(&graph);
         self.emit(ADD, 0, 0);
         self.calls(3, 12);
@@ -275,20 +282,27 @@ impl Maker {
 
 /// Calls.
 impl Maker {
-    /// Any call that the budget allows.
+    /// Any known call that the budget allows, or else one that only reads, if
+    /// one is known.
     fn call(&mut self) {
-        let op = self.rng.pick(&CALLS);
+        let calls = self.known.among(&CALLS);
+        let reads = self.known.among(&[COUNT, ORDER, PAIR]);
+        let op = self.rng.pick(&calls);
         let (a, b) = self.arguments(op);
-        if self.cost(op, a) <= self.budget {
+        if self.cost(op, a) <= self.budget || reads.is_empty() {
             self.emit(op, a, b);
         } else {
-            let op = self.rng.pick(&[COUNT, ORDER, PAIR]);
+            let op = self.rng.pick(&reads);
             let (a, b) = self.arguments(op);
             self.emit(op, a, b);
         }
     }
 
+    /// Puts a call into the list, if it is known.
     fn emit(&mut self, op: u64, a: u64, b: u64) {
+        if !self.known.has(op) {
+            return;
+        }
         self.budget = self.budget.saturating_sub(self.cost(op, a));
         self.record([op, a, b, 0]);
         self.calls += 1;

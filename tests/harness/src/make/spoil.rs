@@ -1,7 +1,7 @@
 //! Ways to make a layout invalid (document 01: not whole), one fact each.
 
 use super::graph::Graph;
-use super::lists::{Record, SET_N, SET_ORDER, SET_WORD};
+use super::ops::{Record, SET_N, SET_ORDER, SET_WORD};
 use crate::rng::Rng;
 
 /// Records that spoil the layout of a graph; none where the way is barred.

@@ -1,0 +1,75 @@
+//! The layouts that the calls are measured on, alike in every run.
+
+use second::circle::Circle;
+use second::crossings::crossings;
+use second::layout::Layout;
+
+/// A layout of n vertices in no particular order, with so many of the possible
+/// edges, taken at random, and its true count.
+pub fn layout(n: u8, edges: usize) -> Layout {
+    let mut random = Random(u64::from(n));
+    let mut order: Vec<u8> = (0..n).collect();
+    random.shuffle(&mut order);
+    let pairs = |a: u8| (a + 1..n).map(move |b| (a, b));
+    let mut all: Vec<(u8, u8)> = (0..n).flat_map(pairs).collect();
+    random.shuffle(&mut all);
+    all.truncate(edges);
+    let mut layout = Layout::new(&order, &all);
+    layout.count = crossings(&Circle::new(&layout));
+    layout
+}
+
+/// 64 vertices in their order, the first joined to all others and each to the
+/// next.
+pub fn fan() -> Layout {
+    let order: Vec<u8> = (0..64).collect();
+    let all = (1..64).map(|v| (0, v));
+    let next = (1..63).map(|v| (v, v + 1));
+    Layout::new(&order, &all.chain(next).collect::<Vec<_>>())
+}
+
+/// The chart of a layout.
+pub fn chart(layout: &Layout) -> Vec<u8> {
+    let ends = pairs(layout, true);
+    let ends: Vec<u8> = ends.iter().flat_map(|&(a, b)| [a as u8, b as u8]).collect();
+    let order = &layout.order[..layout.n as usize];
+    [
+        field(0x44, &[layout.n as u8]),
+        field(0x4C, &ends),
+        field(0x52, order),
+    ]
+    .concat()
+}
+
+fn field(tag: u8, body: &[u8]) -> Vec<u8> {
+    let length = (body.len() as u16).to_be_bytes();
+    [&[tag], &length[..], body].concat()
+}
+
+/// The edges, or the pairs that aren't edges.
+pub fn pairs(layout: &Layout, are_edges: bool) -> Vec<(u64, u64)> {
+    let pairs = |a| (a + 1..layout.n).map(move |b| (a, b));
+    (0..layout.n)
+        .flat_map(pairs)
+        .filter(|&(a, b)| layout.has_edge(a, b) == are_edges)
+        .collect()
+}
+
+/// Numbers from a seed (splitmix64).
+struct Random(u64);
+
+impl Random {
+    fn below(&mut self, bound: usize) -> usize {
+        self.0 = self.0.wrapping_add(0x9E37_79B9_7F4A_7C15);
+        let mut z = self.0;
+        z = (z ^ (z >> 30)).wrapping_mul(0xBF58_476D_1CE4_E5B9);
+        z = (z ^ (z >> 27)).wrapping_mul(0x94D0_49BB_1331_11EB);
+        ((z ^ (z >> 31)) % bound as u64) as usize
+    }
+
+    fn shuffle<T>(&mut self, items: &mut [T]) {
+        for i in (1..items.len()).rev() {
+            items.swap(i, self.below(i + 1));
+        }
+    }
+}

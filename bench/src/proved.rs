@@ -1,0 +1,271 @@
+//! The proved calls, as functions of the second program's layouts. They are
+//! linked from `crates/bench_calls`: a reference is a pointer, a slice a
+//! pointer and a length.
+
+use second::calls::{Answer, Crossing};
+use second::layout::{Layout, PLACES};
+use second::sifting::{Convergence, Round};
+
+type Order = [u8; PLACES];
+type Words = [u64; PLACES];
+
+extern "C" {
+    fn bench_count_crossings(n: u64, order: &Order, words: &Words) -> u32;
+    fn bench_no_call(n: &mut u64, order: &mut Order, words: &mut Words, count: &mut u32) -> u8;
+    fn bench_add(
+        n: &mut u64,
+        order: &mut Order,
+        words: &mut Words,
+        count: &mut u32,
+        vertex: &mut u64,
+    ) -> u8;
+    fn bench_link(
+        n: &mut u64,
+        order: &mut Order,
+        words: &mut Words,
+        count: &mut u32,
+        a: u64,
+        b: u64,
+    ) -> u8;
+    fn bench_unlink(
+        n: &mut u64,
+        order: &mut Order,
+        words: &mut Words,
+        count: &mut u32,
+        a: u64,
+        b: u64,
+    ) -> u8;
+    fn bench_move(
+        n: &mut u64,
+        order: &mut Order,
+        words: &mut Words,
+        count: &mut u32,
+        a: u64,
+        b: u64,
+    ) -> u8;
+    fn bench_sift(
+        n: &mut u64,
+        order: &mut Order,
+        words: &mut Words,
+        count: &mut u32,
+        u: u64,
+        reduction: &mut u32,
+    ) -> u8;
+    fn bench_round(
+        n: &mut u64,
+        order: &mut Order,
+        words: &mut Words,
+        count: &mut u32,
+        reduction: &mut u32,
+        moved: &mut u32,
+    ) -> u8;
+    fn bench_settle(
+        n: &mut u64,
+        order: &mut Order,
+        words: &mut Words,
+        count: &mut u32,
+        limit: u32,
+        reduction: &mut u32,
+        rounds: &mut u32,
+        converged: &mut bool,
+    ) -> u8;
+    fn bench_pair(
+        n: u64,
+        order: &Order,
+        words: &Words,
+        count: u32,
+        is_found: &mut bool,
+        ends: &mut [usize; 4],
+    ) -> u8;
+    fn bench_chart(
+        bytes: *const u8,
+        length: usize,
+        n: &mut u64,
+        order: &mut Order,
+        words: &mut Words,
+        count: &mut u32,
+    ) -> u8;
+    fn bench_count(n: u64, order: &Order, words: &Words, count: u32, answered: &mut u32) -> u8;
+    fn bench_order(
+        n: u64,
+        order: &Order,
+        words: &Words,
+        count: u32,
+        buffer: *mut u8,
+        length: usize,
+    ) -> u8;
+}
+
+/// A call that names two vertices and changes the layout.
+type Edit = unsafe extern "C" fn(&mut u64, &mut Order, &mut Words, &mut u32, u64, u64) -> u8;
+
+/// The crossings, from nothing.
+pub fn crossings(layout: &Layout) -> u32 {
+    unsafe { bench_count_crossings(layout.n, &layout.order, &layout.adjacency) }
+}
+
+/// Hands the layout over and back.
+pub fn no_call(mut layout: Layout) -> Answer<()> {
+    let l = &mut layout;
+    let refusal = unsafe { bench_no_call(&mut l.n, &mut l.order, &mut l.adjacency, &mut l.count) };
+    answer(refusal, layout, ())
+}
+
+pub fn add_vertex(mut layout: Layout) -> Answer<u64> {
+    let l = &mut layout;
+    let mut vertex = 0;
+    let refusal = unsafe {
+        bench_add(
+            &mut l.n,
+            &mut l.order,
+            &mut l.adjacency,
+            &mut l.count,
+            &mut vertex,
+        )
+    };
+    answer(refusal, layout, vertex)
+}
+
+pub fn add_edge(layout: Layout, a: u64, b: u64) -> Answer<()> {
+    edit(bench_link, layout, a, b)
+}
+
+pub fn remove_edge(layout: Layout, a: u64, b: u64) -> Answer<()> {
+    edit(bench_unlink, layout, a, b)
+}
+
+pub fn move_after(layout: Layout, a: u64, b: u64) -> Answer<()> {
+    edit(bench_move, layout, a, b)
+}
+
+pub fn sift(mut layout: Layout, u: u64) -> Answer<u32> {
+    let l = &mut layout;
+    let mut reduction = 0;
+    let refusal = unsafe {
+        bench_sift(
+            &mut l.n,
+            &mut l.order,
+            &mut l.adjacency,
+            &mut l.count,
+            u,
+            &mut reduction,
+        )
+    };
+    answer(refusal, layout, reduction)
+}
+
+pub fn sifting_round(mut layout: Layout) -> Answer<Round> {
+    let l = &mut layout;
+    let mut round = Round::default();
+    let refusal = unsafe {
+        bench_round(
+            &mut l.n,
+            &mut l.order,
+            &mut l.adjacency,
+            &mut l.count,
+            &mut round.reduction,
+            &mut round.moved,
+        )
+    };
+    answer(refusal, layout, round)
+}
+
+pub fn converge(mut layout: Layout, limit: u32) -> Answer<Convergence> {
+    let l = &mut layout;
+    let mut value = Convergence::default();
+    let refusal = unsafe {
+        bench_settle(
+            &mut l.n,
+            &mut l.order,
+            &mut l.adjacency,
+            &mut l.count,
+            limit,
+            &mut value.reduction,
+            &mut value.rounds,
+            &mut value.converged,
+        )
+    };
+    answer(refusal, layout, value)
+}
+
+pub fn count(layout: Layout) -> Answer<u32> {
+    let mut count = 0;
+    let refusal = unsafe {
+        bench_count(
+            layout.n,
+            &layout.order,
+            &layout.adjacency,
+            layout.count,
+            &mut count,
+        )
+    };
+    answer(refusal, layout, count)
+}
+
+pub fn order(layout: Layout, buffer: &mut [u8]) -> Answer<()> {
+    let refusal = unsafe {
+        bench_order(
+            layout.n,
+            &layout.order,
+            &layout.adjacency,
+            layout.count,
+            buffer.as_mut_ptr(),
+            buffer.len(),
+        )
+    };
+    answer(refusal, layout, ())
+}
+
+pub fn first_crossing(layout: Layout) -> Answer<Crossing> {
+    let mut is_found = false;
+    let mut ends = [0; 4];
+    let refusal = unsafe {
+        bench_pair(
+            layout.n,
+            &layout.order,
+            &layout.adjacency,
+            layout.count,
+            &mut is_found,
+            &mut ends,
+        )
+    };
+    let [a, b, c, d] = ends;
+    let crossing = match (refusal, is_found) {
+        (0, true) => Crossing::Pair((a, b), (c, d)),
+        (0, false) => Crossing::None,
+        _ => Crossing::Refused,
+    };
+    answer(refusal, layout, crossing)
+}
+
+pub fn read_chart(bytes: &[u8]) -> Result<Layout, u8> {
+    let mut l = Layout::EMPTY;
+    let refusal = unsafe {
+        bench_chart(
+            bytes.as_ptr(),
+            bytes.len(),
+            &mut l.n,
+            &mut l.order,
+            &mut l.adjacency,
+            &mut l.count,
+        )
+    };
+    match refusal {
+        0 => Ok(l),
+        _ => Err(refusal),
+    }
+}
+
+fn edit(call: Edit, mut layout: Layout, a: u64, b: u64) -> Answer<()> {
+    let l = &mut layout;
+    let refusal = unsafe { call(&mut l.n, &mut l.order, &mut l.adjacency, &mut l.count, a, b) };
+    answer(refusal, layout, ())
+}
+
+fn answer<T>(refusal: u8, layout: Layout, value: T) -> Answer<T> {
+    Answer {
+        refusal,
+        layout,
+        value,
+    }
+}

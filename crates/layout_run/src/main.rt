@@ -1,0 +1,102 @@
+// Plays the list of calls on standard input and writes the answer lines (tests/README.md). The work
+// is in player; here records and charts are read, and lines are written.
+ghost use mathlib.Core.Path.{_≡_};
+ghost use Prim.Native.Nat.{_≤_, min};
+ghost use lib.ListN.{length};
+use libc::STDIN_FILENO;
+use libc::STDOUT_FILENO;
+use model::Layout;
+use player::Played;
+
+fn main() {
+    let mut l = player::empty();
+    // A proved loop has to end, and nothing says that the input does: the turns are counted down,
+    // from a number that no run uses up.
+    let mut turns = u64::MAX;
+    while turns > 0 {
+        let played = play_next(l);
+        if played.ended {
+            return;
+        }
+        l = played.layout;
+        turns -= 1;
+    }
+}
+
+// Reads a record, with the chart that follows it if one does, plays it and writes its line.
+fn play_next(l: Layout) -> Played {
+    let mut record = [0u8; 32];
+    let got = io::read_full(STDIN_FILENO, &mut record);
+    if got == 0 {
+        return Played {
+            layout: l,
+            written: 0,
+            ended: true,
+        };
+    }
+    if player::starts_chart(&record[..got]) {
+        return play_chart(l, player::number(&record[..got], 8));
+    }
+    let mut line = io::buffer();
+    let played = player::play(l, &record[..got], &mut line);
+    let written = played.written;
+    io::write_all(STDOUT_FILENO, &line[..written]);
+    played
+}
+
+fn play_chart(l: Layout, length: u64) -> Played {
+    let mut chart = chart_buffer();
+    let kept = player::chart_kept(length);
+    play_kept(l, length, &mut chart[..kept])
+}
+
+fn play_kept(l: Layout, length: u64, chart: &mut [u8]) -> Played {
+    let is_whole = read_chart(length, chart);
+    let mut line = io::buffer();
+    let played = player::play_chart(l, chart, is_whole, &mut line);
+    let written = played.written;
+    io::write_all(STDOUT_FILENO, &line[..written]);
+    played
+}
+
+// Reads a chart of length bytes, fills the buffer with the first of them and passes over the rest
+// and the padding. False if the input ends before.
+fn read_chart(length: u64, chart: &mut [u8]) -> bool {
+    let got = io::read_full(STDIN_FILENO, chart);
+    if got < chart.len() {
+        return false;
+    }
+    pass_over(player::chart_rest(length))
+}
+
+fn pass_over(count: u64) -> bool {
+    let mut left = count;
+    while left > 0 {
+        let step = at_most_4096(left);
+        if !pass_over_some(step) {
+            return false;
+        }
+        left -= step as u64;
+    }
+    true
+}
+
+fn pass_over_some(count: usize) -> bool
+    requires { ⌜ count ≤ 4096 ⌝ }
+{
+    let mut space = io::buffer();
+    io::read_full(STDIN_FILENO, &mut space[..count]) == count
+}
+
+fn at_most_4096(count: u64) -> usize
+    ensures { λ r. ⌜ r ≡ min count 4096 ⌝ }
+{
+    if count < 4096 { count as usize } else { 4096 }
+}
+
+// Room for a chart, and for one byte more, which tells that it is too long.
+fn chart_buffer() -> [u8; 8193]
+    ensures { λ r. ⌜ 8193 ≡ length r ⌝ }
+{
+    [0; 8193]
+}

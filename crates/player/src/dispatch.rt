@@ -1,0 +1,84 @@
+// One record of a list.
+ghost use mathlib.Core.Path.{_≡_};
+ghost use Prim.Native.Nat.{_≤_};
+ghost use lib.ListN.{length};
+ghost use Rattle.io.specs.Counts.{Counts};
+use crate::answer::Played;
+use crate::answer::silent;
+use crate::edits;
+use crate::fields;
+use crate::reads;
+use crate::record::number;
+use crate::sifts;
+use crate::starts;
+use crate::text::put_text;
+use model::Layout;
+
+// Plays a record that starts from no chart, and ends the list at one that is cut short.
+pub fn play(l: Layout, record: &[u8], line: &mut [u8; 4096]) -> Played
+    ensures { λ r. ⌜ Counts (r .written) (now (line .exit)) ⌝ }
+{
+    if record.len() < 32 {
+        return end(l, line);
+    }
+    let op = number(record, 0);
+    let a = number(record, 8);
+    let b = number(record, 16);
+    play_op(l, op, a, b, line)
+}
+
+// Is the record whole, and a start from a chart? The chart follows it in the list.
+pub fn starts_chart(record: &[u8]) -> bool {
+    if record.len() < 32 {
+        return false;
+    }
+    number(record, 0) == 1
+}
+
+// Starts from the bytes kept of a chart, and ends the list at one that is cut short.
+pub fn play_chart(l: Layout, bytes: &[u8], is_whole: bool, line: &mut [u8; 4096]) -> Played
+    ensures { λ r. ⌜ Counts (r .written) (now (line .exit)) ⌝ }
+{
+    if !is_whole {
+        return end(l, line);
+    }
+    starts::read_chart(l, bytes, line)
+}
+
+// What the table of ops says, but for charts.
+fn play_op(l: Layout, op: u64, a: u64, b: u64, line: &mut [u8]) -> Played
+    requires { ⌜ length (now line) ≡ 4096 ⌝ }
+    ensures { λ r. ⌜ r .written ≤ 4096 ⌝ }
+{
+    match op {
+        0 => starts::empty(l, line),
+        2 => silent(fields::with_n(l, a)),
+        3 => silent(fields::with_place(l, a, b)),
+        4 => silent(fields::with_word(l, a, b)),
+        5 => silent(fields::with_count(l, a)),
+        16 => edits::add(l, line),
+        17 => edits::link(l, a, b, line),
+        18 => edits::unlink(l, a, b, line),
+        19 => edits::move_behind(l, a, b, line),
+        21 => sifts::sift(l, a, line),
+        22 => sifts::round(l, line),
+        23 => sifts::settle(l, a, line),
+        24 => reads::count(l, line),
+        25 => reads::order(l, a, b, line),
+        26 => reads::pair(l, line),
+        _ => end(l, line),
+    }
+}
+
+// The list ends here.
+fn end(l: Layout, line: &mut [u8]) -> Played
+    requires { ⌜ length (now line) ≡ 4096 ⌝ }
+    ensures { λ r. ⌜ r .written ≤ 4096 ⌝ }
+{
+    let written = put_text(line, 0, b"end\n");
+    Played {
+        layout: l,
+        written,
+        ended: true,
+    }
+}

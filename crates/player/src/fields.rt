@@ -1,0 +1,42 @@
+// The empty layout, and layouts with one field set, to whatever a record says.
+use model::Layout;
+
+pub fn empty() -> Layout {
+    Layout {
+        n: 0,
+        order: [0u8; 64],
+        adjacency: [0u64; 64],
+        count: 0,
+    }
+}
+
+pub(crate) fn with_n(l: Layout, n: u64) -> Layout {
+    let mut next = l;
+    next.n = n as usize;
+    next
+}
+
+// A place that is not there sets nothing.
+pub(crate) fn with_place(l: Layout, place: u64, vertex: u64) -> Layout {
+    let mut next = l;
+    if place < 64 {
+        let p = place as usize;
+        next.order[p] = (vertex % 256) as u8;
+    }
+    next
+}
+
+pub(crate) fn with_word(l: Layout, place: u64, word: u64) -> Layout {
+    let mut next = l;
+    if place < 64 {
+        let v = place as usize;
+        next.adjacency[v] = word;
+    }
+    next
+}
+
+pub(crate) fn with_count(l: Layout, count: u64) -> Layout {
+    let mut next = l;
+    next.count = (count % 4294967296) as u32;
+    next
+}

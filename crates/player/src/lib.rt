@@ -1,0 +1,23 @@
+// Playing a list of calls (the format of tests/README.md), one record at a time: a record and the
+// layout that stands go in, the answer line and the layout that then stands come out. Nothing here
+// reads or writes a file. What a line says is compared with a second program by tests; what is
+// proved is that every function is safe and ends, and that every line fits its buffer.
+
+mod answer;
+mod dispatch;
+mod edits;
+mod fields;
+mod reads;
+mod record;
+mod sifts;
+mod starts;
+mod text;
+
+pub use answer::Played;
+pub use dispatch::play;
+pub use dispatch::play_chart;
+pub use dispatch::starts_chart;
+pub use fields::empty;
+pub use record::chart_kept;
+pub use record::chart_rest;
+pub use record::number;

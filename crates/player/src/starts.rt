@@ -1,0 +1,27 @@
+// The starts: from the empty layout, and from a chart.
+ghost use Prim.Native.Nat.{_≤_};
+ghost use mathlib.Core.Path.{_≡_};
+ghost use lib.ListN.{length};
+use crate::answer::Played;
+use crate::answer::put_head;
+use crate::answer::told;
+use crate::fields;
+use model::Layout;
+
+pub(crate) fn empty(l: Layout, line: &mut [u8]) -> Played
+    requires { ⌜ length (now line) ≡ 4096 ⌝ }
+    ensures { λ r. ⌜ r .written ≤ 4096 ⌝ }
+{
+    let at = put_head(line, b"empty", 0);
+    told(line, at, l, fields::empty())
+}
+
+pub(crate) fn read_chart(l: Layout, bytes: &[u8], line: &mut [u8]) -> Played
+    requires { ⌜ length (now line) ≡ 4096 ⌝ }
+    ensures { λ r. ⌜ r .written ≤ 4096 ⌝ }
+{
+    let answer = chart::read(bytes);
+    let after = answer.layout;
+    let at = put_head(line, b"chart", answer.refusal);
+    told(line, at, l, after)
+}

@@ -1,0 +1,132 @@
+//! The ops of a list's records (tests/README.md), and the calls among them that
+//! the programs under test know.
+
+use std::collections::BTreeSet;
+
+/// A record of a list: an op and three numbers.
+pub type Record = [u64; 4];
+
+pub const EMPTY: u64 = 0;
+pub const CHART: u64 = 1;
+pub const SET_N: u64 = 2;
+pub const SET_ORDER: u64 = 3;
+pub const SET_WORD: u64 = 4;
+pub const SET_COUNT: u64 = 5;
+pub const ADD: u64 = 16;
+pub const LINK: u64 = 17;
+pub const UNLINK: u64 = 18;
+pub const MOVE: u64 = 19;
+pub const LAY: u64 = 20;
+pub const SIFT: u64 = 21;
+pub const ROUND: u64 = 22;
+pub const SETTLE: u64 = 23;
+pub const COUNT: u64 = 24;
+pub const ORDER: u64 = 25;
+pub const PAIR: u64 = 26;
+
+/// A call's name, its op, and the refusal numbers that it can answer.
+type Call = (&'static str, u64, &'static [u8]);
+
+const CALLS: [Call; 12] = [
+    ("chart", CHART, &[1, 2, 3, 4, 5, 6, 7, 8]),
+    ("add", ADD, &[11, 16]),
+    ("link", LINK, &[11, 12, 13, 14]),
+    ("unlink", UNLINK, &[11, 12, 13, 15]),
+    ("move", MOVE, &[11, 12, 13]),
+    ("lay", LAY, &[11, 12]),
+    ("sift", SIFT, &[11, 12]),
+    ("round", ROUND, &[11]),
+    ("settle", SETTLE, &[11, 17]),
+    ("count", COUNT, &[11]),
+    ("order", ORDER, &[11, 18]),
+    ("pair", PAIR, &[11]),
+];
+
+/// Names for several calls at once.
+const SETS: [(&str, &[&str]); 2] = [
+    (
+        "layout",
+        &["add", "link", "unlink", "move", "count", "order", "pair"],
+    ),
+    ("sifting", &["sift", "round", "settle"]),
+];
+
+/// The calls that the programs under test know. Starting from the empty layout
+/// and setting a field are known to all.
+#[derive(Clone)]
+pub struct Known(Vec<Call>);
+
+impl Known {
+    pub fn all() -> Known {
+        Known(CALLS.to_vec())
+    }
+
+    /// Reads names of calls and of sets of calls, with commas between them;
+    /// none where a name is unknown, or where there is no call but `chart`.
+    pub fn parse(names: &str) -> Option<Known> {
+        let mut wanted = Vec::new();
+        for name in names.split(',') {
+            match SETS.iter().find(|(set, _)| *set == name) {
+                Some((_, calls)) => wanted.extend_from_slice(calls),
+                None => wanted.push(CALLS.iter().find(|call| call.0 == name)?.0),
+            }
+        }
+        let mut known = CALLS.to_vec();
+        known.retain(|(name, ..)| wanted.contains(name));
+        known
+            .iter()
+            .any(|&(_, op, _)| op != CHART)
+            .then_some(Known(known))
+    }
+
+    /// Whether a record with this op can be played.
+    pub fn has(&self, op: u64) -> bool {
+        let is_start = matches!(op, EMPTY | SET_N | SET_ORDER | SET_WORD | SET_COUNT);
+        is_start || self.0.iter().any(|&(_, known, _)| known == op)
+    }
+
+    /// Those of some ops that are known.
+    pub fn among(&self, ops: &[u64]) -> Vec<u64> {
+        ops.iter().copied().filter(|&op| self.has(op)).collect()
+    }
+
+    /// The names of the known calls, each with 0 and with the refusal numbers
+    /// that it can answer.
+    pub fn answers(&self) -> Vec<(&'static str, u8)> {
+        let mut answers = Vec::new();
+        for (name, _, numbers) in &self.0 {
+            answers.push((*name, 0));
+            answers.extend(numbers.iter().map(|&number| (*name, number)));
+        }
+        answers
+    }
+
+    /// The refusal numbers that the known calls can answer.
+    pub fn refusals(&self) -> BTreeSet<u8> {
+        let numbers = self.answers().into_iter().map(|(_, number)| number);
+        numbers.filter(|&number| number != 0).collect()
+    }
+}
+
+#[cfg(test)]
+mod tests {
+    use super::*;
+
+    #[test]
+    fn names_and_sets_are_read() {
+        let known = Known::parse("layout,sift").expect("known names");
+        assert!(known.has(MOVE) && known.has(SIFT) && known.has(SET_N));
+        assert!(!known.has(SETTLE) && !known.has(CHART));
+        let numbers = [11, 12, 13, 14, 15, 16, 18];
+        assert!(known.refusals().into_iter().eq(numbers));
+        assert!(Known::parse("layout,shift").is_none());
+        assert!(Known::parse("").is_none());
+        assert!(Known::parse("chart").is_none());
+    }
+
+    #[test]
+    fn all_calls_have_all_refusal_numbers() {
+        let numbers = (1..=8).chain(11..=18);
+        assert!(Known::all().refusals().into_iter().eq(numbers));
+    }
+}

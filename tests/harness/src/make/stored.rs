@@ -1,0 +1,247 @@
+//! The list that is stored as a program's test: every call, accepted and with
+//! each of its refusal numbers, on layouts small enough to follow by hand.
+
+use super::charts::Chart;
+use super::graph::{all_pairs, Graph};
+use super::lists::{bytes, chart, fields};
+use super::ops::*;
+use super::special::SPECIALS;
+use crate::rng::Rng;
+
+/// Vertices that no layout has.
+const FAR: [u64; 5] = [64, 255, 256, 1 << 32, u64::MAX];
+
+/// The bytes of the list, of known calls.
+pub fn list(known: &Known) -> Vec<u8> {
+    let mut list = List {
+        known,
+        bytes: Vec::new(),
+    };
+    list.empty_layout();
+    list.six_vertices();
+    list.far_vertices();
+    list.full_layout();
+    list.invalid_layouts();
+    list.any_count();
+    list.charts();
+    list.end();
+    list.bytes
+}
+
+/// The first ring of document 01.
+fn square() -> Graph {
+    Graph {
+        edges: vec![(0, 2), (3, 1)],
+        order: vec![0, 1, 2, 3],
+    }
+}
+
+struct List<'a> {
+    known: &'a Known,
+    bytes: Vec<u8>,
+}
+
+impl List<'_> {
+    /// These records, but for calls that aren't known.
+    fn play(&mut self, records: &[Record]) {
+        let known = records.iter().filter(|[op, ..]| self.known.has(*op));
+        self.bytes.extend(known.flat_map(|&record| bytes(record)));
+    }
+
+    /// Every call once; those that name vertices name the first two.
+    fn every_call(&mut self) {
+        self.play(&[
+            [ADD, 0, 0, 0],
+            [LINK, 0, 1, 0],
+            [UNLINK, 0, 1, 0],
+            [MOVE, 0, 1, 0],
+            [LAY, 0, 0, 0],
+            [SIFT, 0, 0, 0],
+            [ROUND, 0, 0, 0],
+            [SETTLE, 5, 0, 0],
+            [COUNT, 0, 0, 0],
+            [ORDER, 3, 7, 0],
+            [PAIR, 0, 0, 0],
+        ]);
+    }
+
+    fn empty_layout(&mut self) {
+        self.play(&[
+            [EMPTY, 0, 0, 0],
+            [LINK, 0, 1, 0],
+            [UNLINK, 0, 0, 0],
+            [MOVE, 0, 0, 0],
+            [LAY, 0, 0, 0],
+            [SIFT, 0, 0, 0],
+            [ROUND, 0, 0, 0],
+            [SETTLE, 1, 0, 0],
+            [COUNT, 0, 0, 0],
+            [ORDER, 0, 7, 0],
+            [ORDER, 2, 256 + 7, 0],
+            [PAIR, 0, 0, 0],
+        ]);
+    }
+
+    fn six_vertices(&mut self) {
+        self.play(&[[ADD, 0, 0, 0]; 6]);
+        self.play(&[
+            [LINK, 0, 2, 0],
+            [LINK, 3, 1, 0],
+            [LINK, 1, 3, 0],
+            [LINK, 2, 2, 0],
+            [LINK, 5, 6, 0],
+            [LINK, 6, 5, 0],
+            [LINK, 1, 4, 0],
+            [LINK, 5, 2, 0],
+            [COUNT, 0, 0, 0],
+            [PAIR, 0, 0, 0],
+            [UNLINK, 0, 1, 0],
+            [UNLINK, 4, 4, 0],
+            [UNLINK, 0, 6, 0],
+            [UNLINK, 6, 6, 0],
+            [UNLINK, 3, 1, 0],
+            [UNLINK, 3, 1, 0],
+            [MOVE, 0, 0, 0],
+            [MOVE, 6, 1, 0],
+            [MOVE, 1, 6, 0],
+            [MOVE, 3, 0, 0],
+            [MOVE, 5, 4, 0],
+            [ORDER, 5, 9, 0],
+            [ORDER, 6, 9, 0],
+            [ORDER, 7, 9, 0],
+            [ORDER, 255, 0, 0],
+            [ORDER, 256, 1, 0],
+            [SIFT, 0, 0, 0],
+            [LINK, 3, 1, 0],
+            [SETTLE, 0, 0, 0],
+            [SETTLE, 1001, 0, 0],
+            [SETTLE, 1 << 32, 0, 0],
+            [ROUND, 0, 0, 0],
+            [SETTLE, 1, 0, 0],
+            [SETTLE, 1000, 0, 0],
+            [LAY, 0, 0, 0],
+        ]);
+    }
+
+    fn far_vertices(&mut self) {
+        for far in FAR {
+            self.play(&[
+                [LINK, 0, far, 0],
+                [UNLINK, far, 2, 0],
+                [MOVE, 0, far, 0],
+                [LAY, far, 0, 0],
+                [SIFT, far, 0, 0],
+                [ORDER, far, 0, 0],
+            ]);
+        }
+    }
+
+    /// 64 vertices against the sun, with all 2,016 edges.
+    fn full_layout(&mut self) {
+        let edges = all_pairs(64);
+        let order = (0..64).rev().collect();
+        self.play(&fields(&Graph { edges, order }));
+        self.play(&[
+            [SET_COUNT, 635_376, 0, 0],
+            [COUNT, 0, 0, 0],
+            [ADD, 0, 0, 0],
+            [LINK, 0, 63, 0],
+            [UNLINK, 0, 63, 0],
+            [LINK, 63, 0, 0],
+            [MOVE, 63, 0, 0],
+            [ORDER, 63, 0, 0],
+            [ORDER, 64, 0, 0],
+            [ORDER, 65, 200, 0],
+            [PAIR, 0, 0, 0],
+        ]);
+    }
+
+    /// Each clause of validity broken by itself.
+    fn invalid_layouts(&mut self) {
+        self.play(&fields(&square()));
+        self.play(&[[SET_N, 65, 0, 0]]);
+        self.every_call();
+        for broken in [
+            [SET_N, u64::MAX, 0, 0],
+            [SET_N, (1 << 32) + 4, 0, 0],
+            [SET_N, 3, 0, 0],
+            [SET_ORDER, 2, 4, 0],
+            [SET_ORDER, 2, 3, 0],
+            [SET_ORDER, 4, 1, 0],
+            [SET_ORDER, 63, 255, 0],
+            [SET_WORD, 0, 6, 0],
+            [SET_WORD, 3, 2 + 8, 0],
+            [SET_WORD, 1, 8 + 16, 0],
+            [SET_WORD, 63, 1 << 63, 0],
+        ] {
+            self.play(&fields(&square()));
+            self.play(&[broken, [COUNT, 0, 0, 0], [ADD, 0, 0, 0], [LINK, 9, 9, 0]]);
+        }
+        // None of these changes the layout in a way that counts.
+        self.play(&fields(&square()));
+        self.play(&[
+            [SET_ORDER, 64, 1, 0],
+            [SET_ORDER, u64::MAX, 1, 0],
+            [SET_ORDER, 3, 256 + 3, 0],
+            [SET_WORD, 64, 1, 0],
+            [SET_WORD, 1 << 32, 1, 0],
+        ]);
+        self.every_call();
+    }
+
+    /// The carried count isn't examined, and goes round at 2^32.
+    fn any_count(&mut self) {
+        self.play(&fields(&square()));
+        self.play(&[
+            [SET_COUNT, 1 << 32, 0, 0],
+            [COUNT, 0, 0, 0],
+            [UNLINK, 0, 2, 0],
+            [LINK, 2, 0, 0],
+            [SET_COUNT, (1 << 32) + u64::from(u32::MAX), 0, 0],
+            [COUNT, 0, 0, 0],
+            [ADD, 0, 0, 0],
+            [LINK, 1, 4, 0],
+            [MOVE, 0, 1, 0],
+        ]);
+    }
+
+    /// A chart of each refusal number, and one that is read.
+    fn charts(&mut self) {
+        if !self.known.has(CHART) {
+            return;
+        }
+        for number in 1..=8 {
+            let special = SPECIALS.iter().find(|s| s.refusal == Some(number));
+            let special = special.expect("a chart of each refusal number");
+            let refused = (special.make)(&mut Rng::new(0, "stored", usize::from(number)));
+            self.bytes.extend(chart(&refused));
+            self.play(&[[COUNT, 0, 0, 0]]);
+        }
+        self.bytes.extend(chart(&Chart::of(&square()).bytes()));
+        self.every_call();
+    }
+
+    /// An unknown op, with a record behind it that isn't played.
+    fn end(&mut self) {
+        self.bytes.extend(bytes([27, 0, 0, 0]));
+        self.bytes.extend(bytes([ADD, 0, 0, 0]));
+    }
+}
+
+#[cfg(test)]
+mod tests {
+    use super::*;
+    use crate::naive::play::play;
+
+    #[test]
+    fn every_call_and_each_of_its_refusals_occurs() {
+        let known = Known::all();
+        let lines = play(&list(&known));
+        for (name, refusal) in known.answers() {
+            let start = format!("{name} {refusal}");
+            let met = |line: &str| line == start || line.starts_with(&(start.clone() + " "));
+            assert!(lines.lines().any(met), "{start}");
+        }
+        assert!(lines.ends_with("end\n"));
+    }
+}
