@@ -102,25 +102,3 @@ module _ {A : Type 0} where
       by-test true b c z r = refl
       by-test false true c z r = refl
       by-test false false c z r = r z
-
--- ---- the numbers below n
-
-pub length-upto : (n : ℕ) → length (upto n) ≡ n
-unfolding upto
-length-upto zero = refl
-length-upto (suc n) = length-append (upto n) (n ∷ []) ∙ add-one (length (upto n)) ∙ ap suc (length-upto n)
-
-pub upto-at : (n i : ℕ) → i < n → getD (upto n) i 0 ≡ i
-unfolding upto
-upto-at zero i h = absurd (not-suc-le-zero h)
-upto-at (suc n) i h =
-    elim (order i n) [
-      | less l ↦ List·getD-append (upto n) (n ∷ []) 0 i (omega (arith, length-upto n)) ∙ upto-at n i l
-      | same e ↦ getD-at (upto n) n [] 0 i (length-upto n ∙ sym e) ∙ sym e
-      | more l ↦ absurd (omega arith)
-    ]
-
-pub map-at : (f : ℕ → ℕ) (xs : List ℕ) (i : ℕ) → i < length xs → getD (map f xs) i 0 ≡ f (getD xs i 0)
-map-at f [] i h = absurd (not-suc-le-zero h)
-map-at f (x ∷ xs) zero h = refl
-map-at f (x ∷ xs) (suc i) h = map-at f xs i (le-of-suc-le-suc h)

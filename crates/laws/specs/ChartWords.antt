@@ -20,9 +20,9 @@ use Rattle.model.specs.Checks.{refusal, byRefusal, checked}
 use Rattle.model.specs.Charts.{edgesIn, edgeWithin, joins, sameEdge, wordIn, asked, answer, repeatChecks}
 use Rattle.laws.specs.Indicators.{less, same, more, order}
 use Rattle.laws.specs.Sums.{sum}
-use Rattle.laws.specs.ListSums.{sumOver-upto}
+use Rattle.laws.specs.ListSums.{length-upto, map-upto-at, sumOver-upto}
 use Rattle.laws.specs.Bits.{bit-beyond, bits-ext, set-same, set-other, or-power}
-use Rattle.laws.specs.ChartLists.{any-new, any-old, noRepeats-last, noRepeats-more, length-upto, upto-at, map-at}
+use Rattle.laws.specs.ChartLists.{any-new, any-old, noRepeats-last, noRepeats-more}
 use Rattle.laws.specs.ChartEdges.{edge, edge-swap, same-edge, other-edge, Ends, edge-ends, edges-next, edges-last, EndsUpTo, ends-start, ends-next, ends-known}
 
 -- ---- a word made of its bits
@@ -99,7 +99,7 @@ adjacency-length es = length-map (upto 64) (wordIn es) ∙ length-upto 64
 
 pub adjacency-at : (es : List Edge) (u : ℕ) → u < 64 → getD (adjacencyOf es) u 0 ≡ wordOf (λ v. any (joins u v) es) 64
 adjacency-at es u h =
-    map-at (wordIn es) (upto 64) u (omega (arith, length-upto 64)) ∙ ap (wordIn es) (upto-at 64 u h) ∙ word-is es u
+    map-upto-at (wordIn es) 64 u h ∙ word-is es u
 
 pub adjacency-bit : (es : List Edge) (u v : ℕ) → u < 64 → v < 64 → bit (getD (adjacencyOf es) u 0) v ≡ one (any (joins u v) es)
 adjacency-bit es u v h l = ap (λ (w : ℕ). bit w v) (adjacency-at es u h) ∙ wordOf-bit (λ v. any (joins u v) es) 64 v l

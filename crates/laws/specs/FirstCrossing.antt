@@ -19,7 +19,7 @@ use Rattle.model.specs.Checks.{refusal, byRefusal, checked, isValid}
 use Rattle.model.specs.Reading.{Shown, pairWith, orElse, firstPair, firstCrossingOf}
 use Rattle.laws.specs.Indicators.{T-true, less, same, more, order as which}
 use Rattle.laws.specs.Sums.{sum}
-use Rattle.laws.specs.ListSums.{All, none, also}
+use Rattle.laws.specs.ListSums.{All, none, also, length-upto, upto-at}
 use Rattle.laws.specs.Permutations.{Permutation, at-lt, at-of-place, place-of-at, place-below}
 use Rattle.laws.specs.Bound.{sum-more}
 use Rattle.laws.specs.EdgeCounts.{Within, all-edges}
@@ -129,21 +129,6 @@ edgeAt lows highs i = record { low = getD lows i 0; high = getD highs i 0 }
 unfoldable pub listed : List ℕ → List ℕ → ℕ → List Edge
 listed lows highs k = map (edgeAt lows highs) (upto k)
 
-length-upto : (n : ℕ) → length (upto n) ≡ n
-unfolding upto
-length-upto zero = refl
-length-upto (suc n) = length-append (upto n) (n ∷ []) ∙ omega (arith, length-upto n)
-
-getD-upto : (n i : ℕ) → i < n → getD (upto n) i 0 ≡ i
-unfolding upto
-getD-upto zero i h = absurd (not-suc-le-zero h)
-getD-upto (suc n) i h =
-    elim (which i n) [
-      | less l ↦ List·getD-append (upto n) (n ∷ []) 0 i (rw (length-upto n) l) ∙ getD-upto n i l
-      | same e ↦ rw e (getD-at (upto n) n [] 0 n (length-upto n))
-      | more l ↦ absurd (omega arith)
-    ]
-
 module _ (lows highs : List ℕ) where
   pub length-listed : (k : ℕ) → length (listed lows highs k) ≡ k
   unfolding listed
@@ -155,7 +140,7 @@ module _ (lows highs : List ℕ) where
 
   listed-at : (k i : ℕ) → i < k → getD (listed lows highs k) i (edgeAt lows highs 0) ≡ edgeAt lows highs i
   unfolding listed
-  listed-at k i h = List·getD-map (edgeAt lows highs) (upto k) i 0 ∙ ap (edgeAt lows highs) (getD-upto k i h)
+  listed-at k i h = List·getD-map (edgeAt lows highs) (upto k) i 0 ∙ ap (edgeAt lows highs) (upto-at k i h)
 
   -- from place i on
   listed-from : (k i : ℕ) → i < k → drop i (listed lows highs k) ≡ edgeAt lows highs i ∷ drop (suc i) (listed lows highs k)

@@ -15,7 +15,7 @@ use Rattle.model.specs.Lists.{one, upto, sumOver}
 use Rattle.model.specs.Layouts.{vertexOrder, crossingsOf, valid, modulus, changed, reordered}
 use Rattle.model.specs.Sifting.{improves, sifted, reduction, moves, siftAll, siftRound, afterRound, stopped, roundsUpTo}
 use Rattle.laws.specs.Indicators.{less, same, more, order, one-le}
-use Rattle.laws.specs.ListSums.{All, none, also, all-mono, all-upto}
+use Rattle.laws.specs.ListSums.{All, none, also, all-mono, all-upto, length-upto}
 use Rattle.laws.specs.Moving.{CountRight}
 use Rattle.laws.specs.Sifting.{BestPlace, LocalMinimum, Improved, improved-refl, improved-trans, improved-count, sifted-improved, sifted-best, sifted-reduction, sifted-stays, sifted-same, sifted-less, stays-put}
 
@@ -175,11 +175,6 @@ sifts-moved [] l = zero-le
 sifts-moved (u ∷ us) l = omega (arith, one-le (moves l u), sifts-moved us (sifted l u))
 
 -- ---- a round
-
-length-upto : (n : ℕ) → length (upto n) ≡ n
-unfolding upto
-length-upto zero = refl
-length-upto (suc n) = length-append (upto n) (n ∷ []) ∙ ap (λ (x : ℕ). x + 1) (length-upto n) ∙ add-one n
 
 all-last : {P : ℕ → Type 0} (xs : List ℕ) (y : ℕ) → All P (xs ++ (y ∷ [])) → P y
 all-last [] y (also p ps) = p
