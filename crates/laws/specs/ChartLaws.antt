@@ -14,7 +14,7 @@ use Rattle.model.specs.Layouts.{eachOnce, crossingsOf, valid}
 use Rattle.model.specs.Checks.{refusal, byRefusal, checked}
 use Rattle.model.specs.Charts.{bodyOf, chartSize, chartEdges, chartOrder, sameEdge, joins, chartChecks, chartLayout, readOf}
 use Rattle.laws.specs.ListSums.{All, none, also}
-use Rattle.laws.specs.ChartLists.{both-left, both-right, eqb-swap}
+use Rattle.laws.specs.Indicators.{both-left, both-right, eqb-swap}
 use Rattle.laws.specs.ChartEdges.{edge}
 use Rattle.laws.specs.ChartWords.{adjacencyOf, adjacency-length, adjacency-bit, adjacency-lt, adjacency-ext}
 use Rattle.laws.specs.ChartReading.{Numbered, all-pass, layoutFrom, Accepted, valid-read, count-true, refusedRead}

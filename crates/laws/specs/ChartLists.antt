@@ -15,53 +15,6 @@ use Rattle.model.specs.Lists.{one, upto, every, any, keep, noRepeats}
 use Rattle.laws.specs.Indicators.{less, same, more, order}
 use Rattle.laws.specs.ListSums.{All, none, also}
 
--- ---- tests
-
--- both of two tests pass
-pub both-left : (x y : Bool) → (x && y) ≡ true → x ≡ true
-both-left true y z = refl
-both-left false y z = z
-
-pub both-right : (x y : Bool) → (x && y) ≡ true → y ≡ true
-both-right true y z = z
-both-right false y z = absurd (false≢true z)
-
-pub one-true : (b : Bool) → one b ≡ 1 → b ≡ true
-unfolding one
-one-true true e = refl
-one-true false e = absurd (omega arith)
-
-pub eqb-swap : (a b : ℕ) → eqb a b ≡ eqb b a
-eqb-swap a b =
-    elim (ℕ-discrete a b) [
-      | yes e ↦ eq-eqb a b e ∙ sym (eq-eqb b a (sym e))
-      | no d ↦ ne-eqb a b d ∙ sym (ne-eqb b a (λ e. d (sym e)))
-    ]
-
--- ---- every entry passes
-
-module _ {A : Type 0} where
-  -- a test that passes everywhere
-  pub every-all : {p : A → Bool} {xs : List A} → All (λ x. p x ≡ true) xs → every p xs ≡ true
-  unfolding every
-  every-all none = refl
-  every-all (also e es) = ap₂ (λ (a b : Bool). a && b) e (every-all es)
-
-  pub all-every : (p : A → Bool) (xs : List A) → every p xs ≡ true → All (λ x. p x ≡ true) xs
-  unfolding every
-  all-every p [] e = none
-  all-every p (x ∷ xs) e = also (both-left (p x) (every p xs) e) (all-every p xs (both-right (p x) (every p xs) e))
-
--- the entries that are kept pass
-pub all-kept : {A : Type 0} {P : A → Type 0} (q : A → Bool) {xs : List A} → All P xs → All (λ x. P x × (q x ≡ true)) (keep q xs)
-unfolding keep
-all-kept q none = none
-all-kept {A} {P} q (also {x} {xs} p ps) = by-test (q x) refl (all-kept q ps)
-  where
-    by-test : (b : Bool) → q x ≡ b → All (λ y. P y × (q y ≡ true)) (keep q xs) → All (λ y. P y × (q y ≡ true)) (cond b (x ∷ keep q xs) (keep q xs))
-    by-test true e r = also (p, e) r
-    by-test false e r = r
-
 -- ---- some entry passes, and no repeats: one entry after the other
 
 module _ {A : Type 0} where

@@ -24,7 +24,8 @@ use Rattle.laws.specs.Pairs.{Symmetric}
 use Rattle.laws.specs.EdgeCounts.{weight}
 use Rattle.laws.specs.MaskCount.{vertexAt, countOn, countOn-crossings}
 use Rattle.laws.specs.Validity.{each-once, symmetric-weight}
-use Rattle.laws.specs.ChartLists.{both-left, both-right, every-all, all-kept}
+use Rattle.laws.specs.Indicators.{both-left, both-right}
+use Rattle.laws.specs.Every.{every-all, all-kept}
 use Rattle.laws.specs.ChartEdges.{Ends, joins-none, joins-swap}
 use Rattle.laws.specs.ChartWords.{wordOf-below, adjacencyOf, adjacency-at, adjacency-linked}
 use Rattle.laws.specs.ChartOrder.{padded, padded-length, padded-at}

@@ -12,7 +12,7 @@ use Rattle.model.specs.declared.Edge.{Edge}
 use Rattle.model.specs.Lists.{one, upto, any, keep, sumOver, sumPairs, noRepeats, place}
 use Rattle.model.specs.Crossings.{linked, edges, crosses, alternate, crossings}
 use Rattle.laws.specs.Indicators.{one-and}
-use Rattle.laws.specs.Sums.{sum, sum-ext}
+use Rattle.laws.specs.Sums.{halves, sum, sum-ext}
 use Rattle.laws.specs.ListSums.{All, all-upto, all-keep, all-map, all-flatMap, sumOver-ext, sumOver-keep, sumOver-upto, sumOver-map, sumOver-flatMap, sumPairs-twice}
 use Rattle.laws.specs.Permutations.{at, Permutation, at-of-place}
 use Rattle.laws.specs.Pairs.{pairSum, pairSum-ext, pairSum-scale, Symmetric}
@@ -117,6 +117,3 @@ module _ {n : ℕ} {o : List ℕ} (perm : Permutation n o) where
       ∙ twice-places perm (weight adj) s
       ∙ twice-rising n (placed o (weight adj))
       ∙ ap (λ (x : ℕ). 2 * x) (parts-sum n (placed o (weight adj))))
-    where
-      halves : (x y : ℕ) → 2 * x ≡ 2 * y → x ≡ y
-      halves x y e = omega arith

@@ -9,7 +9,7 @@ use mathlib.Core.List.{List, [], _∷_, _++_}
 use lib.ListN.{length, take, drop, length-append, length-drop, take-append-drop, List·getD-append}
 use lib.Seq.{split-at, length-take-le, getD-take, getD-drop, getD-at, getD-append-add, take-at, ext-getD}
 use lib.Dec.{T, T-not, not-T, eqb, leb, ltb, leb→le, ltb→lt, lt→ltb, eqb→eq}
-use borrow.Author.Tests.{eq-eqb, ne-eqb, lt-ltb, le-ltb, le-leb, lt-leb}
+use borrow.Author.Tests.{eq-eqb, ne-eqb, lt-ltb, le-ltb, le-leb, lt-leb, leb-true}
 use Rattle.model.specs.declared.Layout.{Layout}
 use Rattle.model.specs.declared.Changed.{Changed}
 use Rattle.model.specs.Lists.{one, upto, every, keep, sumOver, occurrences, place}
@@ -19,6 +19,7 @@ use Rattle.model.specs.Checks.{Check, refusal, byRefusal, checked, isValid, isV
 use Rattle.model.specs.Edits.{changedOr, insertAfter, movedAfter, moveChecks, moveOf}
 use Rattle.laws.specs.Indicators.{less, same, more, order, one-ne, T-true}
 use Rattle.laws.specs.ListSums.{All, none, also, all-mono, all-upto, sumOver-append}
+use Rattle.laws.specs.Every.{upto-every, every-ext, all-kept}
 use Rattle.laws.specs.Permutations.{at, Permutation, at-lt, place-lt, place-at, at-of-place, place-below, place-of-at}
 use Rattle.laws.specs.Validity.{sound, crossings-bound}
 
@@ -344,48 +345,19 @@ moved-places {n} {o} perm p q hp hq d i =
     (λ e. d (sym (place-of-at perm p hp) ∙ ap (place o) e ∙ place-of-at perm q hq)) i
     ∙ ap₂ (λ (x y : ℕ). at o (movedFrom x y i)) (place-of-at perm p hp) (place-of-at perm q hq)
 
--- ---- tests of every entry, from the entries
-
-pub and-both : (a b : Bool) → T a → T b → T (a && b)
-and-both true b t u = u
-and-both false b t u = t
-
-module _ {A : Type 0} where
-  pub all-every : (p : A → Bool) {xs : List A} → All (λ x. T (p x)) xs → T (every p xs)
-  unfolding every
-  all-every p none = tt
-  all-every p (also {x} {xs} t ts) = and-both (p x) (every p xs) t (all-every p ts)
-
-  pub all-kept : (p : A → Bool) (xs : List A) → All (λ x. T (p x)) (keep p xs)
-  unfolding keep
-  all-kept p [] = none
-  all-kept p (x ∷ xs) = by-test (p x) refl (all-kept p xs)
-    where
-      by-test : (b : Bool) → p x ≡ b → All (λ x. T (p x)) (keep p xs) → All (λ x. T (p x)) (cond b (x ∷ keep p xs) (keep p xs))
-      by-test true e r = also (subst T (sym e) tt) r
-      by-test false e r = r
-
-  every-ext : {P : A → Type 0} (p q : A → Bool) {xs : List A} → All P xs → ((x : A) → P x → p x ≡ q x) → every p xs ≡ every q xs
-  unfolding every
-  every-ext p q none h = refl
-  every-ext p q (also {x} t ts) h = ap₂ (λ (a b : Bool). a && b) (h x t) (every-ext p q ts h)
-
-pub every-below : (p : ℕ → Bool) (n : ℕ) → ((i : ℕ) → i < n → T (p i)) → T (every p (upto n))
-every-below p n h = all-every p (all-mono (all-upto n) h)
+-- ---- a valid layout with another order
 
 -- the order of a valid layout may be any that holds each vertex once
 pub permutation-eachOnce : {n : ℕ} {o : List ℕ} → Permutation n o → T (eachOnce n o)
 unfolding eachOnce
-permutation-eachOnce {n} {o} perm = every-below (λ v. eqb (occurrences v o) 1) n (λ v h. rw (eq-eqb (occurrences v o) 1 (perm .once v h)) tt)
+permutation-eachOnce {n} {o} perm = upto-every (λ v. eqb (occurrences v o) 1) n (λ v h. rw (eq-eqb (occurrences v o) 1 (perm .once v h)) tt)
 
 -- whether the unused places are 0 asks only for these places
 pub zeroFrom-ext : (n : ℕ) (xs ys : List ℕ) → ((i : ℕ) → n ≤ i → at xs i ≡ at ys i) → zeroFrom n xs ≡ zeroFrom n ys
 unfolding zeroFrom
 zeroFrom-ext n xs ys h =
-    every-ext (λ i. eqb (at xs i) 0) (λ i. eqb (at ys i) 0) (all-kept (λ i. leb n i) (upto capacity))
-    (λ i t. ap (λ (x : ℕ). eqb x 0) (h i (leb→le n i t)))
-
--- ---- a layout with another order
+    every-ext (λ i. eqb (at xs i) 0) (λ i. eqb (at ys i) 0) (all-kept (leb n) (all-upto capacity))
+    (λ i k. ap (λ (x : ℕ). eqb x 0) (h i (leb-true n i (k .1))))
 
 module _ (l : Layout) (o : List ℕ) where
   pub reordered-n : reordered l o .n ≡ l .n

@@ -14,9 +14,9 @@ use Rattle.model.specs.Lists.{upto}
 use Rattle.model.specs.Layouts.{valid}
 use Rattle.model.specs.Checks.{refusal, isValid, isVertex, limitFits}
 use Rattle.model.specs.Sifting.{sifted, reduction, siftChecks, siftOf, siftAll, siftRound, roundOf, stopped, afterRound, roundsUpTo, settleChecks, settleOf}
-use Rattle.laws.specs.Indicators.{and-left, and-right}
+use Rattle.laws.specs.Indicators.{and-intro, and-left, and-right}
 use Rattle.laws.specs.ListSums.{none, also}
-use Rattle.laws.specs.Moving.{and-both, Keeps, same-keeps, check-passed, all-passed, checked-accepted, checked-refused, checked-number}
+use Rattle.laws.specs.Moving.{Keeps, same-keeps, check-passed, all-passed, checked-accepted, checked-refused, checked-number}
 use Rattle.laws.specs.Sifting.{Improved, improved-count}
 use Rattle.laws.specs.SiftingRounds.{ProperSift, proper-sift, ProperRound, proper-round, roundsOf, Settling, settling, rounds-run}
 
@@ -134,7 +134,7 @@ module _ (l : Layout) (limit : ℕ) where
   unfolding settleOf settleChecks isValid limitFits
   settle-accepted t h k =
       checked-accepted (settleChecks l limit) (roundsUpTo limit l) settleRefusal
-      (all-passed (also t (also (and-both (leb 1 limit) (leb limit 1000) (le→leb 1 limit h) (le→leb limit 1000 k)) none)))
+      (all-passed (also t (also (and-intro (leb 1 limit) (leb limit 1000) (le→leb 1 limit h) (le→leb limit 1000 k)) none)))
 
   pub settle-refused : (settleOf l limit .refusal ≡ 0 → ⊥)
       → settleOf l limit ≡ record { refusal = settleOf l limit .refusal; layout = l; reduction = 0; rounds = 0; converged = false }

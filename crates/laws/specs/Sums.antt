@@ -11,6 +11,13 @@ unfoldable pub sum : ℕ → (ℕ → ℕ) → ℕ
 sum zero f = 0
 sum (suc n) f = sum n f + f n
 
+-- a number twice
+pub double : (x : ℕ) → x + x ≡ 2 * x
+double x = omega arith
+
+pub halves : (x y : ℕ) → 2 * x ≡ 2 * y → x ≡ y
+halves x y e = omega arith
+
 -- the same terms
 pub sum-ext : (n : ℕ) (f g : ℕ → ℕ) → ((i : ℕ) → i < n → f i ≡ g i) → sum n f ≡ sum n g
 unfolding sum

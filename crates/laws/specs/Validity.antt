@@ -17,7 +17,7 @@ use Rattle.model.specs.Crossings.{bit, linked, crossings}
 use Rattle.model.specs.Edits.{withBit}
 use Rattle.laws.specs.Bits.{bit-lt, bit-beyond, set-same, set-other}
 use Rattle.model.specs.Layouts.{capacity, vertexOrder, crossingsOf, eachOnce, zeroFrom, symmetric, loopless, bitsBelow, valid}
-use Rattle.laws.specs.Indicators.{one-eq, one-ne, one-lt, T-true, Order, less, same, more, order, and-left, and-right, one-le}
+use Rattle.laws.specs.Indicators.{one-eq, one-ne, one-lt, T-true, less, same, more, order, and-left, and-right, one-le, bool-ext, not-T-false}
 use Rattle.laws.specs.Every.{every-upto, upto-every, upto-fails, every-keep}
 use Rattle.laws.specs.Sums.{sum, sum-ext, sum-const, sum-swap, sum-mono, all-one}
 use Rattle.laws.specs.ListSums.{sumOver-take}
@@ -29,12 +29,6 @@ use Rattle.laws.specs.Bound.{sum-more, crossingSum-bound}
 
 -- ---- Booleans
 
-bool-ext : (a b : Bool) → (T a → T b) → (T b → T a) → a ≡ b
-bool-ext true true f g = refl
-bool-ext true false f g = absurd (f tt)
-bool-ext false true f g = absurd (g tt)
-bool-ext false false f g = refl
-
 beq-self : (a : Bool) → T (Bool·beq a a)
 beq-self true = tt
 beq-self false = tt
@@ -44,10 +38,6 @@ beq-comm true true = refl
 beq-comm true false = refl
 beq-comm false true = refl
 beq-comm false false = refl
-
-not-T-false : (b : Bool) → (T b → ⊥) → b ≡ false
-not-T-false true f = absurd (f tt)
-not-T-false false f = refl
 
 -- a bit that is not 1 is 0
 pub not-one-bit : (b : ℕ) → b < 2 → eqb b 1 ≡ false → b ≡ 0
