@@ -25,16 +25,13 @@ use Rattle.laws.specs.EdgeCounts.{weight}
 use Rattle.laws.specs.MaskCount.{vertexAt, countOn, countOn-crossings}
 use Rattle.laws.specs.Validity.{each-once, symmetric-weight}
 use Rattle.laws.specs.Indicators.{both-left, both-right}
+use Rattle.laws.specs.Refusals.{Numbered, all-pass}
 use Rattle.laws.specs.Every.{every-all, all-kept}
 use Rattle.laws.specs.ChartEdges.{Ends, joins-none, joins-swap}
 use Rattle.laws.specs.ChartWords.{wordOf-below, adjacencyOf, adjacency-at, adjacency-linked}
 use Rattle.laws.specs.ChartOrder.{padded, padded-length, padded-at}
 
 -- ---- questions, one group after the other
-
--- each has a number
-abbrev pub Numbered : List Check → Type 0
-Numbered cs = All (λ c. 0 < c .code) cs
 
 pub checked-append : {A : Type 0} {xs : List Check} → Numbered xs → (ys : List Check) (a : A) (f : ℕ → A)
     → checked (xs ++ ys) a f ≡ byRefusal (refusal xs) (checked ys a f) f
@@ -50,16 +47,6 @@ checked-append {A} (also {x} {xs} p ps) ys a f = by-test (x .passes) (checked-ap
         → byRefusal (cond b (refusal (xs ++ ys)) (x .code)) a f ≡ byRefusal (cond b (refusal xs) (x .code)) (checked ys a f) f
     by-test true e = e
     by-test false e = same-number (x .code) p (checked ys a f)
-
--- where no number comes out, each passes
-pub all-pass : {cs : List Check} → Numbered cs → refusal cs ≡ 0 → All (λ c. c .passes ≡ true) cs
-unfolding refusal
-all-pass none e = none
-all-pass (also {x} {xs} p ps) e = by-test (x .passes) refl e (all-pass ps)
-  where
-    by-test : (b : Bool) → x .passes ≡ b → cond b (refusal xs) (x .code) ≡ 0 → (refusal xs ≡ 0 → All (λ c. c .passes ≡ true) xs) → All (λ c. c .passes ≡ true) (x ∷ xs)
-    by-test true t z r = also t (r z)
-    by-test false t z r = absurd (omega arith)
 
 -- what an answer says of the questions of its pass
 module _ (cs : List Check) (values : List ℕ) (a : Answer) where

@@ -19,6 +19,7 @@ use Rattle.model.specs.Charts.{readOf}
 use Rattle.model.specs.Listing.{text, line, spaced, listing, listingRoom, listingOf, listedLength, listedBytes}
 use Rattle.laws.specs.Sums.{sum}
 use Rattle.laws.specs.Bits.{maskedOnes}
+use Rattle.laws.specs.Refusals.{by-number}
 use Rattle.laws.specs.Validity.{sound}
 use Rattle.laws.specs.EdgeTotals.{edges-twice}
 use Rattle.laws.specs.Moving.{CountRight}
@@ -75,12 +76,8 @@ listing-text l t c {r} e {m} k =
 
 module _ (s : List ℕ) {r : ChartRead} (e : r ≡ readOf s) where
   pub listing-refused : (r .refusal ≡ 0 → ⊥) → listingOf s ≡ line "refused" (spaced (r .refusal))
-  unfolding listingOf byRefusal
-  listing-refused d = rw (← e) (by-number (r .refusal) d)
-    where
-      by-number : (k : ℕ) → (k ≡ 0 → ⊥) → byRefusal k (listing (r .layout)) (λ refused. line "refused" (spaced refused)) ≡ line "refused" (spaced k)
-      by-number zero n = absurd (n refl)
-      by-number (suc k) n = refl
+  unfolding listingOf
+  listing-refused d = rw (← e) (by-number (r .refusal) (listing (r .layout)) (λ refused. line "refused" (spaced refused)) d)
 
   pub listing-accepted : r .refusal ≡ 0 → listingOf s ≡ listing (r .layout)
   unfolding listingOf byRefusal

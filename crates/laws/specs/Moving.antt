@@ -21,6 +21,7 @@ use Rattle.laws.specs.Indicators.{less, same, more, order, one-ne, T-tru
 use Rattle.laws.specs.ListSums.{All, none, also, all-mono, all-upto, sumOver-append}
 use Rattle.laws.specs.Every.{upto-every, every-ext, all-kept}
 use Rattle.laws.specs.Permutations.{at, Permutation, at-lt, place-lt, place-at, at-of-place, place-below, place-of-at}
+use Rattle.laws.specs.Refusals.{Pair, pair-passed, all-passed, when-accepted, when-refused, checked-number}
 use Rattle.laws.specs.Validity.{sound, crossings-bound}
 
 -- a list without the vertex a
@@ -453,46 +454,6 @@ reordered-present l h = λ i. record { n = l .n; order = parts i; adjacency = l 
         ap (λ (xs : List ℕ). carried (l .count) (crossingsOf l) (crossings (l .n) (take (l .n) xs) (l .adjacency))) parts
         ∙ carried-same (l .count) (crossingsOf l) h
 
--- ---- the checks of a call
-
--- an accepted call passed each check
-pub check-passed : (c : Check) (cs : List Check) → (c .code ≡ 0 → ⊥) → refusal (c ∷ cs) ≡ 0 → T (c .passes) × (refusal cs ≡ 0)
-unfolding refusal
-check-passed c cs d e = by-test (c .passes) e
-  where
-    by-test : (b : Bool) → cond b (refusal cs) (c .code) ≡ 0 → T b × (refusal cs ≡ 0)
-    by-test true k = (tt, k)
-    by-test false k = absurd (d k)
-
--- and a call that passes each is accepted
-pub all-passed : {cs : List Check} → All (λ c. T (c .passes)) cs → refusal cs ≡ 0
-unfolding refusal
-all-passed none = refl
-all-passed (also {x = c} {xs = cs} t ts) = ap (λ (b : Bool). cond b (refusal cs) (c .code)) (T-true (c .passes) t) ∙ all-passed ts
-
-module _ {A : Type 0} (cs : List Check) (accepted : A) (refused : ℕ → A) where
-  pub checked-accepted : refusal cs ≡ 0 → checked cs accepted refused ≡ accepted
-  unfolding checked byRefusal
-  checked-accepted e = ap (λ (r : ℕ). byRefusal r accepted refused) e
-
-  pub checked-refused : (refusal cs ≡ 0 → ⊥) → checked cs accepted refused ≡ refused (refusal cs)
-  unfolding checked byRefusal
-  checked-refused d = by-number (refusal cs) d
-    where
-      by-number : (r : ℕ) → (r ≡ 0 → ⊥) → byRefusal r accepted refused ≡ refused r
-      by-number zero k = absurd (k refl)
-      by-number (suc r) k = refl
-
-  -- the number that comes back is that of the checks
-  pub checked-number : (number : A → ℕ) → number accepted ≡ 0 → ((r : ℕ) → number (refused r) ≡ r)
-      → number (checked cs accepted refused) ≡ refusal cs
-  unfolding checked byRefusal
-  checked-number number z s = by-number (refusal cs)
-    where
-      by-number : (r : ℕ) → number (byRefusal r accepted refused) ≡ r
-      by-number zero = z
-      by-number (suc r) = s (suc r)
-
 -- ---- the call move
 
 module _ (l : Layout) (a b : ℕ) where
@@ -504,31 +465,24 @@ module _ (l : Layout) (a b : ℕ) where
       (λ (c : Changed). c .refusal) refl (λ r. refl)
 
   -- what an accepted move may count on
-  pub move-passed : moveOf l a b .refusal ≡ 0 → T (valid l) × (a < l .n) × (b < l .n) × (a ≡ b → ⊥)
-  unfolding moveChecks isValid isVertex differ
-  move-passed e =
-      let first = check-passed (isValid l) (isVertex l a ∷ isVertex l b ∷ differ a b ∷ []) (λ k. omega arith) (sym move-number ∙ e) in
-      let second = check-passed (isVertex l a) (isVertex l b ∷ differ a b ∷ []) (λ k. omega arith) (first .1) in
-      let third = check-passed (isVertex l b) (differ a b ∷ []) (λ k. omega arith) (second .1) in
-      let last = check-passed (differ a b) [] (λ k. omega arith) (third .1) in
-      (first .0, ltb→lt a (l .n) (second .0), ltb→lt b (l .n) (third .0), λ k. T-not (eqb a b) (last .0) (subst T (sym (eq-eqb a b k)) tt))
+  pub move-passed : moveOf l a b .refusal ≡ 0 → Pair l a b
+  move-passed e = pair-passed l a b (sym move-number ∙ e)
 
   -- and a move that may count on it is accepted
   pub move-accepted : T (valid l) → a < l .n → b < l .n → (a ≡ b → ⊥)
       → moveOf l a b ≡ record { refusal = 0; layout = reordered l (movedAfter a b (vertexOrder l)) }
   unfolding moveOf changedOr moveChecks isValid isVertex differ
   move-accepted t h k d =
-      checked-accepted (moveChecks l a b)
+      when-accepted (moveChecks l a b)
       (record { refusal = 0; layout = reordered l (movedAfter a b (vertexOrder l)) }) (λ r. record { refusal = r; layout = l })
       (all-passed (also t (also (lt→ltb a (l .n) h) (also (lt→ltb b (l .n) k) (also (not-T (eqb a b) (λ e. d (eqb→eq a b e))) none)))))
 
   pub move-refused : (moveOf l a b .refusal ≡ 0 → ⊥) → moveOf l a b ≡ record { refusal = moveOf l a b .refusal; layout = l }
   unfolding moveOf changedOr
   move-refused d =
-      checked-refused (moveChecks l a b)
+      when-refused (moveChecks l a b)
       (record { refusal = 0; layout = reordered l (movedAfter a b (vertexOrder l)) }) (λ r. record { refusal = r; layout = l })
-      (λ e. d (move-number ∙ e))
-      ∙ ap (λ (r : ℕ). record { refusal = r; layout = l }) (sym move-number)
+      move-number d
 
 -- the layout that an accepted move gives
 module _ (l : Layout) (t : T (valid l)) (a : ℕ) (h : a < l .n) (b : ℕ) (k : b < l .n) (d : a ≡ b → ⊥) where
@@ -551,7 +505,7 @@ move-keeps l a b =
       | no d ↦ same-keeps (ap (λ (c : Changed). c .layout) (move-refused l a b d))
     ]
   where
-    accepted : T (valid l) × (a < l .n) × (b < l .n) × (a ≡ b → ⊥) → Keeps l (moveOf l a b .layout)
+    accepted : Pair l a b → Keeps l (moveOf l a b .layout)
     accepted p =
-        rw (move-layout l (p .0) a (p .1) b (p .2) (p .3))
-        (changed-keeps l (l .n) (movedAfter a b (vertexOrder l) ++ drop (l .n) (l .order)) (l .adjacency) (move-valid l (p .0) a (p .1) b (p .2) (p .3)))
+        rw (move-layout l (p .is-valid) a (p .first) b (p .second) (p .different))
+        (changed-keeps l (l .n) (movedAfter a b (vertexOrder l) ++ drop (l .n) (l .order)) (l .adjacency) (move-valid l (p .is-valid) a (p .first) b (p .second) (p .different)))

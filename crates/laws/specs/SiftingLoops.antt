@@ -23,7 +23,7 @@ use Rattle.laws.specs.Validity.{sound, crossings-bound}
 use Rattle.laws.specs.Recount.{recounted}
 use Rattle.laws.specs.MovedPlaces.{reordered-recounted}
 use Rattle.laws.specs.Sifting.{Improved, sift-least, sift-permutation, sifted-crossings, sifted-reduction, sifted-improved, sifted-less, sift-stays}
-use Rattle.laws.specs.SiftingRounds.{ProperSifts, proper-sifts, ProperRound, proper-round}
+use Rattle.laws.specs.SiftingRounds.{proper-sifts, proper-round, rounds-refusal}
 
 -- ---- one sift
 
@@ -146,11 +146,6 @@ pub record SettlingUpTo (l : Layout) (limit : ℕ) (m : Layout) (saved run : ℕ
   pub exact : crossingsOf m + saved ≡ crossingsOf l
   pub whole : roundsUpTo limit l ≡ afterRounds saved run (roundsUpTo (limit - run) m)
 
-rounds-accepted : (limit : ℕ) (l : Layout) → roundsUpTo limit l .refusal ≡ 0
-unfolding roundsUpTo stopped afterRound
-rounds-accepted zero l = refl
-rounds-accepted (suc limit) l = refl
-
 pub settling-start : (l : Layout) (limit : ℕ) → T (valid l) → SettlingUpTo l limit l 0 0
 unfolding afterRounds
 settling-start l limit t =
@@ -158,7 +153,7 @@ settling-start l limit t =
       inside = omega arith;
       is-valid = t;
       exact = add-zero (crossingsOf l);
-      whole = sym (ap (λ (k : ℕ). afterRounds 0 0 (roundsUpTo k l)) (sub-zero limit) ∙ nothing-yet (roundsUpTo limit l) (rounds-accepted limit l));
+      whole = sym (ap (λ (k : ℕ). afterRounds 0 0 (roundsUpTo k l)) (sub-zero limit) ∙ nothing-yet (roundsUpTo limit l) (rounds-refusal limit l));
     }
   where
     nothing-yet : (c : Converged) → c .refusal ≡ 0 → afterRounds 0 0 c ≡ c

@@ -269,6 +269,12 @@ unfoldable pub roundsOf : ℕ → Layout → List Layout
 roundsOf zero l = []
 roundsOf (suc limit) l = l ∷ elim (eqb (siftRound l .moved) 0) [ true ↦ [] | false ↦ roundsOf limit (siftRound l .layout) ]
 
+-- rounds are not refused
+pub rounds-refusal : (limit : ℕ) (l : Layout) → roundsUpTo limit l .refusal ≡ 0
+unfolding roundsUpTo stopped afterRound
+rounds-refusal zero l = refl
+rounds-refusal (suc limit) l = refl
+
 -- did the last of these rounds move no vertex?
 unfoldable pub lastStill : List Layout → Bool
 lastStill [] = false
