@@ -1,5 +1,5 @@
 -- The edges of a chart, read one after the other, and whether each pair is written only once.
-use Prim.Native.Nat.{ℕ, _+_, _-_, _%_, _≤_, _<_, zero-le, min, max}
+use Prim.Native.Nat.{ℕ, _+_, _%_, _≤_, _<_, zero-le, min, max}
 use native.Mathlib.Nat.{add-suc, min-comm, max-comm, lt-of-lt-of-le}
 use native.Mathlib.Numerals.{add-one}
 use native.Mathlib.Decide.{ℕ-discrete}

@@ -1,5 +1,5 @@
 -- What reading a chart gives: a valid layout with its true crossings, whatever the sequence in which the edges are written.
-use Prim.Native.Nat.{ℕ, zero, suc, _<_}
+use Prim.Native.Nat.{ℕ}
 use mathlib.Core.Path.{_≡_, refl, sym, ap, ap₂, _∙_, subst}
 use mathlib.Core.Bool.{Bool, true, _&&_, _||_}
 use mathlib.Core.List.{List, [], _∷_}
@@ -11,7 +11,7 @@ use Rattle.model.specs.declared.ChartRead.{ChartRead}
 use Rattle.model.specs.declared.Layout.{Layout}
 use Rattle.model.specs.Lists.{one, any}
 use Rattle.model.specs.Layouts.{eachOnce, crossingsOf, valid}
-use Rattle.model.specs.Checks.{refusal, byRefusal, checked}
+use Rattle.model.specs.Checks.{refusal}
 use Rattle.model.specs.Charts.{bodyOf, chartSize, chartEdges, chartOrder, sameEdge, joins, chartChecks, chartLayout, readOf}
 use Rattle.laws.specs.ListSums.{All, none, also}
 use Rattle.laws.specs.Refusals.{Numbered, all-pass, when-accepted, checked-number}

@@ -1,19 +1,8 @@
 -- Lists and tests, for charts.
-use Prim.Native.Nat.{ℕ, zero, suc, _<_}
-use native.Mathlib.Nat.{not-suc-le-zero, le-of-suc-le-suc}
-use native.Mathlib.Numerals.{add-one}
-use native.Mathlib.Decide.{ℕ-discrete}
-use native.Mathlib.Omega.{arith}
-use mathlib.Core.Path.{_≡_, refl, sym, ap, ap₂, _∙_}
-use mathlib.Core.Bool.{Bool, true, false, not, cond, _&&_, _||_, true≢false, false≢true, and-false, or-assoc, or-true, or-false}
-use mathlib.Core.List.{List, [], _∷_, _++_, map}
-use lib.ListN.{length, getD, length-append, List·getD-append}
-use lib.Seq.{getD-at}
-use lib.Dec.{eqb}
-use borrow.Author.Tests.{eq-eqb, ne-eqb}
-use Rattle.model.specs.Lists.{one, upto, every, any, keep, noRepeats}
-use Rattle.laws.specs.Indicators.{less, same, more, order}
-use Rattle.laws.specs.ListSums.{All, none, also}
+use mathlib.Core.Path.{_≡_, refl, sym, ap, _∙_}
+use mathlib.Core.Bool.{Bool, true, false, not, _&&_, _||_, true≢false, and-false, or-assoc, or-true, or-false}
+use mathlib.Core.List.{List, [], _∷_, _++_}
+use Rattle.model.specs.Lists.{any, noRepeats}
 
 -- ---- some entry passes, and no repeats: one entry after the other
 

@@ -1,15 +1,15 @@
 -- Adding and removing an edge: the words of both ends change, and the edges stay symmetric.
-use Prim.Native.Nat.{ℕ, _+_, _≤_, _<_}
+use Prim.Native.Nat.{ℕ, _<_}
 use native.Mathlib.Decide.{ℕ-discrete}
 use native.Mathlib.Omega.{arith}
-use mathlib.Core.Path.{_≡_, refl, sym, ap, ap₂, _∙_, subst}
+use mathlib.Core.Path.{_≡_, sym, ap, _∙_}
 use mathlib.Core.List.{List}
 use lib.ListN.{length, getD, set, length-set}
 use lib.Seq.{getD-set-same, getD-set-other}
 use Rattle.model.specs.Crossings.{bit}
 use Rattle.model.specs.declared.Layout.{Layout}
 use Rattle.model.specs.Edits.{withBit, withoutBit, atBothEnds, withEdges}
-use Rattle.laws.specs.Recount.{Drawn, drawn, recounted, recounted-changed}
+use Rattle.laws.specs.Recount.{drawn, recounted, recounted-changed}
 use Rattle.laws.specs.Refusals.{Pair, within-capacity}
 use Rattle.laws.specs.Pairs.{Symmetric}
 use Rattle.laws.specs.Bits.{set-same, set-other, clear-same, clear-other}

@@ -1,8 +1,8 @@
 -- The parts of a listing, from what the calls answer.
-use Prim.Native.Nat.{ℕ, zero, suc, _+_, _*_, _-_, _/_, _^_, _≤_, _<_}
+use Prim.Native.Nat.{ℕ, _-_, _/_, _^_, _≤_}
 use native.Mathlib.Nat.{mul-div-cancel-left}
 use native.Mathlib.Omega.{arith}
-use mathlib.Core.Path.{_≡_, refl, sym, ap, ap₂, _∙_, subst}
+use mathlib.Core.Path.{_≡_, sym, ap, ap₂, _∙_}
 use mathlib.Core.Bool.{Bool, true, false, cond}
 use mathlib.Core.List.{List, _++_, flatMap}
 use lib.ListN.{length, getD, take, drop, length-append}
@@ -23,8 +23,7 @@ use Rattle.laws.specs.Refusals.{by-number}
 use Rattle.laws.specs.Validity.{sound}
 use Rattle.laws.specs.EdgeTotals.{edges-twice}
 use Rattle.laws.specs.Moving.{CountRight}
-use Rattle.laws.specs.Sifting.{Improved}
-use Rattle.laws.specs.SiftingRounds.{Settling, settling}
+use Rattle.laws.specs.SiftingRounds.{settling}
 use Rattle.laws.specs.SiftingCalls.{settle-accepted, settle-keeps}
 
 -- the number of edges, from the ones of the words

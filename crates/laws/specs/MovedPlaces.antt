@@ -1,13 +1,12 @@
 -- A vertex moved in an array: the entries shift by places.
 use Prim.Native.Nat.{ℕ, zero, suc, _+_, _-_, _≤_, _<_, suc-le-suc}
 use native.Mathlib.Nat.{not-suc-le-zero, le-of-suc-le-suc}
-use native.Mathlib.Numerals.{add-one}
 use native.Mathlib.Omega.{arith}
-use mathlib.Core.Path.{_≡_, refl, sym, ap, ap₂, _∙_, subst}
+use mathlib.Core.Path.{_≡_, refl, sym, ap, ap₂, _∙_}
 use mathlib.Core.Bool.{Bool, true, false, cond, _&&_}
-use mathlib.Core.List.{List, [], _∷_, _++_, map, map-append}
+use mathlib.Core.List.{List, [], _∷_, _++_, map}
 use lib.ListN.{length, getD, take, drop, set, length-append, length-drop, length-map, length-set, List·getD-append}
-use lib.Seq.{getD-take, getD-drop, getD-append-add, getD-at, ext-getD, take-at, getD-set-same, getD-set-other}
+use lib.Seq.{getD-take, getD-drop, getD-append-add, ext-getD, take-at, getD-set-same, getD-set-other}
 use lib.Dec.{T, eqb, ltb, leb}
 use borrow.Author.Tests.{lt-ltb, le-ltb, eq-eqb, ne-eqb}
 use Rattle.laws.specs.Refusals.{Pair}
@@ -21,7 +20,7 @@ use Rattle.laws.specs.ListSums.{length-upto, map-upto-at}
 use Rattle.laws.specs.Permutations.{at, Permutation, place-below, at-of-place}
 use Rattle.laws.specs.Validity.{sound}
 use Rattle.laws.specs.Recount.{drawn, recounted, recounted-changed}
-use Rattle.laws.specs.Moving.{movedFrom, moved-entry, moved-permutation, back-kept, back-put, back-shifted, back-beyond, on-kept, on-shifted, on-put, on-beyond}
+use Rattle.laws.specs.Moving.{movedFrom, moved-entry, moved-permutation, back-beyond, on-beyond}
 
 -- the entries of 64 places after the one at place p was moved behind the one at place q
 unfoldable pub shifted : List ℕ → ℕ → ℕ → List ℕ

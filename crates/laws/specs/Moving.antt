@@ -1,24 +1,24 @@
 -- Moving a vertex behind another, in a list that holds each vertex once.
-use Prim.Native.Nat.{ℕ, zero, suc, _+_, _-_, _≤_, _<_}
+use Prim.Native.Nat.{ℕ, suc, _+_, _-_, _≤_, _<_}
 use native.Mathlib.Nat.{add-sub-of-le, not-suc-le-zero}
 use native.Mathlib.Decide.{ℕ-discrete}
 use native.Mathlib.Omega.{arith}
 use mathlib.Core.Path.{_≡_, refl, sym, ap, ap₂, _∙_, subst}
-use mathlib.Core.Bool.{Bool, true, false, not, cond, _&&_}
+use mathlib.Core.Bool.{Bool, true, false, not, cond}
 use mathlib.Core.List.{List, [], _∷_, _++_}
 use lib.ListN.{length, take, drop, length-append, length-drop, take-append-drop, List·getD-append}
 use lib.Seq.{split-at, length-take-le, getD-take, getD-drop, getD-at, getD-append-add, take-at, ext-getD}
-use lib.Dec.{T, T-not, not-T, eqb, leb, ltb, leb→le, ltb→lt, lt→ltb, eqb→eq}
+use lib.Dec.{T, not-T, eqb, leb, ltb, lt→ltb, eqb→eq}
 use borrow.Author.Tests.{eq-eqb, ne-eqb, lt-ltb, le-ltb, le-leb, lt-leb, leb-true}
 use Rattle.model.specs.declared.Layout.{Layout}
 use Rattle.model.specs.declared.Changed.{Changed}
-use Rattle.model.specs.Lists.{one, upto, every, keep, sumOver, occurrences, place}
+use Rattle.model.specs.Lists.{one, keep, sumOver, occurrences, place}
 use Rattle.model.specs.Crossings.{crossings}
 use Rattle.model.specs.Layouts.{capacity, vertexOrder, crossingsOf, eachOnce, zeroFrom, valid, modulus, carried, changed, reordered}
-use Rattle.model.specs.Checks.{Check, refusal, byRefusal, checked, isValid, isVertex, differ}
+use Rattle.model.specs.Checks.{refusal, isValid, isVertex, differ}
 use Rattle.model.specs.Edits.{changedOr, insertAfter, movedAfter, moveChecks, moveOf}
 use Rattle.laws.specs.Indicators.{less, same, more, order, one-ne, T-true}
-use Rattle.laws.specs.ListSums.{All, none, also, all-mono, all-upto, sumOver-append}
+use Rattle.laws.specs.ListSums.{none, also, all-upto, sumOver-append}
 use Rattle.laws.specs.Every.{upto-every, every-ext, all-kept}
 use Rattle.laws.specs.Permutations.{at, Permutation, at-lt, place-lt, place-at, at-of-place, place-below, place-of-at}
 use Rattle.laws.specs.Refusals.{Pair, pair-passed, all-passed, when-accepted, when-refused, checked-number}

@@ -1,12 +1,12 @@
 -- Sums over unordered pairs of numbers below n.
-use Prim.Native.Nat.{ℕ, _+_, _*_, _≤_, _<_}
+use Prim.Native.Nat.{ℕ, _+_, _*_, _<_}
 use native.Mathlib.Nat.{mul-zero, mul-left-comm}
 use native.Mathlib.Omega.{arith}
-use mathlib.Core.Path.{_≡_, refl, sym, ap, ap₂, _∙_}
+use mathlib.Core.Path.{_≡_, sym, ap, _∙_}
 use mathlib.Core.List.{List}
 use lib.Dec.{ltb}
 use Rattle.model.specs.Lists.{one}
-use Rattle.laws.specs.Indicators.{Order, less, same, more, order, one-lt, one-ge}
+use Rattle.laws.specs.Indicators.{less, same, more, order, one-lt, one-ge}
 use Rattle.laws.specs.Sums.{double, halves, sum, sum-ext, sum-zero, sum-add, sum-scale, sum-swap, sum4, sum4-ext, sum4-swap-first, sum4-swap-middle, sum4-swap-last}
 use Rattle.laws.specs.Permutations.{at, Permutation, at-lt, sum-vertices}
 

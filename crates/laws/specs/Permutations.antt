@@ -1,17 +1,17 @@
 -- A list that holds each vertex once: places and vertices are inverse, and a sum over vertices is the sum over places.
 use Prim.Native.Nat.{ℕ, zero, suc, _+_, _*_, _≤_, _<_, zero-le, suc-le-suc}
-use native.Mathlib.Nat.{add-zero, zero-add, mul-one, le-step, lt-suc-self, not-suc-le-zero, le-of-suc-le-suc}
+use native.Mathlib.Nat.{add-zero, mul-one, not-suc-le-zero, le-of-suc-le-suc}
 use native.Mathlib.Omega.{arith}
-use mathlib.Core.Path.{_≡_, refl, sym, ap, ap₂, _∙_, subst}
+use mathlib.Core.Path.{_≡_, refl, sym, ap, _∙_}
 use mathlib.Core.Bool.{Bool, true, false, cond}
-use mathlib.Core.List.{List, [], _∷_, _++_}
+use mathlib.Core.List.{List, [], _∷_}
 use lib.ListN.{length, getD, take, drop}
 use lib.Seq.{split-at, take-suc, drop-cons}
-use lib.Dec.{T, eqb, ltb, eqb→eq, eqb-refl}
-use borrow.Author.Tests.{eq-eqb, ne-eqb, eqb-true, eqb-false}
-use Rattle.model.specs.Lists.{one, upto, every, sumOver, occurrences, place}
-use Rattle.laws.specs.Indicators.{Order, less, same, more, order, one-eq, one-ne, one-lt, one-ge, one-le, one-sym}
-use Rattle.laws.specs.Sums.{sum, sum-ext, sum-zero, sum-add, sum-scale, sum-const, sum-swap, sum-at, sum-at-right, all-one}
+use lib.Dec.{eqb, ltb}
+use borrow.Author.Tests.{eq-eqb, eqb-true}
+use Rattle.model.specs.Lists.{one, sumOver, occurrences, place}
+use Rattle.laws.specs.Indicators.{less, same, more, order, one-eq, one-ne, one-lt, one-ge, one-le, one-sym}
+use Rattle.laws.specs.Sums.{sum, sum-ext, sum-zero, sum-scale, sum-const, sum-swap, sum-at, sum-at-right, all-one}
 use Rattle.laws.specs.ListSums.{sumOver-append, sumOver-places}
 
 -- the vertex at a place

@@ -2,13 +2,12 @@
 use Prim.Native.Nat.{ℕ, zero, suc, _≤_, _<_}
 use native.Mathlib.Omega.{arith}
 use native.Mathlib.Decide.{ℕ-discrete}
-use mathlib.Core.Path.{_≡_, refl, sym, ap, ap₂, _∙_, subst}
+use mathlib.Core.Path.{_≡_, refl, sym, ap, _∙_, subst}
 use mathlib.Core.Bool.{Bool, true, false, not, cond}
 use mathlib.Core.List.{List, [], _∷_, _++_}
-use lib.Dec.{T, eqb, leb, ltb}
+use lib.Dec.{T, eqb}
 use borrow.Author.Tests.{ltb-true, eqb-false, not-true}
 use Rattle.model.specs.declared.Layout.{Layout}
-use Rattle.model.specs.declared.Changed.{Changed}
 use Rattle.model.specs.Crossings.{linked}
 use Rattle.model.specs.Layouts.{valid}
 use Rattle.model.specs.Checks.{Check, refusal, byRefusal, checked, isValid, isVertex, differ, isUnlinked, isLinked}

@@ -1,5 +1,5 @@
 -- The calls sift, round and settle: what an accepted one may count on and gives, and that a refused one changes nothing.
-use Prim.Native.Nat.{ℕ, zero, suc, _≤_, _<_}
+use Prim.Native.Nat.{ℕ, _≤_, _<_}
 use native.Mathlib.Omega.{arith}
 use mathlib.Core.Path.{_≡_, refl, sym, ap, _∙_}
 use mathlib.Core.Bool.{false}
@@ -14,7 +14,7 @@ use Rattle.model.specs.declared.Converged.{Converged}
 use Rattle.model.specs.Lists.{upto}
 use Rattle.model.specs.Layouts.{valid}
 use Rattle.model.specs.Checks.{refusal, isValid, isVertex, limitFits}
-use Rattle.model.specs.Sifting.{sifted, reduction, siftChecks, siftOf, siftAll, siftRound, roundOf, stopped, afterRound, roundsUpTo, settleChecks, settleOf}
+use Rattle.model.specs.Sifting.{sifted, reduction, siftChecks, siftOf, siftAll, siftRound, roundOf, roundsUpTo, settleChecks, settleOf}
 use Rattle.laws.specs.Indicators.{and-intro, both-left, both-right}
 use Rattle.laws.specs.ListSums.{none, also}
 use Rattle.laws.specs.Refusals.{passed, valid-passed, vertex-passed, all-passed, when-accepted, when-refused, checked-number}

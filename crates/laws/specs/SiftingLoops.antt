@@ -1,28 +1,26 @@
 -- A round as a loop over the vertices, and settling as a loop over rounds.
-use Prim.Native.Nat.{ℕ, zero, suc, _+_, _-_, _≤_, _<_}
-use native.Mathlib.Nat.{add-zero, zero-add, add-comm, add-assoc, le-trans, le-of-eq, le-antisymm, sub-zero, sub-eq-zero-of-le}
+use Prim.Native.Nat.{ℕ, suc, _+_, _-_, _≤_, _<_}
+use native.Mathlib.Nat.{add-zero, zero-add, add-comm, add-assoc, le-antisymm, sub-zero, sub-eq-zero-of-le}
 use native.Mathlib.Numerals.{add-one}
 use native.Mathlib.Omega.{arith}
-use mathlib.Core.Path.{_≡_, refl, sym, ap, ap₂, _∙_, subst}
+use mathlib.Core.Path.{_≡_, refl, sym, ap, ap₂, _∙_}
 use mathlib.Core.Bool.{Bool, true, false, cond}
 use mathlib.Core.List.{List, [], _∷_, _++_}
-use lib.ListN.{take, drop}
-use lib.Dec.{T, eqb, ltb}
+use lib.ListN.{drop}
+use lib.Dec.{T, eqb}
 use borrow.Author.Tests.{eq-eqb, ne-eqb}
 use Rattle.model.specs.declared.Layout.{Layout}
-use Rattle.model.specs.declared.Sifted.{Sifted}
 use Rattle.model.specs.declared.Rounded.{Rounded}
 use Rattle.model.specs.declared.Converged.{Converged}
 use Rattle.model.specs.Lists.{one, upto}
 use Rattle.model.specs.Crossings.{crossings}
-use Rattle.model.specs.Layouts.{vertexOrder, valid, crossingsOf, reordered}
+use Rattle.model.specs.Layouts.{vertexOrder, valid, crossingsOf}
 use Rattle.model.specs.Sifting.{leastCrossings, siftedOrder, sifted, reduction, moves, siftAll, siftRound, afterRound, stopped, roundsUpTo}
-use Rattle.laws.specs.Indicators.{one-le}
-use Rattle.laws.specs.ListSums.{All, all-upto, all-mono}
+use Rattle.laws.specs.ListSums.{all-upto, all-mono}
 use Rattle.laws.specs.Validity.{sound, crossings-bound}
 use Rattle.laws.specs.Recount.{recounted}
 use Rattle.laws.specs.MovedPlaces.{reordered-recounted}
-use Rattle.laws.specs.Sifting.{Improved, sift-least, sift-permutation, sifted-crossings, sifted-reduction, sifted-improved, sifted-less, sift-stays}
+use Rattle.laws.specs.Sifting.{sift-least, sift-permutation, sifted-crossings, sifted-improved, sifted-less, sift-stays}
 use Rattle.laws.specs.SiftingRounds.{proper-sifts, proper-round, rounds-refusal}
 
 -- ---- one sift

@@ -1,27 +1,26 @@
 -- Adding a vertex: the order holds one more, and it has no edges.
-use Prim.Native.Nat.{ℕ, suc, _+_, _≤_, _<_}
+use Prim.Native.Nat.{ℕ, suc, _+_, _<_}
 use native.Mathlib.Decide.{ℕ-discrete}
 use native.Mathlib.Numerals.{add-one}
 use native.Mathlib.Omega.{arith}
-use mathlib.Core.Path.{_≡_, refl, sym, ap, _∙_}
+use mathlib.Core.Path.{_≡_, sym, _∙_}
 use mathlib.Core.List.{List, [], _∷_, _++_}
-use lib.ListN.{length, getD, take, set, length-append}
+use lib.ListN.{length, getD, set, length-append}
 use lib.Dec.{T, eqb}
 use lib.Seq.{take-suc-set}
 use Rattle.model.specs.declared.Layout.{Layout}
 use Rattle.model.specs.Lists.{one, sumOver, occurrences}
-use Rattle.model.specs.Crossings.{bit}
 use Rattle.model.specs.Layouts.{vertexOrder, valid}
 use Rattle.model.specs.Edits.{added}
-use Rattle.laws.specs.Indicators.{Order, less, same, more, order, one-eq, one-ne}
+use Rattle.laws.specs.Indicators.{less, same, more, order, one-eq, one-ne}
 use Rattle.laws.specs.ListSums.{sumOver-append}
 use Rattle.laws.specs.Permutations.{Permutation, none-beyond}
 use Rattle.laws.specs.Pairs.{Symmetric}
 use Rattle.laws.specs.Bits.{bit-beyond}
 use Rattle.laws.specs.EdgeCounts.{weight}
 use Rattle.laws.specs.MaskCount.{weight-bit}
-use Rattle.laws.specs.Validity.{Sound, sound}
-use Rattle.laws.specs.Recount.{Drawn, recounted, recounted-changed}
+use Rattle.laws.specs.Validity.{sound}
+use Rattle.laws.specs.Recount.{recounted, recounted-changed}
 
 -- one more vertex at the end
 pub permutation-more : {n : ℕ} {o : List ℕ} → Permutation n o → Permutation (suc n) (o ++ (n ∷ []))

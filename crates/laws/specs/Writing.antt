@@ -1,14 +1,12 @@
 -- Text written into a list, part after part; and decimal numbers.
-use Prim.Native.Nat.{ℕ, zero, suc, _+_, _*_, _-_, _/_, _%_, _^_, _≤_, _<_, zero-le}
-use native.Mathlib.Nat.{add-assoc, add-zero, zero-add, le-trans, le-refl, lt-of-lt-of-le, div-lt-self, div-lt-iff-lt-mul, mod-lt, zero-lt-suc, not-suc-le-zero, le-of-suc-le-suc, pow-suc}
+use Prim.Native.Nat.{ℕ, zero, suc, _+_, _/_, _%_, _^_, _≤_, _<_}
+use native.Mathlib.Nat.{add-assoc, add-zero, zero-add, lt-of-lt-of-le, div-lt-self, div-lt-iff-lt-mul, not-suc-le-zero, pow-suc}
 use native.Mathlib.Numerals.{add-one}
 use native.Mathlib.Omega.{arith}
-use mathlib.Core.Path.{_≡_, refl, sym, ap, ap₂, _∙_, subst}
-use mathlib.Core.Bool.{Bool, true, false}
+use mathlib.Core.Path.{_≡_, sym, ap, ap₂, _∙_}
 use mathlib.Core.List.{List, [], _∷_, _++_, flatMap, append-assoc, append-nil}
 use lib.ListN.{length, getD, take, drop, set, length-append, length-drop, take-append-drop}
-use lib.Seq.{take-suc, take-at, drop-at, set-split, length-take-le, drop-drop, drop-append-add, take-append-add, split-at}
-use lib.Dec.{ltb}
+use lib.Seq.{take-suc, take-at, set-split, length-take-le, drop-drop, drop-append-add}
 use borrow.Author.Tests.{lt-ltb, le-ltb}
 use Rattle.model.specs.Listing.{decimalIn, decimal}
 use Rattle.laws.specs.Indicators.{Order, less, same, more, order}
