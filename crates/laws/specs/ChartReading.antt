@@ -9,7 +9,7 @@ use lib.ListN.{length, getD, take, drop, List·getD-eq-default}
 use lib.Seq.{ext-getD, getD-take, length-take-le}
 use lib.Dec.{T, eqb, leb, lit<}
 use lib.Arith.{lt-one}
-use borrow.Author.Tests.{le-leb, leb-true, lt-ltb, eq-eqb, eqb-true}
+use borrow.Author.Tests.{le-leb, leb-true, lt-ltb, eqb-true}
 use Rattle.model.specs.declared.ChartRead.{ChartRead}
 use Rattle.model.specs.declared.Layout.{Layout}
 use Rattle.model.specs.Lists.{every, any}
@@ -23,10 +23,10 @@ use Rattle.laws.specs.Permutations.{at, Permutation, at-lt}
 use Rattle.laws.specs.Pairs.{Symmetric}
 use Rattle.laws.specs.EdgeCounts.{weight}
 use Rattle.laws.specs.MaskCount.{vertexAt, countOn, countOn-crossings}
-use Rattle.laws.specs.Validity.{each-once, symmetric-weight}
-use Rattle.laws.specs.Indicators.{both-left, both-right}
+use Rattle.laws.specs.Validity.{beq-self, each-once, symmetric-weight, zero-from}
+use Rattle.laws.specs.Indicators.{T-true, both-left, both-right}
 use Rattle.laws.specs.Refusals.{Numbered, all-pass}
-use Rattle.laws.specs.Every.{every-all, all-kept}
+use Rattle.laws.specs.Every.{every-all}
 use Rattle.laws.specs.ChartEdges.{Ends, joins-none, joins-swap}
 use Rattle.laws.specs.ChartWords.{wordOf-below, adjacencyOf, adjacency-at, adjacency-linked}
 use Rattle.laws.specs.ChartOrder.{padded, padded-length, padded-at}
@@ -104,10 +104,7 @@ module _ {n : ℕ} {links o : List ℕ} (a : Accepted n links o) where
       both u v h l = linked-joins u v h l ∙ joins-swap u v (edgesIn links) ∙ sym (linked-joins v u l h)
 
       same-test : (x y : Bool) → x ≡ y → Bool·beq x y ≡ true
-      same-test true true e = refl
-      same-test false false e = refl
-      same-test true false e = sym e
-      same-test false true e = e
+      same-test x y e = ap (Bool·beq x) (sym e) ∙ T-true (Bool·beq x x) (beq-self x)
 
   is-loopless : loopless n adj ≡ true
   unfolding loopless
@@ -157,21 +154,17 @@ module _ {n : ℕ} {links o : List ℕ} (a : Accepted n links o) where
       (wordOf-below (λ v. any (joins u v) (edgesIn links)) n 64 (a .few) (λ v l. none-outside u v (λ e. omega (arith, e .second)))))))
 
   zero-words : zeroFrom n adj ≡ true
-  unfolding zeroFrom adj
+  unfolding adj
   zero-words =
-      every-all
-      (all-mono (all-kept (λ i. leb n i) (all-upto 64))
-      (λ u k.
-      eq-eqb (getD adj u 0) 0
-      (adjacency-at (edgesIn links) u (k .0)
-      ∙ lt-one (wordOf-below (λ v. any (joins u v) (edgesIn links)) 0 64 (omega arith) (λ v l. none-outside u v (λ e. omega (arith, e .first, leb-true n u (k .1))))))))
+      T-true (zeroFrom n adj)
+      (zero-from n adj
+      (λ u l h.
+      adjacency-at (edgesIn links) u h
+      ∙ lt-one (wordOf-below (λ v. any (joins u v) (edgesIn links)) 0 64 (omega arith) (λ v b. none-outside u v (λ e. omega (arith, e .first))))))
 
   zero-places : zeroFrom n (padded o) ≡ true
-  unfolding zeroFrom
   zero-places =
-      every-all
-      (all-mono (all-kept (λ i. leb n i) (all-upto 64))
-      (λ i k. eq-eqb (getD (padded o) i 0) 0 (padded-at o i (k .0) ∙ List·getD-eq-default o 0 (omega (arith, a .long, leb-true n i (k .1))))))
+      T-true (zeroFrom n (padded o)) (zero-from n (padded o) (λ i l h. padded-at o i h ∙ List·getD-eq-default o 0 (omega (arith, a .long))))
 
   pub valid-read : T (valid (layoutFrom n links o))
   unfolding valid layoutFrom vertexOrder adj

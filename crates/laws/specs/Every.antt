@@ -1,15 +1,15 @@
 -- A test of every entry of a list, or of every number below n, against the entries one by one.
-use Prim.Native.Nat.{ℕ, zero, suc, _+_, _≤_, _<_}
+use Prim.Native.Nat.{ℕ, _+_, _≤_, _<_}
 use native.Mathlib.Nat.{not-suc-le-zero}
 use native.Mathlib.Omega.{arith}
 use mathlib.Core.Path.{_≡_, refl, sym, ap, ap₂, _∙_, subst}
-use mathlib.Core.Bool.{Bool, true, false, cond, _&&_, and-true, and-assoc}
-use mathlib.Core.List.{List, [], _∷_, _++_}
+use mathlib.Core.Bool.{Bool, true, false, cond, _&&_}
+use mathlib.Core.List.{List, [], _∷_}
 use lib.Dec.{T}
 use borrow.Author.Count.{below-more}
 use Rattle.model.specs.Lists.{upto, every, keep}
-use Rattle.laws.specs.Indicators.{less, same, more, order, T-true, not-T-false, and-left, and-right, both-left, both-right}
-use Rattle.laws.specs.ListSums.{All, none, also, all-mono, all-upto}
+use Rattle.laws.specs.Indicators.{T-true, not-T-false, both-left, both-right}
+use Rattle.laws.specs.ListSums.{All, none, also, all-mono, all-upto, all-below}
 
 -- ---- every entry of a list
 
@@ -24,43 +24,11 @@ module _ {A : Type 0} where
   all-every p [] e = none
   all-every p (x ∷ xs) e = also (both-left (p x) (every p xs) e) (all-every p xs (both-right (p x) (every p xs) e))
 
-  -- two tests that agree on the entries
-  pub every-ext : {P : A → Type 0} (p q : A → Bool) {xs : List A} → All P xs → ((x : A) → P x → p x ≡ q x) → every p xs ≡ every q xs
-  unfolding every
-  every-ext p q none h = refl
-  every-ext p q (also {x} t ts) h = ap₂ (λ (a b : Bool). a && b) (h x t) (every-ext p q ts h)
-
-  -- the entries that are kept pass
-  pub all-kept : {P : A → Type 0} (q : A → Bool) {xs : List A} → All P xs → All (λ x. P x × (q x ≡ true)) (keep q xs)
-  unfolding keep
-  all-kept q none = none
-  all-kept {P} q (also {x} {xs} p ps) = by-test (q x) refl (all-kept q ps)
-    where
-      by-test : (b : Bool) → q x ≡ b → All (λ y. P y × (q y ≡ true)) (keep q xs) → All (λ y. P y × (q y ≡ true)) (cond b (x ∷ keep q xs) (keep q xs))
-      by-test true e r = also (p, e) r
-      by-test false e r = r
-
 -- ---- every number below n
-
-every-append : {A : Type 0} (p : A → Bool) (xs ys : List A) → every p (xs ++ ys) ≡ (every p xs && every p ys)
-unfolding every
-every-append p [] ys = refl
-every-append p (x ∷ xs) ys = ap (λ (b : Bool). p x && b) (every-append p xs ys) ∙ sym (and-assoc (p x) (every p xs) (every p ys))
-
-every-next : (p : ℕ → Bool) (n : ℕ) → every p (upto (suc n)) ≡ (every p (upto n) && p n)
-unfolding every upto
-every-next p n = every-append p (upto n) (n ∷ []) ∙ ap (λ (b : Bool). every p (upto n) && b) (and-true (p n))
 
 -- every number below n passes exactly if each does
 pub every-upto : (p : ℕ → Bool) (n : ℕ) → T (every p (upto n)) → (i : ℕ) → i < n → T (p i)
-every-upto p zero t i h = absurd (not-suc-le-zero h)
-every-upto p (suc n) t i h =
-    let u : T (every p (upto n) && p n) = subst T (every-next p n) t in
-    elim (order i n) [
-      | less l ↦ every-upto p n (and-left (every p (upto n)) (p n) u) i l
-      | same e ↦ subst (λ (k : ℕ). T (p k)) (sym e) (and-right (every p (upto n)) (p n) u)
-      | more l ↦ absurd (omega arith)
-    ]
+every-upto p n t i h = subst T (sym (all-below n (all-every p (upto n) (T-true (every p (upto n)) t)) i h)) tt
 
 pub upto-every : (p : ℕ → Bool) (n : ℕ) → ((i : ℕ) → i < n → T (p i)) → T (every p (upto n))
 upto-every p n h = subst T (sym (every-all (all-mono (all-upto n) (λ i l. T-true (p i) (h i l))))) tt

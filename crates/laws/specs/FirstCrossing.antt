@@ -1,6 +1,6 @@
 -- The shown crossing pair: when there is none, that the pair shown does cross, and the search for it over edges listed in two arrays.
 use Prim.Native.Nat.{ℕ, zero, suc, _+_, _-_, _≤_, _<_}
-use native.Mathlib.Nat.{zero-add, le-refl, not-suc-le-zero, le-of-suc-le-suc, le-antisymm}
+use native.Mathlib.Nat.{zero-add, le-refl, not-suc-le-zero, le-antisymm}
 use native.Mathlib.Numerals.{add-one}
 use native.Mathlib.Omega.{arith}
 use mathlib.Core.Path.{_≡_, refl, sym, ap, ap₂, _∙_, subst}
@@ -19,7 +19,7 @@ use Rattle.model.specs.Checks.{refusal, byRefusal, checked, isValid}
 use Rattle.model.specs.Reading.{Shown, pairWith, orElse, firstPair, firstCrossingOf}
 use Rattle.laws.specs.Indicators.{T-true, less, same, more, order as which}
 use Rattle.laws.specs.Sums.{sum}
-use Rattle.laws.specs.ListSums.{All, none, also, length-upto, upto-at}
+use Rattle.laws.specs.ListSums.{All, none, all-at, flatMap-append, length-upto, upto-at}
 use Rattle.laws.specs.Permutations.{Permutation, at-lt, at-of-place, place-of-at, place-below}
 use Rattle.laws.specs.Bound.{sum-more}
 use Rattle.laws.specs.EdgeCounts.{Within, all-edges}
@@ -268,11 +268,6 @@ pub record EdgesListed (n : ℕ) (adj lows highs : List ℕ) (count a : ℕ) : T
   pub highs-size : length highs ≡ 2016
   pub listing : listed lows highs count ≡ flatMap (λ u. edgesFrom (getD adj u 0) u n) (upto a)
 
-flatMap-append : (f : ℕ → List Edge) (xs ys : List ℕ) → flatMap f (xs ++ ys) ≡ flatMap f xs ++ flatMap f ys
-unfolding flatMap
-flatMap-append f [] ys = refl
-flatMap-append f (x ∷ xs) ys = ap (λ (l : List Edge). f x ++ l) (flatMap-append f xs ys) ∙ sym (append-assoc (f x) (flatMap f xs) (flatMap f ys))
-
 -- each two of 64 vertices
 pairs-most : (a : ℕ) → a ≤ 64 → sum a (λ i. 63 - i) ≤ 2016
 unfolding sum
@@ -455,11 +450,6 @@ module _ {n : ℕ} {order : List ℕ} {count : ℕ} {lows highs : List ℕ} wher
     pair-found r q z = row-left r q i ∙ rw (← at-first, second-tested, z)
 
 -- ---- the edges of a layout, listed
-
-all-at : {P : Edge → Type 0} {es : List Edge} (d : Edge) → All P es → (i : ℕ) → i < length es → P (getD es i d)
-all-at d none i h = absurd (not-suc-le-zero h)
-all-at d (also p ps) zero h = p
-all-at d (also p ps) (suc i) h = all-at d ps i (le-of-suc-le-suc h)
 
 -- their ends are vertices
 listed-within : (n : ℕ) (adj lows highs : List ℕ) {count : ℕ} → listed lows highs count ≡ edges n adj

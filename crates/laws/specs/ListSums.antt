@@ -2,9 +2,9 @@
 use Prim.Native.Nat.{ℕ, zero, suc, _+_, _*_, _-_, _≤_, _<_, zero-le, suc-le-suc}
 use native.Mathlib.Nat.{add-zero, le-step, lt-suc-self, not-suc-le-zero, le-of-suc-le-suc}
 use native.Mathlib.Omega.{arith}
-use mathlib.Core.Path.{_≡_, refl, sym, ap, ap₂, _∙_}
+use mathlib.Core.Path.{_≡_, refl, sym, ap, ap₂, _∙_, subst}
 use mathlib.Core.Bool.{Bool, true, false, cond}
-use mathlib.Core.List.{List, [], _∷_, _++_, map, flatMap}
+use mathlib.Core.List.{List, [], _∷_, _++_, map, flatMap, append-assoc}
 use lib.ListN.{length, getD, take, drop, length-append, length-drop, List·getD-append}
 use lib.Seq.{length-take-le, getD-at, getD-take, getD-drop}
 use Rattle.model.specs.Lists.{one, upto, keep, sumOver, sumPairs}
@@ -47,6 +47,11 @@ module _ {A : Type 0} where
       by-test false e = omega arith
 
   -- by place
+  pub all-at : {P : A → Type 0} {xs : List A} (d : A) → All P xs → (i : ℕ) → i < length xs → P (getD xs i d)
+  all-at d none i h = absurd (not-suc-le-zero h)
+  all-at d (also p ps) zero h = p
+  all-at d (also p ps) (suc i) h = all-at d ps i (le-of-suc-le-suc h)
+
   pub sumOver-places : (f : A → ℕ) (d : A) (xs : List A) → sumOver f xs ≡ sum (length xs) (λ i. f (getD xs i d))
   unfolding sumOver sum
   sumOver-places f d [] = refl
@@ -63,6 +68,11 @@ module _ {A : Type 0} where
       (omega (arith, sumOver-ext (λ y. f y x) (f x) ps (λ y q. s y x q p)))
 
 module _ {A B : Type 0} where
+  pub flatMap-append : (f : A → List B) (xs ys : List A) → flatMap f (xs ++ ys) ≡ flatMap f xs ++ flatMap f ys
+  unfolding flatMap
+  flatMap-append f [] ys = refl
+  flatMap-append f (x ∷ xs) ys = ap (λ (l : List B). f x ++ l) (flatMap-append f xs ys) ∙ sym (append-assoc (f x) (flatMap f xs) (flatMap f ys))
+
   pub sumOver-map : (f : B → ℕ) (g : A → B) (xs : List A) → sumOver f (map g xs) ≡ sumOver (λ x. f (g x)) xs
   unfolding sumOver
   sumOver-map f g [] = refl
@@ -122,6 +132,9 @@ upto-at (suc n) i h =
       | same e ↦ getD-at (upto n) n [] 0 i (length-upto n ∙ sym e) ∙ sym e
       | more l ↦ absurd (omega arith)
     ]
+
+pub all-below : {P : ℕ → Type 0} (n : ℕ) → All P (upto n) → (i : ℕ) → i < n → P i
+all-below {P} n a i h = subst P (upto-at n i h) (all-at 0 a i (rw (length-upto n) h))
 
 map-at : (f : ℕ → ℕ) (xs : List ℕ) (i : ℕ) → i < length xs → getD (map f xs) i 0 ≡ f (getD xs i 0)
 map-at f [] i h = absurd (not-suc-le-zero h)

@@ -3,26 +3,26 @@ use Prim.Native.Nat.{ℕ, suc, _+_, _-_, _≤_, _<_}
 use native.Mathlib.Nat.{add-sub-of-le, not-suc-le-zero}
 use native.Mathlib.Decide.{ℕ-discrete}
 use native.Mathlib.Omega.{arith}
-use mathlib.Core.Path.{_≡_, refl, sym, ap, ap₂, _∙_, subst}
+use mathlib.Core.Path.{_≡_, refl, sym, ap, _∙_, subst}
 use mathlib.Core.Bool.{Bool, true, false, not, cond}
 use mathlib.Core.List.{List, [], _∷_, _++_}
 use lib.ListN.{length, take, drop, length-append, length-drop, take-append-drop, List·getD-append}
-use lib.Seq.{split-at, length-take-le, getD-take, getD-drop, getD-at, getD-append-add, take-at, ext-getD}
+use lib.Seq.{split-at, length-take-le, getD-take, getD-drop, getD-at, getD-append-add, take-at}
 use lib.Dec.{T, not-T, eqb, leb, ltb, lt→ltb, eqb→eq}
-use borrow.Author.Tests.{eq-eqb, ne-eqb, lt-ltb, le-ltb, le-leb, lt-leb, leb-true}
+use borrow.Author.Tests.{eq-eqb, ne-eqb, lt-ltb, le-ltb, le-leb, lt-leb}
 use Rattle.model.specs.declared.Layout.{Layout}
 use Rattle.model.specs.declared.Changed.{Changed}
 use Rattle.model.specs.Lists.{one, keep, sumOver, occurrences, place}
 use Rattle.model.specs.Crossings.{crossings}
-use Rattle.model.specs.Layouts.{capacity, vertexOrder, crossingsOf, eachOnce, zeroFrom, valid, modulus, carried, changed, reordered}
+use Rattle.model.specs.Layouts.{vertexOrder, crossingsOf, eachOnce, zeroFrom, valid, modulus, carried, changed, reordered}
 use Rattle.model.specs.Checks.{refusal, isValid, isVertex, differ}
 use Rattle.model.specs.Edits.{changedOr, insertAfter, movedAfter, moveChecks, moveOf}
-use Rattle.laws.specs.Indicators.{less, same, more, order, one-ne, T-true}
-use Rattle.laws.specs.ListSums.{none, also, all-upto, sumOver-append}
-use Rattle.laws.specs.Every.{upto-every, every-ext, all-kept}
-use Rattle.laws.specs.Permutations.{at, Permutation, at-lt, place-lt, place-at, at-of-place, place-below, place-of-at}
+use Rattle.laws.specs.Indicators.{less, same, more, order, one-ne, T-true, bool-ext}
+use Rattle.laws.specs.ListSums.{none, also, sumOver-append}
+use Rattle.laws.specs.Every.{upto-every}
+use Rattle.laws.specs.Permutations.{at, Permutation, place-lt, place-at, at-of-place, place-below}
 use Rattle.laws.specs.Refusals.{Pair, pair-passed, all-passed, when-accepted, when-refused, checked-number}
-use Rattle.laws.specs.Validity.{sound, crossings-bound}
+use Rattle.laws.specs.Validity.{zero-from, zero-from-at, sound, crossings-bound}
 
 -- a list without the vertex a
 abbrev pub without : ℕ → List ℕ → List ℕ
@@ -333,19 +333,6 @@ module _ {n : ℕ} {o : List ℕ} (perm : Permutation n o) (a : ℕ) (ha : a < n
               ∙ entry-back (place o a) (place o b) a o (at-of-place perm a ha) l place-a i
         ]
 
-    -- a list with these entries is the moved list
-    pub moved-is : (xs : List ℕ) → length xs ≡ n → ((i : ℕ) → i < n → at xs i ≡ at o (movedFrom (place o a) (place o b) i)) → xs ≡ movedAfter a b o
-    moved-is xs e h =
-        ext-getD 0 xs (movedAfter a b o) (e ∙ sym (moved-permutation .size)) (λ i l. h i (omega arith) ∙ sym (moved-entry i))
-
--- the same for the vertices at two places
-pub moved-places : {n : ℕ} {o : List ℕ} → Permutation n o → (p q : ℕ) → p < n → q < n → (p ≡ q → ⊥)
-    → (i : ℕ) → at (movedAfter (at o p) (at o q) o) i ≡ at o (movedFrom p q i)
-moved-places {n} {o} perm p q hp hq d i =
-    moved-entry perm (at o p) (at-lt perm p hp) (at o q) (at-lt perm q hq)
-    (λ e. d (sym (place-of-at perm p hp) ∙ ap (place o) e ∙ place-of-at perm q hq)) i
-    ∙ ap₂ (λ (x y : ℕ). at o (movedFrom x y i)) (place-of-at perm p hp) (place-of-at perm q hq)
-
 -- ---- a valid layout with another order
 
 -- the order of a valid layout may be any that holds each vertex once
@@ -354,21 +341,12 @@ unfolding eachOnce
 permutation-eachOnce {n} {o} perm = upto-every (λ v. eqb (occurrences v o) 1) n (λ v h. rw (eq-eqb (occurrences v o) 1 (perm .once v h)) tt)
 
 -- whether the unused places are 0 asks only for these places
-pub zeroFrom-ext : (n : ℕ) (xs ys : List ℕ) → ((i : ℕ) → n ≤ i → at xs i ≡ at ys i) → zeroFrom n xs ≡ zeroFrom n ys
-unfolding zeroFrom
+zeroFrom-ext : (n : ℕ) (xs ys : List ℕ) → ((i : ℕ) → n ≤ i → at xs i ≡ at ys i) → zeroFrom n xs ≡ zeroFrom n ys
 zeroFrom-ext n xs ys h =
-    every-ext (λ i. eqb (at xs i) 0) (λ i. eqb (at ys i) 0) (all-kept (leb n) (all-upto capacity))
-    (λ i k. ap (λ (x : ℕ). eqb x 0) (h i (leb-true n i (k .1))))
+    bool-ext (zeroFrom n xs) (zeroFrom n ys) (λ t. zero-from n ys (λ i b l. sym (h i b) ∙ zero-from-at n xs t i b l))
+    (λ t. zero-from n xs (λ i b l. h i b ∙ zero-from-at n ys t i b l))
 
 module _ (l : Layout) (o : List ℕ) where
-  pub reordered-n : reordered l o .n ≡ l .n
-  unfolding reordered changed
-  reordered-n = refl
-
-  pub reordered-adjacency : reordered l o .adjacency ≡ l .adjacency
-  unfolding reordered changed
-  reordered-adjacency = refl
-
   pub reordered-order : length o ≡ l .n → vertexOrder (reordered l o) ≡ o
   unfolding reordered changed vertexOrder
   reordered-order e = take-at o (drop (l .n) (l .order)) (l .n) e

@@ -29,7 +29,7 @@ use Rattle.laws.specs.Bound.{sum-more, crossingSum-bound}
 
 -- ---- Booleans
 
-beq-self : (a : Bool) → T (Bool·beq a a)
+pub beq-self : (a : Bool) → T (Bool·beq a a)
 beq-self true = tt
 beq-self false = tt
 

@@ -10,6 +10,7 @@ use lib.Seq.{take-suc, take-at, set-split, length-take-le, drop-drop, drop-appen
 use borrow.Author.Tests.{lt-ltb, le-ltb}
 use Rattle.model.specs.Listing.{decimalIn, decimal}
 use Rattle.laws.specs.Indicators.{Order, less, same, more, order}
+use Rattle.laws.specs.ListSums.{flatMap-append}
 
 -- xs with the bytes t written over it from place at on
 unfoldable pub written : List ℕ → ℕ → List ℕ → List ℕ
@@ -110,11 +111,6 @@ decimal-length (suc d) x h = by-size (order x 10) (decimal-length d (x / 10) (di
     by-size (same e) r = longer (omega arith) r
     by-size (more l) r = longer (omega arith) r
 
-flatMap-snoc : (f : ℕ → List ℕ) (ys : List ℕ) (y : ℕ) → flatMap f (ys ++ (y ∷ [])) ≡ flatMap f ys ++ f y
-unfolding flatMap
-flatMap-snoc f [] y = append-nil (f y)
-flatMap-snoc f (x ∷ xs) y = ap (λ (l : List ℕ). f x ++ l) (flatMap-snoc f xs y) ∙ sym (append-assoc (f x) (flatMap f xs) (f y))
-
 -- ---- parts written one after the other
 
 -- the text has been written over the bytes of start from a place on, and at is where it ends
@@ -143,8 +139,10 @@ written-whole {start} {s} w = (w .held ∙ ap (λ (k : ℕ). s ++ drop k start) 
 
 -- a function of each entry, one entry more
 pub flatMap-next : (f : ℕ → List ℕ) (xs : List ℕ) (i : ℕ) → i < length xs → flatMap f (take (i + 1) xs) ≡ flatMap f (take i xs) ++ f (getD xs i 0)
+unfolding flatMap
 flatMap-next f xs i h =
-    ap (λ (k : ℕ). flatMap f (take k xs)) (add-one i) ∙ ap (flatMap f) (take-suc xs i 0 h) ∙ flatMap-snoc f (take i xs) (getD xs i 0)
+    ap (λ (k : ℕ). flatMap f (take k xs)) (add-one i) ∙ ap (flatMap f) (take-suc xs i 0 h) ∙ flatMap-append f (take i xs) (getD xs i 0 ∷ [])
+    ∙ ap (λ (l : List ℕ). flatMap f (take i xs) ++ l) (append-nil (f (getD xs i 0)))
 
 -- one more byte of a text
 pub written-next : (xs : List ℕ) (at : ℕ) (t : List ℕ) (i : ℕ) → i < length t → at + length t ≤ length xs
