@@ -1,10 +1,8 @@
--- Lists and tests, for charts.
+-- Some entry of a list passes, and no two entries are alike: with one entry more, or some.
 use mathlib.Core.Path.{_≡_, refl, sym, ap, _∙_}
 use mathlib.Core.Bool.{Bool, true, false, not, _&&_, _||_, true≢false, and-false, or-assoc, or-true, or-false}
 use mathlib.Core.List.{List, [], _∷_, _++_}
 use Rattle.model.specs.Lists.{any, noRepeats}
-
--- ---- some entry passes, and no repeats: one entry after the other
 
 module _ {A : Type 0} where
   any-append : (p : A → Bool) (xs ys : List A) → any p (xs ++ ys) ≡ (any p xs || any p ys)

@@ -7,7 +7,7 @@ use mathlib.Core.Path.{_≡_, refl, sym, ap, _∙_, subst}
 use mathlib.Core.Bool.{Bool, true, false, not, cond}
 use mathlib.Core.List.{List, [], _∷_, _++_}
 use lib.ListN.{length, take, drop, length-append, length-drop, take-append-drop, List·getD-append}
-use lib.Seq.{split-at, length-take-le, getD-take, getD-drop, getD-at, getD-append-add, take-at}
+use lib.Seq.{length-take-le, getD-take, getD-drop, getD-at, getD-append-add, take-at}
 use lib.Dec.{T, not-T, eqb, leb, ltb, lt→ltb, eqb→eq}
 use borrow.Author.Tests.{eq-eqb, ne-eqb, lt-ltb, le-ltb, le-leb, lt-leb}
 use Rattle.model.specs.declared.Layout.{Layout}
@@ -18,11 +18,10 @@ use Rattle.model.specs.Layouts.{vertexOrder, crossingsOf, eachOnce, zeroFrom, v
 use Rattle.model.specs.Checks.{refusal, isValid, isVertex, differ}
 use Rattle.model.specs.Edits.{changedOr, insertAfter, movedAfter, moveChecks, moveOf}
 use Rattle.laws.specs.Indicators.{less, same, more, order, one-ne, T-true, bool-ext}
-use Rattle.laws.specs.ListSums.{none, also, sumOver-append}
-use Rattle.laws.specs.Every.{upto-every}
-use Rattle.laws.specs.Permutations.{at, Permutation, place-lt, place-at, at-of-place, place-below}
+use Rattle.laws.specs.ListSums.{none, also}
+use Rattle.laws.specs.Permutations.{at, occurrences-cons, occurrences-append, occurrences-split, Permutation, place-lt, place-at, at-of-place, place-below}
 use Rattle.laws.specs.Refusals.{Pair, pair-passed, all-passed, when-accepted, when-refused, checked-number}
-use Rattle.laws.specs.Validity.{zero-from, zero-from-at, sound, crossings-bound}
+use Rattle.laws.specs.Validity.{permutation-eachOnce, zero-from, zero-from-at, sound, crossings-bound}
 
 -- a list without the vertex a
 abbrev pub without : ℕ → List ℕ → List ℕ
@@ -101,15 +100,6 @@ inserted-place b a (x ∷ xs) h = by-test (eqb b x) h (inserted-place b a xs)
     by-test true k r = refl
     by-test false k r = ap (λ (ys : List ℕ). x ∷ ys) (r (omega arith))
 
--- how often v occurs in lists put together
-pub occurrences-append : (v : ℕ) (xs ys : List ℕ) → occurrences v (xs ++ ys) ≡ occurrences v xs + occurrences v ys
-unfolding occurrences
-occurrences-append v xs ys = sumOver-append (λ x. one (eqb v x)) xs ys
-
-occurrences-cons : (v x : ℕ) (xs : List ℕ) → occurrences v (x ∷ xs) ≡ one (eqb v x) + occurrences v xs
-unfolding occurrences sumOver
-occurrences-cons v x xs = refl
-
 -- taking out the entry at a place, and putting one in, by length and by how often each vertex occurs
 length-takenOut : (p : ℕ) (o : List ℕ) → p < length o → suc (length (takenOut p o)) ≡ length o
 length-takenOut p o h = rw (length-append (take p o) (drop (suc p) o), length-take-le p o (omega arith), length-drop (suc p) o) (omega arith)
@@ -118,9 +108,7 @@ length-putIn : (r a : ℕ) (xs : List ℕ) → r ≤ length xs → length (putIn
 length-putIn r a xs h = rw (length-append (take r xs) (a ∷ drop r xs), length-take-le r xs h, length-drop r xs) (omega arith)
 
 occurrences-takenOut : (v p : ℕ) (o : List ℕ) → p < length o → occurrences v o ≡ one (eqb v (at o p)) + occurrences v (takenOut p o)
-occurrences-takenOut v p o h =
-    ap (occurrences v) (split-at o p 0 h)
-    ∙ rw (occurrences-append v (take p o) (at o p ∷ drop (suc p) o), occurrences-cons v (at o p) (drop (suc p) o), occurrences-append v (take p o) (drop (suc p) o)) (omega arith)
+occurrences-takenOut v p o h = occurrences-split v o p h ∙ rw (occurrences-append v (take p o) (drop (suc p) o)) (omega arith)
 
 occurrences-putIn : (v r a : ℕ) (xs : List ℕ) → occurrences v (putIn r a xs) ≡ one (eqb v a) + occurrences v xs
 occurrences-putIn v r a xs =
@@ -334,11 +322,6 @@ module _ {n : ℕ} {o : List ℕ} (perm : Permutation n o) (a : ℕ) (ha : a < n
         ]
 
 -- ---- a valid layout with another order
-
--- the order of a valid layout may be any that holds each vertex once
-pub permutation-eachOnce : {n : ℕ} {o : List ℕ} → Permutation n o → T (eachOnce n o)
-unfolding eachOnce
-permutation-eachOnce {n} {o} perm = upto-every (λ v. eqb (occurrences v o) 1) n (λ v h. rw (eq-eqb (occurrences v o) 1 (perm .once v h)) tt)
 
 -- whether the unused places are 0 asks only for these places
 zeroFrom-ext : (n : ℕ) (xs ys : List ℕ) → ((i : ℕ) → n ≤ i → at xs i ≡ at ys i) → zeroFrom n xs ≡ zeroFrom n ys

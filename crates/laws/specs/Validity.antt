@@ -69,6 +69,10 @@ each-once n o h t =
         (λ i l. le-trans (le-of-eq (sum-hits n (at o i))) (one-le (ltb (at o i) n))))
         (le-of-eq (sum-const (length o) 1 ∙ mul-one (length o)))
 
+pub permutation-eachOnce : {n : ℕ} {o : List ℕ} → Permutation n o → T (eachOnce n o)
+unfolding eachOnce
+permutation-eachOnce {n} {o} perm = upto-every (λ v. eqb (occurrences v o) 1) n (λ v h. rw (eq-eqb (occurrences v o) 1 (perm .once v h)) tt)
+
 beq-eq : (a b : Bool) → T (Bool·beq a b) → a ≡ b
 beq-eq true true t = refl
 beq-eq true false t = absurd t
