@@ -9,7 +9,7 @@ use lib.Dec.{eqb, ltb}
 use borrow.Author.Tests.{eq-eqb, ne-eqb, lt-ltb, le-ltb}
 use Rattle.model.specs.Lists.{one, any, noRepeats}
 use Rattle.model.specs.Crossings.{between, alternate}
-use Rattle.laws.specs.Indicators.{less, same, more, order, eqb-swap, one-and, one-not-or}
+use Rattle.laws.specs.Indicators.{less, same, more, order, eqb-swap, beq-comm, one-and, one-not-or}
 
 -- 1 if an edge with ends at places p and q crosses one with ends at r and s
 unfoldable pub cross : ℕ → ℕ → ℕ → ℕ → ℕ
@@ -59,10 +59,7 @@ module _ (p q r s : ℕ) (pq : p < q) (rs : r < s) where
 
 xor-comm : (a b : Bool) → xor a b ≡ xor b a
 unfolding xor
-xor-comm true true = refl
-xor-comm true false = refl
-xor-comm false true = refl
-xor-comm false false = refl
+xor-comm a b = ap not (beq-comm a b)
 
 -- 1 if two places are different
 apart : ℕ → ℕ → ℕ

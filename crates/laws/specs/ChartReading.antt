@@ -23,8 +23,8 @@ use Rattle.laws.specs.Permutations.{at, Permutation, at-lt}
 use Rattle.laws.specs.Pairs.{Symmetric}
 use Rattle.laws.specs.EdgeCounts.{weight}
 use Rattle.laws.specs.MaskCount.{vertexAt, countOn, countOn-crossings}
-use Rattle.laws.specs.Validity.{beq-self, each-once, symmetric-weight, zero-from}
-use Rattle.laws.specs.Indicators.{T-true, both-left, both-right}
+use Rattle.laws.specs.Validity.{each-once, symmetric-weight, zero-from}
+use Rattle.laws.specs.Indicators.{T-true, beq-self, both-left, both-right}
 use Rattle.laws.specs.Refusals.{Numbered, all-pass}
 use Rattle.laws.specs.Every.{every-all}
 use Rattle.laws.specs.ChartEdges.{Ends, joins-none, joins-swap}

@@ -3,7 +3,7 @@ use Prim.Native.Nat.{ℕ, _*_, _≤_, _<_}
 use native.Mathlib.Decide.{decLt, ℕ-discrete}
 use native.Mathlib.Omega.{arith}
 use mathlib.Core.Path.{_≡_, refl, sym, ap, _∙_}
-use mathlib.Core.Bool.{Bool, true, false, not, _&&_, _||_, and-eq-true-iff}
+use mathlib.Core.Bool.{Bool, true, false, Bool·beq, not, _&&_, _||_, and-eq-true-iff}
 use lib.Dec.{T, eqb, ltb}
 use borrow.Author.Tests.{eq-eqb, ne-eqb, lt-ltb, le-ltb, not-true, not-false}
 use Rattle.model.specs.Lists.{one}
@@ -97,6 +97,23 @@ both-left a b e = and-eq-true-iff a b .0 e .0
 
 pub both-right : (a b : Bool) → (a && b) ≡ true → b ≡ true
 both-right a b e = and-eq-true-iff a b .0 e .1
+
+-- two tests agree
+pub beq-self : (a : Bool) → T (Bool·beq a a)
+beq-self true = tt
+beq-self false = tt
+
+pub beq-eq : (a b : Bool) → T (Bool·beq a b) → a ≡ b
+beq-eq true true t = refl
+beq-eq true false t = absurd t
+beq-eq false true t = absurd t
+beq-eq false false t = refl
+
+pub beq-comm : (a b : Bool) → Bool·beq a b ≡ Bool·beq b a
+beq-comm true true = refl
+beq-comm true false = refl
+beq-comm false true = refl
+beq-comm false false = refl
 
 -- a test that a call found to hold, and one that it found not to, where code asks for the opposite
 pub passed : {r p : Bool} → r ≡ p → not r ≡ false → p ≡ true

@@ -17,7 +17,7 @@ use Rattle.model.specs.Crossings.{bit, linked}
 use Rattle.model.specs.Edits.{withBit}
 use Rattle.laws.specs.Bits.{bit-lt, bit-beyond, set-same, set-other}
 use Rattle.model.specs.Layouts.{capacity, vertexOrder, crossingsOf, eachOnce, zeroFrom, symmetric, loopless, bitsBelow, valid}
-use Rattle.laws.specs.Indicators.{one-eq, one-ne, one-lt, T-true, less, same, more, order, and-left, and-right, one-le, bool-ext, not-T-false}
+use Rattle.laws.specs.Indicators.{one-eq, one-ne, one-lt, T-true, less, same, more, order, and-left, and-right, one-le, bool-ext, not-T-false, beq-self, beq-eq, beq-comm}
 use Rattle.laws.specs.Every.{every-upto, upto-every, upto-fails, every-keep}
 use Rattle.laws.specs.Sums.{sum, sum-ext, sum-const, sum-swap, sum-mono, all-one}
 use Rattle.laws.specs.ListSums.{sumOver-take}
@@ -26,18 +26,6 @@ use Rattle.laws.specs.Pairs.{pairSum, Symmetric}
 use Rattle.laws.specs.Counting.{crossingSum, placed, crossingSum-counted}
 use Rattle.laws.specs.EdgeCounts.{weight, crossings-sum}
 use Rattle.laws.specs.Bound.{sum-more, crossingSum-bound}
-
--- ---- Booleans
-
-pub beq-self : (a : Bool) → T (Bool·beq a a)
-beq-self true = tt
-beq-self false = tt
-
-beq-comm : (a b : Bool) → Bool·beq a b ≡ Bool·beq b a
-beq-comm true true = refl
-beq-comm true false = refl
-beq-comm false true = refl
-beq-comm false false = refl
 
 -- a bit that is not 1 is 0
 pub not-one-bit : (b : ℕ) → b < 2 → eqb b 1 ≡ false → b ≡ 0
@@ -72,12 +60,6 @@ each-once n o h t =
 pub permutation-eachOnce : {n : ℕ} {o : List ℕ} → Permutation n o → T (eachOnce n o)
 unfolding eachOnce
 permutation-eachOnce {n} {o} perm = upto-every (λ v. eqb (occurrences v o) 1) n (λ v h. rw (eq-eqb (occurrences v o) 1 (perm .once v h)) tt)
-
-beq-eq : (a b : Bool) → T (Bool·beq a b) → a ≡ b
-beq-eq true true t = refl
-beq-eq true false t = absurd t
-beq-eq false true t = absurd t
-beq-eq false false t = refl
 
 not-one : (b : Bool) → T (not b) → one b ≡ 0
 unfolding one
