@@ -1,6 +1,6 @@
 -- Reading a chart: the passes together, and what an accepted chart gives.
-use Prim.Native.Nat.{ℕ, zero, suc, _^_, _%_, _≤_, _<_}
-use native.Mathlib.Nat.{le-of-eq, lt-of-lt-of-le, mod-eq-of-lt, not-suc-le-zero}
+use Prim.Native.Nat.{ℕ, zero, suc, _^_, _≤_, _<_}
+use native.Mathlib.Nat.{le-of-eq, lt-of-lt-of-le, not-suc-le-zero}
 use native.Mathlib.Omega.{arith}
 use mathlib.Core.Path.{_≡_, refl, sym, ap, _∙_}
 use mathlib.Core.Bool.{Bool, true, false, Bool·beq, not, cond, true≢false, false≢true}
@@ -19,12 +19,13 @@ use Rattle.model.specs.Checks.{Check, refusal, byRefusal, checked}
 use Rattle.model.specs.Charts.{bodyOf, chartSize, chartEdges, chartOrder, edgesIn, edgeWithin, joins, chartChecks, chartLayout, readOf}
 use Rattle.model.specs.Charts.{Answer, accept, refuse, answer, divisionAnswer, bodiesAnswer, sizeChecks, sizeAnswer, endChecks, repeatChecks, placeChecks}
 use Rattle.laws.specs.ListSums.{All, none, also, all-mono, all-upto}
-use Rattle.laws.specs.Permutations.{at, Permutation, at-lt}
+use Rattle.laws.specs.Permutations.{Permutation}
 use Rattle.laws.specs.Pairs.{Symmetric}
 use Rattle.laws.specs.EdgeCounts.{weight}
-use Rattle.laws.specs.MaskCount.{vertexAt, countOn, countOn-crossings}
+use Rattle.laws.specs.MaskCount.{countOn}
 use Rattle.laws.specs.Validity.{each-once, symmetric-weight, zero-from}
 use Rattle.laws.specs.Indicators.{T-true, beq-self, both-left, both-right}
+use Rattle.laws.specs.Recount.{counted, counted-crossings}
 use Rattle.laws.specs.Refusals.{Numbered, all-pass}
 use Rattle.laws.specs.Every.{every-all}
 use Rattle.laws.specs.ChartEdges.{Ends, joins-none, joins-swap}
@@ -116,16 +117,6 @@ module _ {n : ℕ} {links o : List ℕ} (a : Accepted n links o) where
   symmetry : Symmetric n (weight adj)
   symmetry = symmetric-weight n adj (rw is-symmetric tt) (rw is-loopless tt)
 
-  same-vertex : (j : ℕ) → j < n → vertexAt (padded o) j ≡ at o j
-  unfolding vertexAt
-  same-vertex j h =
-      ap (λ (x : ℕ). x % 64) (padded-at o j (lt-of-lt-of-le h (a .few))) ∙ mod-eq-of-lt (lt-of-lt-of-le (at-lt permutation j h) (a .few))
-
-  -- what the counter counts
-  pub count-read : cond (leb n 64) (countOn n (padded o) (adjacencyOf (edgesIn links))) 0 ≡ crossings n o (adjacencyOf (edgesIn links))
-  unfolding adj
-  count-read = rw (le-leb n 64 (a .few)) (countOn-crossings n (padded o) o (a .few) permutation same-vertex (adjacencyOf (edgesIn links)) symmetry)
-
   -- the first n places of the array
   front : take n (padded o) ≡ o
   front =
@@ -136,6 +127,13 @@ module _ {n : ℕ} {links o : List ℕ} (a : Accepted n links o) where
     where
       sized : length (take n (padded o)) ≡ n
       sized = length-take-le n (padded o) (omega (arith, padded-length o, a .few))
+
+  -- what the counter counts
+  pub count-read : cond (leb n 64) (countOn n (padded o) (adjacencyOf (edgesIn links))) 0 ≡ crossings n o (adjacencyOf (edgesIn links))
+  unfolding adj counted
+  count-read =
+      counted-crossings (record { small = a .few; permutation = rw front permutation; symmetry = symmetry })
+      ∙ ap (λ (x : List ℕ). crossings n x (adjacencyOf (edgesIn links))) front
 
   pub count-true : layoutFrom n links o .count ≡ crossingsOf (layoutFrom n links o)
   unfolding layoutFrom crossingsOf vertexOrder

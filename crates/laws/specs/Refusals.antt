@@ -11,10 +11,10 @@ use Rattle.model.specs.declared.Layout.{Layout}
 use Rattle.model.specs.Crossings.{linked}
 use Rattle.model.specs.Layouts.{valid}
 use Rattle.model.specs.Checks.{Check, refusal, byRefusal, checked, isValid, isVertex, differ, isUnlinked, isLinked}
+use Rattle.model.specs.Edits.{changedOr, moveChecks, linkChecks, unlinkChecks}
 use Rattle.laws.specs.Indicators.{T-true}
 use Rattle.laws.specs.ListSums.{All, none, also}
 use Rattle.laws.specs.Validity.{sound}
-use Rattle.model.specs.Edits.{changedOr, moveChecks, linkChecks, unlinkChecks}
 
 -- ---- lists of checks
 

@@ -49,8 +49,7 @@ module _ (l : Layout) (u : ℕ) where
 
   pub sift-refused : (siftOf l u .refusal ≡ 0 → ⊥) → siftOf l u ≡ record { refusal = siftOf l u .refusal; layout = l; reduction = 0 }
   unfolding siftOf
-  sift-refused d =
-      when-refused (siftChecks l u) siftAnswer siftRefusal sift-number d
+  sift-refused d = when-refused (siftChecks l u) siftAnswer siftRefusal sift-number d
 
   -- an accepted sift
   pub sift-call : siftOf l u .refusal ≡ 0
@@ -91,8 +90,7 @@ module _ (l : Layout) where
 
   pub round-refused : (roundOf l .refusal ≡ 0 → ⊥) → roundOf l ≡ record { refusal = roundOf l .refusal; layout = l; reduction = 0; moved = 0 }
   unfolding roundOf
-  round-refused d =
-      when-refused (isValid l ∷ []) (siftRound l) roundRefusal round-number d
+  round-refused d = when-refused (isValid l ∷ []) (siftRound l) roundRefusal round-number d
 
   -- an accepted round
   pub round-call : roundOf l .refusal ≡ 0 → ProperRound l × (roundOf l ≡ siftRound l)
@@ -132,8 +130,7 @@ module _ (l : Layout) (limit : ℕ) where
   pub settle-refused : (settleOf l limit .refusal ≡ 0 → ⊥)
       → settleOf l limit ≡ record { refusal = settleOf l limit .refusal; layout = l; reduction = 0; rounds = 0; converged = false }
   unfolding settleOf
-  settle-refused d =
-      when-refused (settleChecks l limit) (roundsUpTo limit l) settleRefusal settle-number d
+  settle-refused d = when-refused (settleChecks l limit) (roundsUpTo limit l) settleRefusal settle-number d
 
   -- an accepted settling
   pub settle-call : settleOf l limit .refusal ≡ 0
