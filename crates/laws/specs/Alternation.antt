@@ -1,15 +1,15 @@
 -- When two edges cross, by the places of their ends.
-use Prim.Native.Nat.{ℕ, _+_, _*_, _≤_, _<_}
+use Prim.Native.Nat.{ℕ, _+_, _*_, _<_}
 use native.Mathlib.Nat.{add-comm}
 use native.Mathlib.Omega.{arith}
 use mathlib.Core.Path.{_≡_, refl, sym, ap, ap₂, _∙_}
-use mathlib.Core.Bool.{Bool, true, false, not, xor, _&&_, _||_}
-use mathlib.Core.List.{List, [], _∷_}
+use mathlib.Core.Bool.{Bool, true, false, not, xor, _&&_, _||_, or-false, or-comm}
+use mathlib.Core.List.{[], _∷_}
 use lib.Dec.{eqb, ltb}
 use borrow.Author.Tests.{eq-eqb, ne-eqb, lt-ltb, le-ltb}
 use Rattle.model.specs.Lists.{one, any, noRepeats}
 use Rattle.model.specs.Crossings.{between, alternate}
-use Rattle.laws.specs.Indicators.{Order, less, same, more, order, one-and, one-not-or, one-sym}
+use Rattle.laws.specs.Indicators.{less, same, more, order, eqb-swap, beq-comm, one-and, one-not-or}
 
 -- 1 if an edge with ends at places p and q crosses one with ends at r and s
 unfoldable pub cross : ℕ → ℕ → ℕ → ℕ → ℕ
@@ -28,10 +28,6 @@ between-ordered p q x l =
       | same e ↦ rw (le-ltb q x (omega arith)) (or-false (ltb p x && ltb x q))
       | more b ↦ rw (lt-ltb q x b, le-ltb x p (omega arith)) (or-false (ltb p x && ltb x q))
     ]
-  where
-    or-false : (b : Bool) → (b || false) ≡ b
-    or-false true = refl
-    or-false false = refl
 
 module _ (p q r s : ℕ) (pq : p < q) (rs : r < s) where
   -- each edge's lower place first: they cross when the places rise in turn, from one edge or from the other
@@ -61,18 +57,9 @@ module _ (p q r s : ℕ) (pq : p < q) (rs : r < s) where
 
 -- ---- the ends and the edges may be exchanged
 
-or-comm : (a b : Bool) → (a || b) ≡ (b || a)
-or-comm true true = refl
-or-comm true false = refl
-or-comm false true = refl
-or-comm false false = refl
-
 xor-comm : (a b : Bool) → xor a b ≡ xor b a
 unfolding xor
-xor-comm true true = refl
-xor-comm true false = refl
-xor-comm false true = refl
-xor-comm false false = refl
+xor-comm a b = ap not (beq-comm a b)
 
 -- 1 if two places are different
 apart : ℕ → ℕ → ℕ
@@ -80,12 +67,7 @@ apart a b = one (not (eqb a b))
 
 apart-sym : (a b : ℕ) → apart a b ≡ apart b a
 unfolding apart
-apart-sym a b =
-    elim (order a b) [
-      | less l ↦ ap (λ (t : Bool). one (not t)) (ne-eqb a b (λ e. omega arith) ∙ sym (ne-eqb b a (λ e. omega arith)))
-      | same e ↦ ap (λ (t : Bool). one (not t)) (eq-eqb a b e ∙ sym (eq-eqb b a (sym e)))
-      | more l ↦ ap (λ (t : Bool). one (not t)) (ne-eqb a b (λ e. omega arith) ∙ sym (ne-eqb b a (λ e. omega arith)))
-    ]
+apart-sym a b = ap (λ (t : Bool). one (not t)) (eqb-swap a b)
 
 apart-self : (a : ℕ) → apart a a ≡ 0
 unfolding apart one

@@ -1,12 +1,12 @@
 -- The bits of a word: what setting and clearing one does to the others, and counts of ones as sums.
-use Prim.Native.Nat.{ℕ, zero, suc, _+_, _*_, _-_, _/_, _%_, _^_, _≤_, _<_, min}
-use native.Mathlib.Nat.{add-zero, mul-one, zero-mul, one-mul, pow-suc, pow-succ', div-one, mod-lt, mod-le, div-add-mod', div-mul-le-self, div-div-eq-div-mul, div-eq-of-lt, zero-mod, mul-le-mul-right, zero-lt-suc, le-trans, lt-of-lt-of-le, le-of-eq, le-of-suc-le-suc, mul-le-mul}
+use Prim.Native.Nat.{ℕ, zero, suc, _+_, _*_, _-_, _/_, _%_, _^_, _≤_, _<_}
+use native.Mathlib.Nat.{zero-mul, one-mul, pow-suc, pow-succ', div-one, mod-lt, mod-le, div-add-mod', div-mul-le-self, div-div-eq-div-mul, div-eq-of-lt, mul-le-mul-right, zero-lt-suc, le-trans, lt-of-lt-of-le, le-of-eq, le-of-suc-le-suc, mul-le-mul}
 use native.Mathlib.Omega.{arith}
 use mathlib.Core.Path.{_≡_, refl, sym, ap, ap₂, _∙_, subst}
 use lib.Arith.{lt-one, digits-div, digits-mod}
 use lib.Pow.{pow-mono, shr-lt, shl-exact}
-use lib.Bits.{bitAnd, bitOr, and-shr, and-mod, and-high, and-le-l, or-add-and, or-lt}
-use lib.Count.{ones, ones-step, ones-le}
+use lib.Bits.{bitAnd, bitOr, and-shr, and-mod, and-high, and-le-l, or-add-and}
+use lib.Count.{ones, ones-step}
 use lib.Dec.{lit<, ltb}
 use mathlib.Core.Bool.{Bool, cond}
 use borrow.Author.Tests.{lt-ltb}

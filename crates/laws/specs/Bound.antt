@@ -1,11 +1,11 @@
 -- How many crossings a layout of n vertices can have, and that complete graphs have as many. Over any weight of at most c.
-use Prim.Native.Nat.{ℕ, zero, suc, _+_, _*_, _-_, _≤_, _<_}
+use Prim.Native.Nat.{ℕ, suc, _+_, _*_, _-_, _≤_, _<_}
 use native.Mathlib.Nat.{le-refl, le-trans, le-of-eq, le-antisymm, mul-le-mul, mul-le-mul-left, add-sub-of-le, le-add-right}
 use native.Mathlib.Omega.{arith}
 use mathlib.Core.Path.{_≡_, refl, sym, ap, ap₂, _∙_}
 use lib.Dec.{ltb}
 use Rattle.model.specs.Lists.{one}
-use Rattle.laws.specs.Indicators.{Order, less, same, more, order, one-ge}
+use Rattle.laws.specs.Indicators.{less, same, more, order, one-ge}
 use Rattle.laws.specs.Sums.{sum, sum-const, sum-cut, sum-below, sum-above, sum-mono}
 use Rattle.laws.specs.Pairs.{pairSum, pairSum-ext, pairSum-scale}
 use Rattle.laws.specs.Counting.{crossingSum, crossingSum-counted}

@@ -1,5 +1,5 @@
 -- The edges of a chart, read one after the other, and whether each pair is written only once.
-use Prim.Native.Nat.{ℕ, _+_, _-_, _%_, _≤_, _<_, zero-le, min, max}
+use Prim.Native.Nat.{ℕ, _+_, _%_, _≤_, _<_, zero-le, min, max}
 use native.Mathlib.Nat.{add-suc, min-comm, max-comm, lt-of-lt-of-le}
 use native.Mathlib.Numerals.{add-one}
 use native.Mathlib.Decide.{ℕ-discrete}
@@ -16,9 +16,9 @@ use Rattle.model.specs.declared.Asked.the-variants as asks
 use Rattle.model.specs.Lists.{every, any}
 use Rattle.model.specs.Checks.{refusal, byRefusal, checked}
 use Rattle.model.specs.Charts.{edgesIn, sameEdge, edgeWithin, joins, asked, answer, endChecks}
-use Rattle.laws.specs.Indicators.{less, same, more, order}
+use Rattle.laws.specs.Indicators.{less, same, more, order, both-left, both-right}
 use Rattle.laws.specs.ListSums.{All, none, also, all-mono}
-use Rattle.laws.specs.ChartLists.{both-left, both-right, every-all, all-every}
+use Rattle.laws.specs.Every.{every-all, all-every}
 
 -- ---- an edge with two ends
 

@@ -16,9 +16,8 @@ use Rattle.model.specs.declared.BodiesFound.the-variants as bodies
 use Rattle.model.specs.declared.SizeFound.the-variants as size
 use Rattle.model.specs.Checks.{refusal, byRefusal, checked}
 use Rattle.model.specs.Charts.{Field, Fields, bodyLength, startsWithField, firstField, fieldsIn, fieldsOf, bodyOf, sameList, chartChecks}
-use Rattle.laws.specs.Indicators.{Order, less, same, more, order}
+use Rattle.laws.specs.Indicators.{Order, less, same, more, order, both-right}
 use Rattle.model.specs.Charts.{Answer, accept, refuse, asked, fieldFound, bodiesFound, answer, fieldAnswer, divisionAnswer, bodiesAnswer, sizeFound, sizeChecks, sizeAnswer}
-use Rattle.laws.specs.ChartLists.{both-right}
 
 -- what is behind the first field
 unfoldable pub behindField : List ℕ → List ℕ

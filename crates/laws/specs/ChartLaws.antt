@@ -1,5 +1,5 @@
 -- What reading a chart gives: a valid layout with its true crossings, whatever the sequence in which the edges are written.
-use Prim.Native.Nat.{ℕ, zero, suc, _<_}
+use Prim.Native.Nat.{ℕ}
 use mathlib.Core.Path.{_≡_, refl, sym, ap, ap₂, _∙_, subst}
 use mathlib.Core.Bool.{Bool, true, _&&_, _||_}
 use mathlib.Core.List.{List, [], _∷_}
@@ -11,28 +11,26 @@ use Rattle.model.specs.declared.ChartRead.{ChartRead}
 use Rattle.model.specs.declared.Layout.{Layout}
 use Rattle.model.specs.Lists.{one, any}
 use Rattle.model.specs.Layouts.{eachOnce, crossingsOf, valid}
-use Rattle.model.specs.Checks.{refusal, byRefusal, checked}
+use Rattle.model.specs.Checks.{refusal}
 use Rattle.model.specs.Charts.{bodyOf, chartSize, chartEdges, chartOrder, sameEdge, joins, chartChecks, chartLayout, readOf}
 use Rattle.laws.specs.ListSums.{All, none, also}
-use Rattle.laws.specs.ChartLists.{both-left, both-right, eqb-swap}
+use Rattle.laws.specs.Refusals.{Numbered, all-pass, when-accepted, checked-number}
+use Rattle.laws.specs.Indicators.{both-left, both-right, eqb-swap}
 use Rattle.laws.specs.ChartEdges.{edge}
 use Rattle.laws.specs.ChartWords.{adjacencyOf, adjacency-length, adjacency-bit, adjacency-lt, adjacency-ext}
-use Rattle.laws.specs.ChartReading.{Numbered, all-pass, layoutFrom, Accepted, valid-read, count-true, refusedRead}
+use Rattle.laws.specs.ChartReading.{layoutFrom, Accepted, valid-read, count-true, refusedRead}
 
 -- ---- an accepted chart
 
 -- no question has a number to give
 accepted-checks : (s : List ℕ) → readOf s .refusal ≡ 0 → refusal (chartChecks s) ≡ 0
-unfolding readOf checked byRefusal refusedRead
-accepted-checks s = by-number (refusal (chartChecks s))
-  where
-    by-number : (k : ℕ) → byRefusal {A = ChartRead} k (record { refusal = 0; layout = chartLayout s }) refusedRead .refusal ≡ 0 → k ≡ 0
-    by-number zero e = refl
-    by-number (suc k) e = e
+unfolding readOf refusedRead
+accepted-checks s e =
+    sym (checked-number (chartChecks s) (record { refusal = 0; layout = chartLayout s }) refusedRead (λ (r : ChartRead). r .refusal) refl (λ r. refl)) ∙ e
 
 read-is : (s : List ℕ) → readOf s .refusal ≡ 0 → readOf s ≡ record { refusal = 0; layout = chartLayout s }
-unfolding readOf checked byRefusal refusedRead
-read-is s e = ap (λ (k : ℕ). byRefusal {A = ChartRead} k (record { refusal = 0; layout = chartLayout s }) refusedRead) (accepted-checks s e)
+unfolding readOf refusedRead
+read-is s e = when-accepted (chartChecks s) (record { refusal = 0; layout = chartLayout s }) refusedRead (accepted-checks s e)
 
 numbered : (s : List ℕ) → Numbered (chartChecks s)
 unfolding chartChecks

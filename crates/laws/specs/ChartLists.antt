@@ -1,68 +1,8 @@
--- Lists and tests, for charts.
-use Prim.Native.Nat.{ℕ, zero, suc, _<_}
-use native.Mathlib.Nat.{not-suc-le-zero, le-of-suc-le-suc}
-use native.Mathlib.Numerals.{add-one}
-use native.Mathlib.Decide.{ℕ-discrete}
-use native.Mathlib.Omega.{arith}
-use mathlib.Core.Path.{_≡_, refl, sym, ap, ap₂, _∙_}
-use mathlib.Core.Bool.{Bool, true, false, not, cond, _&&_, _||_, true≢false, false≢true, and-false, or-assoc, or-true, or-false}
-use mathlib.Core.List.{List, [], _∷_, _++_, map}
-use lib.ListN.{length, getD, length-append, List·getD-append}
-use lib.Seq.{getD-at}
-use lib.Dec.{eqb}
-use borrow.Author.Tests.{eq-eqb, ne-eqb}
-use Rattle.model.specs.Lists.{one, upto, every, any, keep, noRepeats}
-use Rattle.laws.specs.Indicators.{less, same, more, order}
-use Rattle.laws.specs.ListSums.{All, none, also}
-
--- ---- tests
-
--- both of two tests pass
-pub both-left : (x y : Bool) → (x && y) ≡ true → x ≡ true
-both-left true y z = refl
-both-left false y z = z
-
-pub both-right : (x y : Bool) → (x && y) ≡ true → y ≡ true
-both-right true y z = z
-both-right false y z = absurd (false≢true z)
-
-pub one-true : (b : Bool) → one b ≡ 1 → b ≡ true
-unfolding one
-one-true true e = refl
-one-true false e = absurd (omega arith)
-
-pub eqb-swap : (a b : ℕ) → eqb a b ≡ eqb b a
-eqb-swap a b =
-    elim (ℕ-discrete a b) [
-      | yes e ↦ eq-eqb a b e ∙ sym (eq-eqb b a (sym e))
-      | no d ↦ ne-eqb a b d ∙ sym (ne-eqb b a (λ e. d (sym e)))
-    ]
-
--- ---- every entry passes
-
-module _ {A : Type 0} where
-  -- a test that passes everywhere
-  pub every-all : {p : A → Bool} {xs : List A} → All (λ x. p x ≡ true) xs → every p xs ≡ true
-  unfolding every
-  every-all none = refl
-  every-all (also e es) = ap₂ (λ (a b : Bool). a && b) e (every-all es)
-
-  pub all-every : (p : A → Bool) (xs : List A) → every p xs ≡ true → All (λ x. p x ≡ true) xs
-  unfolding every
-  all-every p [] e = none
-  all-every p (x ∷ xs) e = also (both-left (p x) (every p xs) e) (all-every p xs (both-right (p x) (every p xs) e))
-
--- the entries that are kept pass
-pub all-kept : {A : Type 0} {P : A → Type 0} (q : A → Bool) {xs : List A} → All P xs → All (λ x. P x × (q x ≡ true)) (keep q xs)
-unfolding keep
-all-kept q none = none
-all-kept {A} {P} q (also {x} {xs} p ps) = by-test (q x) refl (all-kept q ps)
-  where
-    by-test : (b : Bool) → q x ≡ b → All (λ y. P y × (q y ≡ true)) (keep q xs) → All (λ y. P y × (q y ≡ true)) (cond b (x ∷ keep q xs) (keep q xs))
-    by-test true e r = also (p, e) r
-    by-test false e r = r
-
--- ---- some entry passes, and no repeats: one entry after the other
+-- Some entry of a list passes, and no two entries are alike: with one entry more, or some.
+use mathlib.Core.Path.{_≡_, refl, sym, ap, _∙_}
+use mathlib.Core.Bool.{Bool, true, false, not, _&&_, _||_, true≢false, and-false, or-assoc, or-true, or-false}
+use mathlib.Core.List.{List, [], _∷_, _++_}
+use Rattle.model.specs.Lists.{any, noRepeats}
 
 module _ {A : Type 0} where
   any-append : (p : A → Bool) (xs ys : List A) → any p (xs ++ ys) ≡ (any p xs || any p ys)
@@ -102,25 +42,3 @@ module _ {A : Type 0} where
       by-test true b c z r = refl
       by-test false true c z r = refl
       by-test false false c z r = r z
-
--- ---- the numbers below n
-
-pub length-upto : (n : ℕ) → length (upto n) ≡ n
-unfolding upto
-length-upto zero = refl
-length-upto (suc n) = length-append (upto n) (n ∷ []) ∙ add-one (length (upto n)) ∙ ap suc (length-upto n)
-
-pub upto-at : (n i : ℕ) → i < n → getD (upto n) i 0 ≡ i
-unfolding upto
-upto-at zero i h = absurd (not-suc-le-zero h)
-upto-at (suc n) i h =
-    elim (order i n) [
-      | less l ↦ List·getD-append (upto n) (n ∷ []) 0 i (omega (arith, length-upto n)) ∙ upto-at n i l
-      | same e ↦ getD-at (upto n) n [] 0 i (length-upto n ∙ sym e) ∙ sym e
-      | more l ↦ absurd (omega arith)
-    ]
-
-pub map-at : (f : ℕ → ℕ) (xs : List ℕ) (i : ℕ) → i < length xs → getD (map f xs) i 0 ≡ f (getD xs i 0)
-map-at f [] i h = absurd (not-suc-le-zero h)
-map-at f (x ∷ xs) zero h = refl
-map-at f (x ∷ xs) (suc i) h = map-at f xs i (le-of-suc-le-suc h)

@@ -1,6 +1,6 @@
 -- Reading a chart: the passes together, and what an accepted chart gives.
-use Prim.Native.Nat.{ℕ, zero, suc, _+_, _-_, _^_, _%_, _≤_, _<_}
-use native.Mathlib.Nat.{le-of-eq, lt-of-lt-of-le, mod-eq-of-lt, not-suc-le-zero}
+use Prim.Native.Nat.{ℕ, zero, suc, _^_, _≤_, _<_}
+use native.Mathlib.Nat.{le-of-eq, lt-of-lt-of-le, not-suc-le-zero}
 use native.Mathlib.Omega.{arith}
 use mathlib.Core.Path.{_≡_, refl, sym, ap, _∙_}
 use mathlib.Core.Bool.{Bool, true, false, Bool·beq, not, cond, true≢false, false≢true}
@@ -9,7 +9,7 @@ use lib.ListN.{length, getD, take, drop, List·getD-eq-default}
 use lib.Seq.{ext-getD, getD-take, length-take-le}
 use lib.Dec.{T, eqb, leb, lit<}
 use lib.Arith.{lt-one}
-use borrow.Author.Tests.{le-leb, leb-true, lt-ltb, eq-eqb, eqb-true}
+use borrow.Author.Tests.{le-leb, leb-true, lt-ltb, eqb-true}
 use Rattle.model.specs.declared.ChartRead.{ChartRead}
 use Rattle.model.specs.declared.Layout.{Layout}
 use Rattle.model.specs.Lists.{every, any}
@@ -19,21 +19,20 @@ use Rattle.model.specs.Checks.{Check, refusal, byRefusal, checked}
 use Rattle.model.specs.Charts.{bodyOf, chartSize, chartEdges, chartOrder, edgesIn, edgeWithin, joins, chartChecks, chartLayout, readOf}
 use Rattle.model.specs.Charts.{Answer, accept, refuse, answer, divisionAnswer, bodiesAnswer, sizeChecks, sizeAnswer, endChecks, repeatChecks, placeChecks}
 use Rattle.laws.specs.ListSums.{All, none, also, all-mono, all-upto}
-use Rattle.laws.specs.Permutations.{at, Permutation, at-lt}
+use Rattle.laws.specs.Permutations.{Permutation}
 use Rattle.laws.specs.Pairs.{Symmetric}
 use Rattle.laws.specs.EdgeCounts.{weight}
-use Rattle.laws.specs.MaskCount.{vertexAt, countOn, countOn-crossings}
-use Rattle.laws.specs.Validity.{each-once, symmetric-weight}
-use Rattle.laws.specs.ChartLists.{both-left, both-right, every-all, all-kept}
+use Rattle.laws.specs.MaskCount.{countOn}
+use Rattle.laws.specs.Validity.{each-once, symmetric-weight, zero-from}
+use Rattle.laws.specs.Indicators.{T-true, beq-self, both-left, both-right}
+use Rattle.laws.specs.Recount.{counted, counted-crossings}
+use Rattle.laws.specs.Refusals.{Numbered, all-pass}
+use Rattle.laws.specs.Every.{every-all}
 use Rattle.laws.specs.ChartEdges.{Ends, joins-none, joins-swap}
 use Rattle.laws.specs.ChartWords.{wordOf-below, adjacencyOf, adjacency-at, adjacency-linked}
 use Rattle.laws.specs.ChartOrder.{padded, padded-length, padded-at}
 
 -- ---- questions, one group after the other
-
--- each has a number
-abbrev pub Numbered : List Check → Type 0
-Numbered cs = All (λ c. 0 < c .code) cs
 
 pub checked-append : {A : Type 0} {xs : List Check} → Numbered xs → (ys : List Check) (a : A) (f : ℕ → A)
     → checked (xs ++ ys) a f ≡ byRefusal (refusal xs) (checked ys a f) f
@@ -49,16 +48,6 @@ checked-append {A} (also {x} {xs} p ps) ys a f = by-test (x .passes) (checked-ap
         → byRefusal (cond b (refusal (xs ++ ys)) (x .code)) a f ≡ byRefusal (cond b (refusal xs) (x .code)) (checked ys a f) f
     by-test true e = e
     by-test false e = same-number (x .code) p (checked ys a f)
-
--- where no number comes out, each passes
-pub all-pass : {cs : List Check} → Numbered cs → refusal cs ≡ 0 → All (λ c. c .passes ≡ true) cs
-unfolding refusal
-all-pass none e = none
-all-pass (also {x} {xs} p ps) e = by-test (x .passes) refl e (all-pass ps)
-  where
-    by-test : (b : Bool) → x .passes ≡ b → cond b (refusal xs) (x .code) ≡ 0 → (refusal xs ≡ 0 → All (λ c. c .passes ≡ true) xs) → All (λ c. c .passes ≡ true) (x ∷ xs)
-    by-test true t z r = also t (r z)
-    by-test false t z r = absurd (omega arith)
 
 -- what an answer says of the questions of its pass
 module _ (cs : List Check) (values : List ℕ) (a : Answer) where
@@ -116,10 +105,7 @@ module _ {n : ℕ} {links o : List ℕ} (a : Accepted n links o) where
       both u v h l = linked-joins u v h l ∙ joins-swap u v (edgesIn links) ∙ sym (linked-joins v u l h)
 
       same-test : (x y : Bool) → x ≡ y → Bool·beq x y ≡ true
-      same-test true true e = refl
-      same-test false false e = refl
-      same-test true false e = sym e
-      same-test false true e = e
+      same-test x y e = ap (Bool·beq x) (sym e) ∙ T-true (Bool·beq x x) (beq-self x)
 
   is-loopless : loopless n adj ≡ true
   unfolding loopless
@@ -131,16 +117,6 @@ module _ {n : ℕ} {links o : List ℕ} (a : Accepted n links o) where
   symmetry : Symmetric n (weight adj)
   symmetry = symmetric-weight n adj (rw is-symmetric tt) (rw is-loopless tt)
 
-  same-vertex : (j : ℕ) → j < n → vertexAt (padded o) j ≡ at o j
-  unfolding vertexAt
-  same-vertex j h =
-      ap (λ (x : ℕ). x % 64) (padded-at o j (lt-of-lt-of-le h (a .few))) ∙ mod-eq-of-lt (lt-of-lt-of-le (at-lt permutation j h) (a .few))
-
-  -- what the counter counts
-  pub count-read : cond (leb n 64) (countOn n (padded o) (adjacencyOf (edgesIn links))) 0 ≡ crossings n o (adjacencyOf (edgesIn links))
-  unfolding adj
-  count-read = rw (le-leb n 64 (a .few)) (countOn-crossings n (padded o) o (a .few) permutation same-vertex (adjacencyOf (edgesIn links)) symmetry)
-
   -- the first n places of the array
   front : take n (padded o) ≡ o
   front =
@@ -151,6 +127,13 @@ module _ {n : ℕ} {links o : List ℕ} (a : Accepted n links o) where
     where
       sized : length (take n (padded o)) ≡ n
       sized = length-take-le n (padded o) (omega (arith, padded-length o, a .few))
+
+  -- what the counter counts
+  pub count-read : cond (leb n 64) (countOn n (padded o) (adjacencyOf (edgesIn links))) 0 ≡ crossings n o (adjacencyOf (edgesIn links))
+  unfolding adj counted
+  count-read =
+      counted-crossings (record { small = a .few; permutation = rw front permutation; symmetry = symmetry })
+      ∙ ap (λ (x : List ℕ). crossings n x (adjacencyOf (edgesIn links))) front
 
   pub count-true : layoutFrom n links o .count ≡ crossingsOf (layoutFrom n links o)
   unfolding layoutFrom crossingsOf vertexOrder
@@ -169,21 +152,17 @@ module _ {n : ℕ} {links o : List ℕ} (a : Accepted n links o) where
       (wordOf-below (λ v. any (joins u v) (edgesIn links)) n 64 (a .few) (λ v l. none-outside u v (λ e. omega (arith, e .second)))))))
 
   zero-words : zeroFrom n adj ≡ true
-  unfolding zeroFrom adj
+  unfolding adj
   zero-words =
-      every-all
-      (all-mono (all-kept (λ i. leb n i) (all-upto 64))
-      (λ u k.
-      eq-eqb (getD adj u 0) 0
-      (adjacency-at (edgesIn links) u (k .0)
-      ∙ lt-one (wordOf-below (λ v. any (joins u v) (edgesIn links)) 0 64 (omega arith) (λ v l. none-outside u v (λ e. omega (arith, e .first, leb-true n u (k .1))))))))
+      T-true (zeroFrom n adj)
+      (zero-from n adj
+      (λ u l h.
+      adjacency-at (edgesIn links) u h
+      ∙ lt-one (wordOf-below (λ v. any (joins u v) (edgesIn links)) 0 64 (omega arith) (λ v b. none-outside u v (λ e. omega (arith, e .first))))))
 
   zero-places : zeroFrom n (padded o) ≡ true
-  unfolding zeroFrom
   zero-places =
-      every-all
-      (all-mono (all-kept (λ i. leb n i) (all-upto 64))
-      (λ i k. eq-eqb (getD (padded o) i 0) 0 (padded-at o i (k .0) ∙ List·getD-eq-default o 0 (omega (arith, a .long, leb-true n i (k .1))))))
+      T-true (zeroFrom n (padded o)) (zero-from n (padded o) (λ i l h. padded-at o i h ∙ List·getD-eq-default o 0 (omega (arith, a .long))))
 
   pub valid-read : T (valid (layoutFrom n links o))
   unfolding valid layoutFrom vertexOrder adj

@@ -1,13 +1,13 @@
 -- The adjacency words that a list of edges gives, and what one edge more does to them.
-use Prim.Native.Nat.{ℕ, zero, suc, _+_, _*_, _-_, _^_, _≤_, _<_}
+use Prim.Native.Nat.{ℕ, zero, suc, _+_, _*_, _^_, _≤_, _<_}
 use native.Mathlib.Nat.{add-zero, lt-of-lt-of-le, not-suc-le-zero, pow-suc, zero-lt-suc}
 use native.Mathlib.Decide.{ℕ-discrete, decLt}
 use native.Mathlib.Omega.{arith}
 use mathlib.Core.Path.{_≡_, refl, sym, ap, ap₂, _∙_, subst}
 use mathlib.Core.Bool.{Bool, true, false, not, cond, _&&_}
 use mathlib.Core.List.{List, [], _∷_, _++_, map, append-assoc, append-nil}
-use lib.ListN.{length, getD, drop, set, replicate, length-set, length-map}
-use lib.Seq.{ext-getD, getD-set-same, getD-set-other}
+use lib.ListN.{length, getD, drop, replicate, length-set, length-map}
+use lib.Seq.{ext-getD}
 use lib.Dec.{eqb}
 use lib.Pow.{pow-mono, pow-lt}
 use lib.Bits.{or-lt}
@@ -20,9 +20,10 @@ use Rattle.model.specs.Checks.{refusal, byRefusal, checked}
 use Rattle.model.specs.Charts.{edgesIn, edgeWithin, joins, sameEdge, wordIn, asked, answer, repeatChecks}
 use Rattle.laws.specs.Indicators.{less, same, more, order}
 use Rattle.laws.specs.Sums.{sum}
-use Rattle.laws.specs.ListSums.{sumOver-upto}
+use Rattle.laws.specs.ListSums.{length-upto, map-upto-at, sumOver-upto}
 use Rattle.laws.specs.Bits.{bit-beyond, bits-ext, set-same, set-other, or-power}
-use Rattle.laws.specs.ChartLists.{any-new, any-old, noRepeats-last, noRepeats-more, length-upto, upto-at, map-at}
+use Rattle.laws.specs.EdgeEdits.{both, set-changes, word-first, word-second, word-other, joined-to, joined-back, bits-kept}
+use Rattle.laws.specs.ChartLists.{any-new, any-old, noRepeats-last, noRepeats-more}
 use Rattle.laws.specs.ChartEdges.{edge, edge-swap, same-edge, other-edge, Ends, edge-ends, edges-next, edges-last, EndsUpTo, ends-start, ends-next, ends-known}
 
 -- ---- a word made of its bits
@@ -99,7 +100,7 @@ adjacency-length es = length-map (upto 64) (wordIn es) ∙ length-upto 64
 
 pub adjacency-at : (es : List Edge) (u : ℕ) → u < 64 → getD (adjacencyOf es) u 0 ≡ wordOf (λ v. any (joins u v) es) 64
 adjacency-at es u h =
-    map-at (wordIn es) (upto 64) u (omega (arith, length-upto 64)) ∙ ap (wordIn es) (upto-at 64 u h) ∙ word-is es u
+    map-upto-at (wordIn es) 64 u h ∙ word-is es u
 
 pub adjacency-bit : (es : List Edge) (u v : ℕ) → u < 64 → v < 64 → bit (getD (adjacencyOf es) u 0) v ≡ one (any (joins u v) es)
 adjacency-bit es u v h l = ap (λ (w : ℕ). bit w v) (adjacency-at es u h) ∙ wordOf-bit (λ v. any (joins u v) es) 64 v l
@@ -143,68 +144,46 @@ module _ (es : List Edge) (a b : ℕ) (first : a < 64) (second : b < 64) (differ
   unfolding joined atBothEnds
   joined-length = simp length-set (adjacency-length es)
 
-  at-second : getD joined b 0 ≡ withBit (getD (adjacencyOf es) b 0) a
-  unfolding joined atBothEnds
-  at-second =
-      getD-set-same (set (adjacencyOf es) a (withBit (getD (adjacencyOf es) a 0) b)) b (withBit (getD (adjacencyOf es) b 0) a) 0
-      (simp length-set (omega (arith, adjacency-length es)))
+  in-first : a < length (adjacencyOf es)
+  in-first = rw (adjacency-length es) first
 
-  at-first : getD joined a 0 ≡ withBit (getD (adjacencyOf es) a 0) b
-  unfolding joined atBothEnds
-  at-first =
-      getD-set-other (set (adjacencyOf es) a (withBit (getD (adjacencyOf es) a 0) b)) b a (withBit (getD (adjacencyOf es) b 0) a) 0 differ
-      ∙ getD-set-same (adjacencyOf es) a (withBit (getD (adjacencyOf es) a 0) b) 0 (omega (arith, adjacency-length es))
-
-  at-other : (u : ℕ) → (u ≡ a → ⊥) → (u ≡ b → ⊥) → getD joined u 0 ≡ getD (adjacencyOf es) u 0
-  unfolding joined atBothEnds
-  at-other u d f =
-      getD-set-other (set (adjacencyOf es) a (withBit (getD (adjacencyOf es) a 0) b)) b u (withBit (getD (adjacencyOf es) b 0) a) 0 f
-      ∙ getD-set-other (adjacencyOf es) a u (withBit (getD (adjacencyOf es) a 0) b) 0 d
-
-  -- the word of one end
-  one-end : (u w : ℕ) → u < 64 → w < 64 → sameEdge (edge a b) (edge u w) ≡ true
-      → ((v : ℕ) → (v ≡ w → ⊥) → sameEdge (edge a b) (edge u v) ≡ false)
-      → (v : ℕ) → v < 64 → bit (withBit (getD (adjacencyOf es) u 0) w) v ≡ one (any (joins u v) (es ++ (edge a b ∷ [])))
-  unfolding one
-  one-end u w hu hw t f v hv =
-      elim (ℕ-discrete v w) [
-        | yes e ↦
-            ap (bit (withBit (getD (adjacencyOf es) u 0) w)) e ∙ set-same (getD (adjacencyOf es) u 0) w
-            ∙ sym (ap one (any-new (joins u v) es (edge a b) (ap (λ (x : ℕ). joins u x (edge a b)) e ∙ joins-edge u w a b ∙ t)))
-        | no d ↦
-            set-other (getD (adjacencyOf es) u 0) w v d
-            ∙ adjacency-bit es u v hu hv
-            ∙ sym (ap one (any-old (joins u v) es (edge a b) (joins-edge u v a b ∙ f v d)))
-      ]
+  in-second : b < length (adjacencyOf es)
+  in-second = rw (adjacency-length es) second
 
   bits : (u v : ℕ) → u < 64 → v < 64 → bit (getD joined u 0) v ≡ one (any (joins u v) (es ++ (edge a b ∷ [])))
+  unfolding joined one
   bits u v hu hv =
-      elim (ℕ-discrete u b) [
-        | yes e ↦
-            subst (λ (x : ℕ). bit (getD joined x 0) v ≡ one (any (joins x v) (es ++ (edge a b ∷ [])))) (sym e)
-            (ap (λ (w : ℕ). bit w v) at-second
-            ∙ one-end b a second first (ap (sameEdge (edge a b)) (edge-swap b a) ∙ same-edge a b) (λ x d. other-edge a b b x (λ z. differ (z .0)) (λ z. d (sym (z .0)))) v hv)
-        | no d ↦
-            elim (ℕ-discrete u a) [
-              | yes e ↦
-                  subst (λ (x : ℕ). bit (getD joined x 0) v ≡ one (any (joins x v) (es ++ (edge a b ∷ [])))) (sym e)
-                  (ap (λ (w : ℕ). bit w v) at-first
-                  ∙ one-end a b first second (same-edge a b) (λ x f. other-edge a b a x (λ z. f (sym (z .1))) (λ z. differ (sym (z .1)))) v hv)
-              | no f ↦
-                  ap (λ (w : ℕ). bit w v) (at-other u f d)
+      elim (both (ℕ-discrete u a) (ℕ-discrete v b)) [
+        | yes p ↦
+            rw (p .0, p .1)
+            (joined-to withBit (adjacencyOf es) a b in-first in-second differ 1 set-changes
+            ∙ sym (ap one (any-new (joins a b) es (edge a b) (joins-edge a b a b ∙ same-edge a b))))
+        | no p ↦
+            elim (both (ℕ-discrete u b) (ℕ-discrete v a)) [
+              | yes q ↦
+                  rw (q .0, q .1)
+                  (joined-back withBit (adjacencyOf es) a b in-first in-second differ 1 set-changes
+                  ∙ sym (ap one (any-new (joins b a) es (edge a b) (joins-edge b a a b ∙ ap (sameEdge (edge a b)) (edge-swap b a) ∙ same-edge a b))))
+              | no q ↦
+                  bits-kept withBit (adjacencyOf es) a b in-first in-second differ 1 set-changes u v (λ e f. p (e, f)) (λ e f. q (e, f))
                   ∙ adjacency-bit es u v hu hv
-                  ∙ sym (ap one (any-old (joins u v) es (edge a b) (joins-edge u v a b ∙ other-edge a b u v (λ z. f (sym (z .0))) (λ z. d (sym (z .1))))))
+                  ∙ sym (ap one (any-old (joins u v) es (edge a b) (joins-edge u v a b ∙ other-edge a b u v (λ z. p (sym (z .0), sym (z .1))) (λ z. q (sym (z .1), sym (z .0))))))
             ]
       ]
 
   small : (u : ℕ) → u < 64 → getD joined u 0 < 2 ^ 64
+  unfolding joined
   small u hu =
       elim (ℕ-discrete u b) [
-        | yes e ↦ rw (e, at-second) (set-lt 64 (getD (adjacencyOf es) b 0) a (adjacency-lt es b second) first)
+        | yes e ↦
+            rw (e, word-second withBit (adjacencyOf es) a b in-first in-second differ)
+            (set-lt 64 (getD (adjacencyOf es) b 0) a (adjacency-lt es b second) first)
         | no d ↦
             elim (ℕ-discrete u a) [
-              | yes e ↦ rw (e, at-first) (set-lt 64 (getD (adjacencyOf es) a 0) b (adjacency-lt es a first) second)
-              | no f ↦ rw (at-other u f d) (adjacency-lt es u hu)
+              | yes e ↦
+                  rw (e, word-first withBit (adjacencyOf es) a b in-first in-second differ)
+                  (set-lt 64 (getD (adjacencyOf es) a 0) b (adjacency-lt es a first) second)
+              | no f ↦ rw (word-other withBit (adjacencyOf es) a b in-first in-second differ u f d) (adjacency-lt es u hu)
             ]
       ]
 

@@ -1,16 +1,16 @@
 -- The counting identity: the crossings of a layout, counted pair by pair, are a sum over pairs of places. Over any weight of the edges that is
 -- symmetric and 0 from a vertex to itself.
-use Prim.Native.Nat.{ℕ, _+_, _*_, _≤_, _<_}
-use native.Mathlib.Nat.{mul-assoc, mul-comm, mul-left-comm, zero-mul}
+use Prim.Native.Nat.{ℕ, _+_, _*_, _<_}
+use native.Mathlib.Nat.{mul-comm}
 use native.Mathlib.Omega.{arith}
-use mathlib.Core.Path.{_≡_, refl, sym, ap, ap₂, _∙_}
+use mathlib.Core.Path.{_≡_, ap, ap₂, _∙_}
 use mathlib.Core.List.{List}
 use lib.Dec.{ltb}
 use Rattle.model.specs.Lists.{one, place}
-use Rattle.laws.specs.Indicators.{Order, less, same, more, order, one-lt, one-ge}
-use Rattle.laws.specs.Sums.{sum, sum-ext, sum-scale, sum-product, sum4, sum4-ext, sum4-swap-first, sum4-swap-middle}
-use Rattle.laws.specs.Permutations.{at, Permutation, at-lt, place-of-at}
-use Rattle.laws.specs.Pairs.{pairSum, pairSum-ext, pairSum-zero, pairSum-add, pairSum-scale, pairSum-pairs, pairSum-swap, Symmetric, pair-vertices}
+use Rattle.laws.specs.Indicators.{less, same, more, order, one-lt, one-ge}
+use Rattle.laws.specs.Sums.{double, sum, sum-ext, sum-scale, sum-product, sum4, sum4-ext, sum4-swap-first, sum4-swap-middle}
+use Rattle.laws.specs.Permutations.{at, Permutation, place-of-at}
+use Rattle.laws.specs.Pairs.{pairSum, pairSum-ext, pairSum-zero, pairSum-add, pairSum-pairs, pairSum-swap, Symmetric, pair-vertices}
 use Rattle.laws.specs.Alternation.{cross, rising, cross-ordered, cross-swap-left, cross-swap-right}
 
 -- the crossings of weighted edges, each two edges twice: over the unordered pairs of vertices, each with its weight, where p gives the places
@@ -95,9 +95,6 @@ module _ (n : ℕ) (w : ℕ → ℕ → ℕ) where
       ∙ pairSum-add n (λ i k. pairSum n (part i k)) (λ i k. pairSum n (λ j l. w i k * w j l * rising j i l k))
       ∙ ap (λ (x : ℕ). pairSum n (λ i k. pairSum n (part i k)) + x) turned
       ∙ double (pairSum n (λ i k. pairSum n (part i k)))
-    where
-      double : (x : ℕ) → x + x ≡ 2 * x
-      double x = omega arith
 
   -- rising places need not be asked again whether the ends of an edge rise
   pub parts-sum : pairSum n (λ i k. pairSum n (part i k)) ≡ crossingSum n w

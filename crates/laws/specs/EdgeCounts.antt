@@ -1,23 +1,23 @@
 -- The crossings of the model, where each edge weighs 1: an instance of the counting identity.
-use Prim.Native.Nat.{ℕ, _+_, _*_, _≤_, _<_}
+use Prim.Native.Nat.{ℕ, _*_, _<_}
 use native.Mathlib.Nat.{mul-assoc}
 use native.Mathlib.Decide.{ℕ-discrete}
 use native.Mathlib.Omega.{arith}
-use mathlib.Core.Path.{_≡_, refl, sym, ap, ap₂, _∙_}
+use mathlib.Core.Path.{_≡_, sym, ap, _∙_}
 use mathlib.Core.Bool.{Bool, _&&_}
-use mathlib.Core.List.{List, [], _∷_, map, flatMap}
+use mathlib.Core.List.{List, map}
 use lib.Dec.{eqb, ltb}
 use borrow.Author.Tests.{eq-eqb, ne-eqb}
 use Rattle.model.specs.declared.Edge.{Edge}
-use Rattle.model.specs.Lists.{one, upto, any, keep, sumOver, sumPairs, noRepeats, place}
-use Rattle.model.specs.Crossings.{linked, edges, crosses, alternate, crossings}
+use Rattle.model.specs.Lists.{one, upto, any, keep, sumOver, noRepeats, place}
+use Rattle.model.specs.Crossings.{linked, edges, crosses, crossings}
 use Rattle.laws.specs.Indicators.{one-and}
-use Rattle.laws.specs.Sums.{sum, sum-ext}
-use Rattle.laws.specs.ListSums.{All, all-upto, all-keep, all-map, all-flatMap, sumOver-ext, sumOver-keep, sumOver-upto, sumOver-map, sumOver-flatMap, sumPairs-twice}
+use Rattle.laws.specs.Sums.{halves, sum, sum-ext}
+use Rattle.laws.specs.ListSums.{All, all-upto, all-keep, all-map, all-flatMap, sumOver-keep, sumOver-upto, sumOver-map, sumOver-flatMap, sumPairs-twice}
 use Rattle.laws.specs.Permutations.{at, Permutation, at-of-place}
 use Rattle.laws.specs.Pairs.{pairSum, pairSum-ext, pairSum-scale, Symmetric}
 use Rattle.laws.specs.Alternation.{cross, cross-exchange, cross-self}
-use Rattle.laws.specs.Counting.{crossedTwice, crossingSum, placed, twice-places, part, twice-rising, parts-sum, crossingSum-counted}
+use Rattle.laws.specs.Counting.{crossedTwice, crossingSum, placed, twice-places, twice-rising, parts-sum}
 
 -- the weight of an edge of the model: 1, and 0 where there is none
 abbrev pub weight : List ℕ → ℕ → ℕ → ℕ
@@ -117,6 +117,3 @@ module _ {n : ℕ} {o : List ℕ} (perm : Permutation n o) where
       ∙ twice-places perm (weight adj) s
       ∙ twice-rising n (placed o (weight adj))
       ∙ ap (λ (x : ℕ). 2 * x) (parts-sum n (placed o (weight adj))))
-    where
-      halves : (x y : ℕ) → 2 * x ≡ 2 * y → x ≡ y
-      halves x y e = omega arith

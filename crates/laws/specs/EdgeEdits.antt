@@ -1,22 +1,22 @@
 -- Adding and removing an edge: the words of both ends change, and the edges stay symmetric.
-use Prim.Native.Nat.{ℕ, _+_, _≤_, _<_}
+use Prim.Native.Nat.{ℕ, _<_}
 use native.Mathlib.Decide.{ℕ-discrete}
 use native.Mathlib.Omega.{arith}
-use mathlib.Core.Path.{_≡_, refl, sym, ap, ap₂, _∙_, subst}
+use mathlib.Core.Path.{_≡_, sym, ap, _∙_}
 use mathlib.Core.List.{List}
 use lib.ListN.{length, getD, set, length-set}
 use lib.Seq.{getD-set-same, getD-set-other}
 use Rattle.model.specs.Crossings.{bit}
 use Rattle.model.specs.declared.Layout.{Layout}
 use Rattle.model.specs.Edits.{withBit, withoutBit, atBothEnds, withEdges}
-use Rattle.laws.specs.Recount.{Drawn, drawn, recounted, recounted-changed}
+use Rattle.laws.specs.Recount.{drawn, recounted, recounted-changed}
 use Rattle.laws.specs.Refusals.{Pair, within-capacity}
 use Rattle.laws.specs.Pairs.{Symmetric}
 use Rattle.laws.specs.Bits.{set-same, set-other, clear-same, clear-other}
 use Rattle.laws.specs.EdgeCounts.{weight}
 use Rattle.laws.specs.MaskCount.{weight-bit}
 
-both : {A B : Type 0} → Dec A → Dec B → Dec (A × B)
+pub both : {A B : Type 0} → Dec A → Dec B → Dec (A × B)
 both (yes a) (yes b) = yes (a, b)
 both (yes a) (no b) = no (λ p. b (p .1))
 both (no a) b = no (λ p. a (p .0))
@@ -34,18 +34,18 @@ clear-changes = record { here = clear-same; elsewhere = clear-other }
 
 module _ (f : ℕ → ℕ → ℕ) (adj : List ℕ) (a b : ℕ) (first : a < length adj) (second : b < length adj) (different : a ≡ b → ⊥) where
   -- the words, one by one
-  word-first : getD (atBothEnds f adj a b) a 0 ≡ f (getD adj a 0) b
+  pub word-first : getD (atBothEnds f adj a b) a 0 ≡ f (getD adj a 0) b
   unfolding atBothEnds
   word-first =
       getD-set-other (set adj a (f (getD adj a 0) b)) b a (f (getD adj b 0) a) 0 different
       ∙ getD-set-same adj a (f (getD adj a 0) b) 0 first
 
-  word-second : getD (atBothEnds f adj a b) b 0 ≡ f (getD adj b 0) a
+  pub word-second : getD (atBothEnds f adj a b) b 0 ≡ f (getD adj b 0) a
   unfolding atBothEnds
   word-second =
       getD-set-same (set adj a (f (getD adj a 0) b)) b (f (getD adj b 0) a) 0 (rw (length-set adj a (f (getD adj a 0) b)) second)
 
-  word-other : (u : ℕ) → (u ≡ a → ⊥) → (u ≡ b → ⊥) → getD (atBothEnds f adj a b) u 0 ≡ getD adj u 0
+  pub word-other : (u : ℕ) → (u ≡ a → ⊥) → (u ≡ b → ⊥) → getD (atBothEnds f adj a b) u 0 ≡ getD adj u 0
   unfolding atBothEnds
   word-other u da db =
       getD-set-other (set adj a (f (getD adj a 0) b)) b u (f (getD adj b 0) a) 0 db
@@ -53,15 +53,15 @@ module _ (f : ℕ → ℕ → ℕ) (adj : List ℕ) (a b : ℕ) (first : a < len
 
   module _ (x : ℕ) (change : ChangesOne f x) where
     -- the two ends are joined with weight x
-    joined : bit (getD (atBothEnds f adj a b) a 0) b ≡ x
-    joined = ap (λ (w : ℕ). bit w b) word-first ∙ change .here (getD adj a 0) b
+    pub joined-to : bit (getD (atBothEnds f adj a b) a 0) b ≡ x
+    joined-to = ap (λ (w : ℕ). bit w b) word-first ∙ change .here (getD adj a 0) b
 
-    joined-back : bit (getD (atBothEnds f adj a b) b 0) a ≡ x
+    pub joined-back : bit (getD (atBothEnds f adj a b) b 0) a ≡ x
     joined-back = ap (λ (w : ℕ). bit w a) word-second ∙ change .here (getD adj b 0) a
 
     -- and nothing else changes
-    kept : (u v : ℕ) → (u ≡ a → v ≡ b → ⊥) → (u ≡ b → v ≡ a → ⊥) → bit (getD (atBothEnds f adj a b) u 0) v ≡ bit (getD adj u 0) v
-    kept u v h k =
+    pub bits-kept : (u v : ℕ) → (u ≡ a → v ≡ b → ⊥) → (u ≡ b → v ≡ a → ⊥) → bit (getD (atBothEnds f adj a b) u 0) v ≡ bit (getD adj u 0) v
+    bits-kept u v h k =
         elim (ℕ-discrete u a) [
           | yes e ↦ rw e (ap (λ (w : ℕ). bit w v) word-first ∙ change .elsewhere (getD adj a 0) b v (h e))
           | no da ↦
@@ -75,18 +75,18 @@ module _ (f : ℕ → ℕ → ℕ) (adj : List ℕ) (a b : ℕ) (first : a < len
     still-symmetric n s =
         record {
           swap = λ u v i j. rw (weight-bit (atBothEnds f adj a b) u v, weight-bit (atBothEnds f adj a b) v u) (swapped u v (sym (weight-bit adj u v) ∙ s .swap u v i j ∙ weight-bit adj v u));
-          diagonal = λ v i. weight-bit (atBothEnds f adj a b) v v ∙ kept v v (λ e d. different (sym e ∙ d)) (λ e d. different (sym d ∙ e)) ∙ sym (weight-bit adj v v) ∙ s .diagonal v i;
+          diagonal = λ v i. weight-bit (atBothEnds f adj a b) v v ∙ bits-kept v v (λ e d. different (sym e ∙ d)) (λ e d. different (sym d ∙ e)) ∙ sym (weight-bit adj v v) ∙ s .diagonal v i;
         }
       where
         swapped : (u v : ℕ) → bit (getD adj u 0) v ≡ bit (getD adj v 0) u
             → bit (getD (atBothEnds f adj a b) u 0) v ≡ bit (getD (atBothEnds f adj a b) v 0) u
         swapped u v e =
             elim (both (ℕ-discrete u a) (ℕ-discrete v b)) [
-              | yes p ↦ rw (p .0, p .1) (joined ∙ sym joined-back)
+              | yes p ↦ rw (p .0, p .1) (joined-to ∙ sym joined-back)
               | no p ↦
                   elim (both (ℕ-discrete u b) (ℕ-discrete v a)) [
-                    | yes q ↦ rw (q .0, q .1) (joined-back ∙ sym joined)
-                    | no q ↦ kept u v (λ h k. p (h, k)) (λ h k. q (h, k)) ∙ e ∙ sym (kept v u (λ h k. q (k, h)) (λ h k. p (k, h)))
+                    | yes q ↦ rw (q .0, q .1) (joined-back ∙ sym joined-to)
+                    | no q ↦ bits-kept u v (λ h k. p (h, k)) (λ h k. q (h, k)) ∙ e ∙ sym (bits-kept v u (λ h k. q (k, h)) (λ h k. p (k, h)))
                   ]
             ]
 

@@ -1,5 +1,5 @@
 -- How many edges there are, from the ones of all words.
-use Prim.Native.Nat.{ℕ, zero, suc, _+_, _*_, _-_, _^_, _≤_, _<_}
+use Prim.Native.Nat.{ℕ, _+_, _*_, _-_, _^_, _≤_, _<_}
 use native.Mathlib.Nat.{mul-one, mul-comm, le-antisymm}
 use native.Mathlib.Numerals.{add-one}
 use native.Mathlib.Omega.{arith}
@@ -8,12 +8,11 @@ use mathlib.Core.List.{List, [], _∷_}
 use lib.ListN.{length, getD}
 use lib.Dec.{ltb}
 use lib.Pow.{ones-lt}
-use Rattle.model.specs.declared.Edge.{Edge}
 use Rattle.model.specs.Lists.{one, sumOver}
 use Rattle.model.specs.Crossings.{bit, edges}
-use Rattle.laws.specs.Indicators.{Order, less, same, more, order, one-lt, one-ge}
+use Rattle.laws.specs.Indicators.{less, same, more, order, one-lt, one-ge}
 use Rattle.laws.specs.Sums.{sum, sum-ext, sum-below}
-use Rattle.laws.specs.Pairs.{pairSum, pairSum-ext, pairSum-twice, Symmetric}
+use Rattle.laws.specs.Pairs.{pairSum-ext, pairSum-twice, Symmetric}
 use Rattle.laws.specs.Bits.{bit-beyond, maskedOnes, maskedOnes-le}
 use Rattle.laws.specs.EdgeCounts.{weight, sumOver-edges}
 use Rattle.laws.specs.MaskCount.{bit-full, weight-bit}

@@ -1,63 +1,40 @@
--- A test of every number below n, or from n on, against the numbers one by one.
-use Prim.Native.Nat.{ℕ, zero, suc, _+_, _≤_, _<_}
-use native.Mathlib.Nat.{le-step, lt-suc-self, not-suc-le-zero}
+-- A test of every entry of a list, or of every number below n, against the entries one by one.
+use Prim.Native.Nat.{ℕ, _+_, _≤_, _<_}
+use native.Mathlib.Nat.{not-suc-le-zero}
 use native.Mathlib.Omega.{arith}
 use mathlib.Core.Path.{_≡_, refl, sym, ap, ap₂, _∙_, subst}
 use mathlib.Core.Bool.{Bool, true, false, cond, _&&_}
-use mathlib.Core.List.{List, [], _∷_, _++_}
+use mathlib.Core.List.{List, [], _∷_}
 use lib.Dec.{T}
 use borrow.Author.Count.{below-more}
 use Rattle.model.specs.Lists.{upto, every, keep}
-use Rattle.laws.specs.Indicators.{Order, less, same, more, order, T-true, and-left, and-right}
+use Rattle.laws.specs.Indicators.{T-true, not-T-false, both-left, both-right}
+use Rattle.laws.specs.ListSums.{All, none, also, all-mono, all-upto, all-below}
 
-and-assoc : (a b c : Bool) → (a && (b && c)) ≡ (a && b && c)
-and-assoc true b c = refl
-and-assoc false b c = refl
+-- ---- every entry of a list
 
-and-intro : (a b : Bool) → T a → T b → T (a && b)
-and-intro true b s t = t
-and-intro false b s t = s
+module _ {A : Type 0} where
+  pub every-all : {p : A → Bool} {xs : List A} → All (λ x. p x ≡ true) xs → every p xs ≡ true
+  unfolding every
+  every-all none = refl
+  every-all (also e es) = ap₂ (λ (a b : Bool). a && b) e (every-all es)
 
-and-false : (a : Bool) → (a && false) ≡ false
-and-false true = refl
-and-false false = refl
+  pub all-every : (p : A → Bool) (xs : List A) → every p xs ≡ true → All (λ x. p x ≡ true) xs
+  unfolding every
+  all-every p [] e = none
+  all-every p (x ∷ xs) e = also (both-left (p x) (every p xs) e) (all-every p xs (both-right (p x) (every p xs) e))
 
-every-append : {A : Type 0} (p : A → Bool) (xs ys : List A) → every p (xs ++ ys) ≡ (every p xs && every p ys)
-unfolding every
-every-append p [] ys = refl
-every-append p (x ∷ xs) ys = ap (λ (b : Bool). p x && b) (every-append p xs ys) ∙ and-assoc (p x) (every p xs) (every p ys)
-
-every-next : (p : ℕ → Bool) (n : ℕ) → every p (upto (suc n)) ≡ (every p (upto n) && p n)
-unfolding every upto
-every-next p n = every-append p (upto n) (n ∷ []) ∙ ap (λ (b : Bool). every p (upto n) && b) (last (p n))
-  where
-    last : (b : Bool) → (b && true) ≡ b
-    last true = refl
-    last false = refl
+-- ---- every number below n
 
 -- every number below n passes exactly if each does
 pub every-upto : (p : ℕ → Bool) (n : ℕ) → T (every p (upto n)) → (i : ℕ) → i < n → T (p i)
-every-upto p zero t i h = absurd (not-suc-le-zero h)
-every-upto p (suc n) t i h =
-    let u : T (every p (upto n) && p n) = subst T (every-next p n) t in
-    elim (order i n) [
-      | less l ↦ every-upto p n (and-left (every p (upto n)) (p n) u) i l
-      | same e ↦ subst (λ (k : ℕ). T (p k)) (sym e) (and-right (every p (upto n)) (p n) u)
-      | more l ↦ absurd (omega arith)
-    ]
+every-upto p n t i h = subst T (sym (all-below n (all-every p (upto n) (T-true (every p (upto n)) t)) i h)) tt
 
 pub upto-every : (p : ℕ → Bool) (n : ℕ) → ((i : ℕ) → i < n → T (p i)) → T (every p (upto n))
-unfolding every upto
-upto-every p zero h = tt
-upto-every p (suc n) h =
-    subst T (sym (every-next p n)) (and-intro (every p (upto n)) (p n) (upto-every p n (λ i l. h i (le-step l))) (h n (lt-suc-self n)))
+upto-every p n h = subst T (sym (every-all (all-mono (all-upto n) (λ i l. T-true (p i) (h i l))))) tt
 
 pub upto-fails : (p : ℕ → Bool) (n i : ℕ) → i < n → p i ≡ false → every p (upto n) ≡ false
-upto-fails p n i h e = not-true (every p (upto n)) (λ t. subst T e (every-upto p n t i h))
-  where
-    not-true : (b : Bool) → (T b → ⊥) → b ≡ false
-    not-true true f = absurd (f tt)
-    not-true false f = refl
+upto-fails p n i h e = not-T-false (every p (upto n)) (λ t. subst T e (every-upto p n t i h))
 
 -- a test of some numbers is a test that the others pass anyway
 pub every-keep : {A : Type 0} (p q : A → Bool) (xs : List A) → every p (keep q xs) ≡ every (λ x. cond (q x) (p x) true) xs

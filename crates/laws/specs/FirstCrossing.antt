@@ -1,13 +1,13 @@
 -- The shown crossing pair: when there is none, that the pair shown does cross, and the search for it over edges listed in two arrays.
 use Prim.Native.Nat.{ℕ, zero, suc, _+_, _-_, _≤_, _<_}
-use native.Mathlib.Nat.{zero-add, le-refl, not-suc-le-zero, le-of-suc-le-suc, le-antisymm}
+use native.Mathlib.Nat.{zero-add, le-refl, not-suc-le-zero, le-antisymm}
 use native.Mathlib.Numerals.{add-one}
 use native.Mathlib.Omega.{arith}
 use mathlib.Core.Path.{_≡_, refl, sym, ap, ap₂, _∙_, subst}
 use mathlib.Core.Bool.{Bool, true, false, cond, _&&_}
 use mathlib.Core.List.{List, [], _∷_, _++_, map, flatMap, map-append, append-assoc, append-nil}
-use lib.ListN.{length, getD, take, drop, set, replicate, length-replicate, length-set, length-append, length-map, List·getD-map, List·getD-append, drop-of-length-le}
-use lib.Seq.{drop-cons, getD-take, getD-at, getD-set-same, getD-set-other}
+use lib.ListN.{length, getD, take, drop, set, replicate, length-replicate, length-set, length-map, List·getD-map, drop-of-length-le}
+use lib.Seq.{drop-cons, getD-take, getD-set-same, getD-set-other}
 use lib.Dec.{T, eqb, ltb}
 use borrow.Author.Tests.{eq-eqb, ne-eqb, eqb-true, le-ltb, lt-ltb}
 use Rattle.model.specs.declared.Edge.{Edge}
@@ -19,7 +19,7 @@ use Rattle.model.specs.Checks.{refusal, byRefusal, checked, isValid}
 use Rattle.model.specs.Reading.{Shown, pairWith, orElse, firstPair, firstCrossingOf}
 use Rattle.laws.specs.Indicators.{T-true, less, same, more, order as which}
 use Rattle.laws.specs.Sums.{sum}
-use Rattle.laws.specs.ListSums.{All, none, also}
+use Rattle.laws.specs.ListSums.{All, none, all-at, flatMap-append, length-upto, upto-at}
 use Rattle.laws.specs.Permutations.{Permutation, at-lt, at-of-place, place-of-at, place-below}
 use Rattle.laws.specs.Bound.{sum-more}
 use Rattle.laws.specs.EdgeCounts.{Within, all-edges}
@@ -129,21 +129,6 @@ edgeAt lows highs i = record { low = getD lows i 0; high = getD highs i 0 }
 unfoldable pub listed : List ℕ → List ℕ → ℕ → List Edge
 listed lows highs k = map (edgeAt lows highs) (upto k)
 
-length-upto : (n : ℕ) → length (upto n) ≡ n
-unfolding upto
-length-upto zero = refl
-length-upto (suc n) = length-append (upto n) (n ∷ []) ∙ omega (arith, length-upto n)
-
-getD-upto : (n i : ℕ) → i < n → getD (upto n) i 0 ≡ i
-unfolding upto
-getD-upto zero i h = absurd (not-suc-le-zero h)
-getD-upto (suc n) i h =
-    elim (which i n) [
-      | less l ↦ List·getD-append (upto n) (n ∷ []) 0 i (rw (length-upto n) l) ∙ getD-upto n i l
-      | same e ↦ rw e (getD-at (upto n) n [] 0 n (length-upto n))
-      | more l ↦ absurd (omega arith)
-    ]
-
 module _ (lows highs : List ℕ) where
   pub length-listed : (k : ℕ) → length (listed lows highs k) ≡ k
   unfolding listed
@@ -155,7 +140,7 @@ module _ (lows highs : List ℕ) where
 
   listed-at : (k i : ℕ) → i < k → getD (listed lows highs k) i (edgeAt lows highs 0) ≡ edgeAt lows highs i
   unfolding listed
-  listed-at k i h = List·getD-map (edgeAt lows highs) (upto k) i 0 ∙ ap (edgeAt lows highs) (getD-upto k i h)
+  listed-at k i h = List·getD-map (edgeAt lows highs) (upto k) i 0 ∙ ap (edgeAt lows highs) (upto-at k i h)
 
   -- from place i on
   listed-from : (k i : ℕ) → i < k → drop i (listed lows highs k) ≡ edgeAt lows highs i ∷ drop (suc i) (listed lows highs k)
@@ -282,11 +267,6 @@ pub record EdgesListed (n : ℕ) (adj lows highs : List ℕ) (count a : ℕ) : T
   pub lows-size : length lows ≡ 2016
   pub highs-size : length highs ≡ 2016
   pub listing : listed lows highs count ≡ flatMap (λ u. edgesFrom (getD adj u 0) u n) (upto a)
-
-flatMap-append : (f : ℕ → List Edge) (xs ys : List ℕ) → flatMap f (xs ++ ys) ≡ flatMap f xs ++ flatMap f ys
-unfolding flatMap
-flatMap-append f [] ys = refl
-flatMap-append f (x ∷ xs) ys = ap (λ (l : List Edge). f x ++ l) (flatMap-append f xs ys) ∙ sym (append-assoc (f x) (flatMap f xs) (flatMap f ys))
 
 -- each two of 64 vertices
 pairs-most : (a : ℕ) → a ≤ 64 → sum a (λ i. 63 - i) ≤ 2016
@@ -470,11 +450,6 @@ module _ {n : ℕ} {order : List ℕ} {count : ℕ} {lows highs : List ℕ} wher
     pair-found r q z = row-left r q i ∙ rw (← at-first, second-tested, z)
 
 -- ---- the edges of a layout, listed
-
-all-at : {P : Edge → Type 0} {es : List Edge} (d : Edge) → All P es → (i : ℕ) → i < length es → P (getD es i d)
-all-at d none i h = absurd (not-suc-le-zero h)
-all-at d (also p ps) zero h = p
-all-at d (also p ps) (suc i) h = all-at d ps i (le-of-suc-le-suc h)
 
 -- their ends are vertices
 listed-within : (n : ℕ) (adj lows highs : List ℕ) {count : ℕ} → listed lows highs count ≡ edges n adj

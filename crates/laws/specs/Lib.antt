@@ -1,8 +1,8 @@
 -- Mathematics about the definitions of model, over any weight function.
 pub mod Indicators
-pub mod Every
 pub mod Sums
 pub mod ListSums
+pub mod Every
 pub mod Permutations
 pub mod Pairs
 pub mod Alternation

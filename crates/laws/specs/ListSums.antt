@@ -1,13 +1,14 @@
 -- Sums over the entries of a list, as sums over a range.
 use Prim.Native.Nat.{ℕ, zero, suc, _+_, _*_, _-_, _≤_, _<_, zero-le, suc-le-suc}
-use native.Mathlib.Nat.{add-zero, zero-add, zero-mul, one-mul, add-assoc, le-step, lt-suc-self}
+use native.Mathlib.Nat.{add-zero, le-step, lt-suc-self, not-suc-le-zero, le-of-suc-le-suc}
 use native.Mathlib.Omega.{arith}
-use mathlib.Core.Path.{_≡_, refl, sym, ap, ap₂, _∙_}
+use mathlib.Core.Path.{_≡_, refl, sym, ap, ap₂, _∙_, subst}
 use mathlib.Core.Bool.{Bool, true, false, cond}
-use mathlib.Core.List.{List, [], _∷_, _++_, map, flatMap}
-use lib.ListN.{length, getD, take, drop, length-drop}
-use lib.Seq.{length-take-le, getD-take, getD-drop}
+use mathlib.Core.List.{List, [], _∷_, _++_, map, flatMap, append-assoc}
+use lib.ListN.{length, getD, take, drop, length-append, length-drop, List·getD-append}
+use lib.Seq.{length-take-le, getD-at, getD-take, getD-drop}
 use Rattle.model.specs.Lists.{one, upto, keep, sumOver, sumPairs}
+use Rattle.laws.specs.Indicators.{less, same, more, order}
 use Rattle.laws.specs.Sums.{sum, sum-ext, sum-first}
 
 module _ {A : Type 0} where
@@ -46,6 +47,11 @@ module _ {A : Type 0} where
       by-test false e = omega arith
 
   -- by place
+  pub all-at : {P : A → Type 0} {xs : List A} (d : A) → All P xs → (i : ℕ) → i < length xs → P (getD xs i d)
+  all-at d none i h = absurd (not-suc-le-zero h)
+  all-at d (also p ps) zero h = p
+  all-at d (also p ps) (suc i) h = all-at d ps i (le-of-suc-le-suc h)
+
   pub sumOver-places : (f : A → ℕ) (d : A) (xs : List A) → sumOver f xs ≡ sum (length xs) (λ i. f (getD xs i d))
   unfolding sumOver sum
   sumOver-places f d [] = refl
@@ -62,6 +68,11 @@ module _ {A : Type 0} where
       (omega (arith, sumOver-ext (λ y. f y x) (f x) ps (λ y q. s y x q p)))
 
 module _ {A B : Type 0} where
+  pub flatMap-append : (f : A → List B) (xs ys : List A) → flatMap f (xs ++ ys) ≡ flatMap f xs ++ flatMap f ys
+  unfolding flatMap
+  flatMap-append f [] ys = refl
+  flatMap-append f (x ∷ xs) ys = ap (λ (l : List B). f x ++ l) (flatMap-append f xs ys) ∙ sym (append-assoc (f x) (flatMap f xs) (flatMap f ys))
+
   pub sumOver-map : (f : B → ℕ) (g : A → B) (xs : List A) → sumOver f (map g xs) ≡ sumOver (λ x. f (g x)) xs
   unfolding sumOver
   sumOver-map f g [] = refl
@@ -105,6 +116,33 @@ pub all-upto : (n : ℕ) → All (λ i. i < n) (upto n)
 unfolding upto
 all-upto zero = none
 all-upto (suc n) = all-append (all-mono (all-upto n) (λ i l. le-step l)) (also (lt-suc-self n) none)
+
+-- how many, and which stands where
+pub length-upto : (n : ℕ) → length (upto n) ≡ n
+unfolding upto
+length-upto zero = refl
+length-upto (suc n) = length-append (upto n) (n ∷ []) ∙ omega (arith, length-upto n)
+
+pub upto-at : (n i : ℕ) → i < n → getD (upto n) i 0 ≡ i
+unfolding upto
+upto-at zero i h = absurd (not-suc-le-zero h)
+upto-at (suc n) i h =
+    elim (order i n) [
+      | less l ↦ List·getD-append (upto n) (n ∷ []) 0 i (omega (arith, length-upto n)) ∙ upto-at n i l
+      | same e ↦ getD-at (upto n) n [] 0 i (length-upto n ∙ sym e) ∙ sym e
+      | more l ↦ absurd (omega arith)
+    ]
+
+pub all-below : {P : ℕ → Type 0} (n : ℕ) → All P (upto n) → (i : ℕ) → i < n → P i
+all-below {P} n a i h = subst P (upto-at n i h) (all-at 0 a i (rw (length-upto n) h))
+
+map-at : (f : ℕ → ℕ) (xs : List ℕ) (i : ℕ) → i < length xs → getD (map f xs) i 0 ≡ f (getD xs i 0)
+map-at f [] i h = absurd (not-suc-le-zero h)
+map-at f (x ∷ xs) zero h = refl
+map-at f (x ∷ xs) (suc i) h = map-at f xs i (le-of-suc-le-suc h)
+
+pub map-upto-at : (f : ℕ → ℕ) (n i : ℕ) → i < n → getD (map f (upto n)) i 0 ≡ f i
+map-upto-at f n i h = map-at f (upto n) i (omega (arith, length-upto n)) ∙ ap f (upto-at n i h)
 
 -- ---- parts of a list of numbers
 

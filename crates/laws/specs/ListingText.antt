@@ -1,8 +1,8 @@
 -- The parts of a listing, from what the calls answer.
-use Prim.Native.Nat.{ℕ, zero, suc, _+_, _*_, _-_, _/_, _^_, _≤_, _<_}
+use Prim.Native.Nat.{ℕ, _-_, _/_, _^_, _≤_}
 use native.Mathlib.Nat.{mul-div-cancel-left}
 use native.Mathlib.Omega.{arith}
-use mathlib.Core.Path.{_≡_, refl, sym, ap, ap₂, _∙_, subst}
+use mathlib.Core.Path.{_≡_, sym, ap, ap₂, _∙_}
 use mathlib.Core.Bool.{Bool, true, false, cond}
 use mathlib.Core.List.{List, _++_, flatMap}
 use lib.ListN.{length, getD, take, drop, length-append}
@@ -19,11 +19,11 @@ use Rattle.model.specs.Charts.{readOf}
 use Rattle.model.specs.Listing.{text, line, spaced, listing, listingRoom, listingOf, listedLength, listedBytes}
 use Rattle.laws.specs.Sums.{sum}
 use Rattle.laws.specs.Bits.{maskedOnes}
+use Rattle.laws.specs.Refusals.{by-number}
 use Rattle.laws.specs.Validity.{sound}
 use Rattle.laws.specs.EdgeTotals.{edges-twice}
 use Rattle.laws.specs.Moving.{CountRight}
-use Rattle.laws.specs.Sifting.{Improved}
-use Rattle.laws.specs.SiftingRounds.{Settling, settling}
+use Rattle.laws.specs.SiftingRounds.{settling}
 use Rattle.laws.specs.SiftingCalls.{settle-accepted, settle-keeps}
 
 -- the number of edges, from the ones of the words
@@ -75,12 +75,8 @@ listing-text l t c {r} e {m} k =
 
 module _ (s : List ℕ) {r : ChartRead} (e : r ≡ readOf s) where
   pub listing-refused : (r .refusal ≡ 0 → ⊥) → listingOf s ≡ line "refused" (spaced (r .refusal))
-  unfolding listingOf byRefusal
-  listing-refused d = rw (← e) (by-number (r .refusal) d)
-    where
-      by-number : (k : ℕ) → (k ≡ 0 → ⊥) → byRefusal k (listing (r .layout)) (λ refused. line "refused" (spaced refused)) ≡ line "refused" (spaced k)
-      by-number zero n = absurd (n refl)
-      by-number (suc k) n = refl
+  unfolding listingOf
+  listing-refused d = rw (← e) (by-number (r .refusal) (listing (r .layout)) (λ refused. line "refused" (spaced refused)) d)
 
   pub listing-accepted : r .refusal ≡ 0 → listingOf s ≡ listing (r .layout)
   unfolding listingOf byRefusal

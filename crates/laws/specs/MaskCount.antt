@@ -1,12 +1,11 @@
 -- The crossing counter's formula, over sets of vertices held as bits of a word, and that it counts the crossings.
 use Prim.Native.Nat.{ℕ, zero, suc, _+_, _*_, _-_, _/_, _%_, _^_, _≤_, _<_, min}
-use native.Mathlib.Nat.{mul-add, one-mul, zero-mul, mod-eq-of-lt, lt-of-lt-of-le, le-antisymm, min-eq-left, pow-suc, le-of-suc-le-suc, not-suc-le-zero}
+use native.Mathlib.Nat.{mul-add, one-mul, zero-mul, lt-of-lt-of-le, le-antisymm, min-eq-left, pow-suc, le-of-suc-le-suc, not-suc-le-zero}
 use native.Mathlib.Numerals.{add-one}
 use native.Mathlib.Omega.{arith}
-use mathlib.Core.Path.{_≡_, refl, sym, ap, ap₂, _∙_, subst}
-use mathlib.Core.List.{List, [], _∷_, _++_}
-use lib.ListN.{length, getD, take, drop, length-drop}
-use lib.Seq.{take-suc, drop-cons, split-at, length-take-le, getD-take, getD-drop, take-take}
+use mathlib.Core.Path.{_≡_, refl, sym, ap, ap₂, _∙_}
+use mathlib.Core.List.{List}
+use lib.ListN.{getD, take, drop}
 use lib.Dec.{eqb, ltb}
 use lib.Arith.{dbl-pred, digits-div, digits-mod}
 use lib.Pow.{pow-pos, ones-lt}
@@ -14,13 +13,13 @@ use native.Mathlib.Decide.{ℕ-discrete, decLt}
 use Rattle.model.specs.Lists.{one, sumOver, occurrences}
 use Rattle.model.specs.Crossings.{bit, linked, crossings}
 use Rattle.model.specs.Edits.{withBit, withoutBit}
-use Rattle.laws.specs.Indicators.{Order, less, same, more, order, one-eq, one-ne, one-lt, one-ge}
+use Rattle.laws.specs.Indicators.{order, one-eq, one-ne, one-lt, one-ge}
 use Rattle.laws.specs.Sums.{sum, sum-ext, sum-zero, sum-add, sum-at-right, sum-below, sum-above}
 use Rattle.laws.specs.ListSums.{All, none, also, all-take, all-drop, all-places, sumOver-take, sumOver-drop}
 use Rattle.laws.specs.Permutations.{at, Permutation, at-lt, occurrences-nil, before-next, from-next, alone-before, alone-after, none-beyond}
 use Rattle.laws.specs.Pairs.{pairSum, pairSum-ext, Symmetric}
 use Rattle.laws.specs.Bits.{bit-lt, bit-first, bit-next, bit-beyond, maskedOnes, set-same, set-other, clear-same, clear-other}
-use Rattle.laws.specs.Counting.{crossingSum, placed, crossingSum-counted}
+use Rattle.laws.specs.Counting.{placed, crossingSum-counted}
 use Rattle.laws.specs.EdgeCounts.{weight, crossings-sum}
 
 -- ---- the formula, for any bytes at all: a place is taken modulo 64

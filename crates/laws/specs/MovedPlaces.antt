@@ -1,13 +1,12 @@
 -- A vertex moved in an array: the entries shift by places.
 use Prim.Native.Nat.{ℕ, zero, suc, _+_, _-_, _≤_, _<_, suc-le-suc}
 use native.Mathlib.Nat.{not-suc-le-zero, le-of-suc-le-suc}
-use native.Mathlib.Numerals.{add-one}
 use native.Mathlib.Omega.{arith}
-use mathlib.Core.Path.{_≡_, refl, sym, ap, ap₂, _∙_, subst}
+use mathlib.Core.Path.{_≡_, refl, sym, ap, ap₂, _∙_}
 use mathlib.Core.Bool.{Bool, true, false, cond, _&&_}
-use mathlib.Core.List.{List, [], _∷_, _++_, map, map-append}
+use mathlib.Core.List.{List, [], _∷_, _++_, map}
 use lib.ListN.{length, getD, take, drop, set, length-append, length-drop, length-map, length-set, List·getD-append}
-use lib.Seq.{getD-take, getD-drop, getD-append-add, getD-at, ext-getD, take-at, getD-set-same, getD-set-other}
+use lib.Seq.{getD-take, getD-drop, getD-append-add, ext-getD, take-at, getD-set-same, getD-set-other}
 use lib.Dec.{T, eqb, ltb, leb}
 use borrow.Author.Tests.{lt-ltb, le-ltb, eq-eqb, ne-eqb}
 use Rattle.laws.specs.Refusals.{Pair}
@@ -17,34 +16,15 @@ use Rattle.model.specs.Lists.{upto, place}
 use Rattle.model.specs.Layouts.{vertexOrder, valid, reordered}
 use Rattle.model.specs.Edits.{movedAfter}
 use Rattle.laws.specs.Indicators.{Order, less, same, more, order}
+use Rattle.laws.specs.ListSums.{length-upto, map-upto-at}
 use Rattle.laws.specs.Permutations.{at, Permutation, place-below, at-of-place}
 use Rattle.laws.specs.Validity.{sound}
 use Rattle.laws.specs.Recount.{drawn, recounted, recounted-changed}
-use Rattle.laws.specs.Moving.{movedFrom, moved-entry, moved-permutation, back-kept, back-put, back-shifted, back-beyond, on-kept, on-shifted, on-put, on-beyond}
+use Rattle.laws.specs.Moving.{movedFrom, moved-entry, moved-permutation, back-beyond, on-beyond}
 
 -- the entries of 64 places after the one at place p was moved behind the one at place q
 unfoldable pub shifted : List ℕ → ℕ → ℕ → List ℕ
 shifted xs p q = map (λ i. getD xs (movedFrom p q i) 0) (upto 64)
-
--- the numbers below n, one by one
-pub length-upto : (n : ℕ) → length (upto n) ≡ n
-unfolding upto
-length-upto zero = refl
-length-upto (suc n) = length-append (upto n) (n ∷ []) ∙ omega (arith, length-upto n)
-
-pub getD-map-upto : (f : ℕ → ℕ) (n i : ℕ) → i < n → getD (map f (upto n)) i 0 ≡ f i
-unfolding upto
-getD-map-upto f zero i h = absurd (not-suc-le-zero h)
-getD-map-upto f (suc n) i h =
-    ap (λ (l : List ℕ). getD l i 0) (map-append f (upto n) (n ∷ []))
-    ∙ elim (order i n) [
-      | less l ↦ List·getD-append (map f (upto n)) (f n ∷ []) 0 i (rw size l) ∙ getD-map-upto f n i l
-      | same e ↦ getD-at (map f (upto n)) (f n) [] 0 i (size ∙ sym e) ∙ ap f (sym e)
-      | more l ↦ absurd (omega arith)
-    ]
-  where
-    size : length (map f (upto n)) ≡ n
-    size = length-map (upto n) f ∙ length-upto n
 
 -- where an entry comes from is a place below n
 pub from-below : (n p q i : ℕ) → p < n → q < n → i < n → movedFrom p q i < n
@@ -77,7 +57,7 @@ unfolding shifted
 shifted-moved n places size small perm a b ha hb d =
     ext-getD 0 (map entry (upto 64)) (moved ++ drop n places)
     (length-map (upto 64) entry ∙ length-upto 64 ∙ sym (length-append moved (drop n places) ∙ omega (arith, moved-size, length-drop n places)))
-    (λ i l. getD-map-upto entry 64 i (rw (length-map (upto 64) entry, length-upto 64) at l) ∙ sym (by-place i (order i n)))
+    (λ i l. map-upto-at entry 64 i (rw (length-map (upto 64) entry, length-upto 64) at l) ∙ sym (by-place i (order i n)))
   where
     p : ℕ
     p = place (take n places) a
@@ -178,7 +158,7 @@ module _ {xs : List ℕ} {p q : ℕ} where
   shifted-end {ys} {i} s h =
       ext-getD 0 ys (map (λ k. getD xs (movedFrom p q k) 0) (upto 64))
       (s .size ∙ sym (length-map (upto 64) (λ k. getD xs (movedFrom p q k) 0) ∙ length-upto 64))
-      (λ k l. s .written k (omega (arith, s .size)) ∙ sym (getD-map-upto (λ k. getD xs (movedFrom p q k) 0) 64 k (omega (arith, s .size))))
+      (λ k l. s .written k (omega (arith, s .size)) ∙ sym (map-upto-at (λ k. getD xs (movedFrom p q k) 0) 64 k (omega (arith, s .size))))
 
 -- the array that moving by places gives
 pub moved-array : {l : Layout} {a b : ℕ} → Pair l a b → length (l .order) ≡ 64 → {p q : ℕ} {places : List ℕ}

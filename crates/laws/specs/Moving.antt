@@ -1,26 +1,27 @@
 -- Moving a vertex behind another, in a list that holds each vertex once.
-use Prim.Native.Nat.{ℕ, zero, suc, _+_, _-_, _≤_, _<_}
+use Prim.Native.Nat.{ℕ, suc, _+_, _-_, _≤_, _<_}
 use native.Mathlib.Nat.{add-sub-of-le, not-suc-le-zero}
 use native.Mathlib.Decide.{ℕ-discrete}
 use native.Mathlib.Omega.{arith}
-use mathlib.Core.Path.{_≡_, refl, sym, ap, ap₂, _∙_, subst}
-use mathlib.Core.Bool.{Bool, true, false, not, cond, _&&_}
+use mathlib.Core.Path.{_≡_, refl, sym, ap, _∙_, subst}
+use mathlib.Core.Bool.{Bool, true, false, not, cond}
 use mathlib.Core.List.{List, [], _∷_, _++_}
 use lib.ListN.{length, take, drop, length-append, length-drop, take-append-drop, List·getD-append}
-use lib.Seq.{split-at, length-take-le, getD-take, getD-drop, getD-at, getD-append-add, take-at, ext-getD}
-use lib.Dec.{T, T-not, not-T, eqb, leb, ltb, leb→le, ltb→lt, lt→ltb, eqb→eq}
+use lib.Seq.{length-take-le, getD-take, getD-drop, getD-at, getD-append-add, take-at}
+use lib.Dec.{T, not-T, eqb, leb, ltb, lt→ltb, eqb→eq}
 use borrow.Author.Tests.{eq-eqb, ne-eqb, lt-ltb, le-ltb, le-leb, lt-leb}
 use Rattle.model.specs.declared.Layout.{Layout}
 use Rattle.model.specs.declared.Changed.{Changed}
-use Rattle.model.specs.Lists.{one, upto, every, keep, sumOver, occurrences, place}
+use Rattle.model.specs.Lists.{one, keep, sumOver, occurrences, place}
 use Rattle.model.specs.Crossings.{crossings}
-use Rattle.model.specs.Layouts.{capacity, vertexOrder, crossingsOf, eachOnce, zeroFrom, valid, modulus, carried, changed, reordered}
-use Rattle.model.specs.Checks.{Check, refusal, byRefusal, checked, isValid, isVertex, differ}
+use Rattle.model.specs.Layouts.{vertexOrder, crossingsOf, eachOnce, zeroFrom, valid, modulus, carried, changed, reordered}
+use Rattle.model.specs.Checks.{refusal, isValid, isVertex, differ}
 use Rattle.model.specs.Edits.{changedOr, insertAfter, movedAfter, moveChecks, moveOf}
-use Rattle.laws.specs.Indicators.{less, same, more, order, one-ne, T-true}
-use Rattle.laws.specs.ListSums.{All, none, also, all-mono, all-upto, sumOver-append}
-use Rattle.laws.specs.Permutations.{at, Permutation, at-lt, place-lt, place-at, at-of-place, place-below, place-of-at}
-use Rattle.laws.specs.Validity.{sound, crossings-bound}
+use Rattle.laws.specs.Indicators.{less, same, more, order, one-ne, T-true, bool-ext}
+use Rattle.laws.specs.ListSums.{none, also}
+use Rattle.laws.specs.Permutations.{at, occurrences-cons, occurrences-append, occurrences-split, Permutation, place-lt, place-at, at-of-place, place-below}
+use Rattle.laws.specs.Refusals.{Pair, pair-passed, all-passed, when-accepted, when-refused, checked-number}
+use Rattle.laws.specs.Validity.{permutation-eachOnce, zero-from, zero-from-at, sound, crossings-bound}
 
 -- a list without the vertex a
 abbrev pub without : ℕ → List ℕ → List ℕ
@@ -99,15 +100,6 @@ inserted-place b a (x ∷ xs) h = by-test (eqb b x) h (inserted-place b a xs)
     by-test true k r = refl
     by-test false k r = ap (λ (ys : List ℕ). x ∷ ys) (r (omega arith))
 
--- how often v occurs in lists put together
-pub occurrences-append : (v : ℕ) (xs ys : List ℕ) → occurrences v (xs ++ ys) ≡ occurrences v xs + occurrences v ys
-unfolding occurrences
-occurrences-append v xs ys = sumOver-append (λ x. one (eqb v x)) xs ys
-
-occurrences-cons : (v x : ℕ) (xs : List ℕ) → occurrences v (x ∷ xs) ≡ one (eqb v x) + occurrences v xs
-unfolding occurrences sumOver
-occurrences-cons v x xs = refl
-
 -- taking out the entry at a place, and putting one in, by length and by how often each vertex occurs
 length-takenOut : (p : ℕ) (o : List ℕ) → p < length o → suc (length (takenOut p o)) ≡ length o
 length-takenOut p o h = rw (length-append (take p o) (drop (suc p) o), length-take-le p o (omega arith), length-drop (suc p) o) (omega arith)
@@ -116,9 +108,7 @@ length-putIn : (r a : ℕ) (xs : List ℕ) → r ≤ length xs → length (putIn
 length-putIn r a xs h = rw (length-append (take r xs) (a ∷ drop r xs), length-take-le r xs h, length-drop r xs) (omega arith)
 
 occurrences-takenOut : (v p : ℕ) (o : List ℕ) → p < length o → occurrences v o ≡ one (eqb v (at o p)) + occurrences v (takenOut p o)
-occurrences-takenOut v p o h =
-    ap (occurrences v) (split-at o p 0 h)
-    ∙ rw (occurrences-append v (take p o) (at o p ∷ drop (suc p) o), occurrences-cons v (at o p) (drop (suc p) o), occurrences-append v (take p o) (drop (suc p) o)) (omega arith)
+occurrences-takenOut v p o h = occurrences-split v o p h ∙ rw (occurrences-append v (take p o) (drop (suc p) o)) (omega arith)
 
 occurrences-putIn : (v r a : ℕ) (xs : List ℕ) → occurrences v (putIn r a xs) ≡ one (eqb v a) + occurrences v xs
 occurrences-putIn v r a xs =
@@ -331,71 +321,15 @@ module _ {n : ℕ} {o : List ℕ} (perm : Permutation n o) (a : ℕ) (ha : a < n
               ∙ entry-back (place o a) (place o b) a o (at-of-place perm a ha) l place-a i
         ]
 
-    -- a list with these entries is the moved list
-    pub moved-is : (xs : List ℕ) → length xs ≡ n → ((i : ℕ) → i < n → at xs i ≡ at o (movedFrom (place o a) (place o b) i)) → xs ≡ movedAfter a b o
-    moved-is xs e h =
-        ext-getD 0 xs (movedAfter a b o) (e ∙ sym (moved-permutation .size)) (λ i l. h i (omega arith) ∙ sym (moved-entry i))
-
--- the same for the vertices at two places
-pub moved-places : {n : ℕ} {o : List ℕ} → Permutation n o → (p q : ℕ) → p < n → q < n → (p ≡ q → ⊥)
-    → (i : ℕ) → at (movedAfter (at o p) (at o q) o) i ≡ at o (movedFrom p q i)
-moved-places {n} {o} perm p q hp hq d i =
-    moved-entry perm (at o p) (at-lt perm p hp) (at o q) (at-lt perm q hq)
-    (λ e. d (sym (place-of-at perm p hp) ∙ ap (place o) e ∙ place-of-at perm q hq)) i
-    ∙ ap₂ (λ (x y : ℕ). at o (movedFrom x y i)) (place-of-at perm p hp) (place-of-at perm q hq)
-
--- ---- tests of every entry, from the entries
-
-pub and-both : (a b : Bool) → T a → T b → T (a && b)
-and-both true b t u = u
-and-both false b t u = t
-
-module _ {A : Type 0} where
-  pub all-every : (p : A → Bool) {xs : List A} → All (λ x. T (p x)) xs → T (every p xs)
-  unfolding every
-  all-every p none = tt
-  all-every p (also {x} {xs} t ts) = and-both (p x) (every p xs) t (all-every p ts)
-
-  pub all-kept : (p : A → Bool) (xs : List A) → All (λ x. T (p x)) (keep p xs)
-  unfolding keep
-  all-kept p [] = none
-  all-kept p (x ∷ xs) = by-test (p x) refl (all-kept p xs)
-    where
-      by-test : (b : Bool) → p x ≡ b → All (λ x. T (p x)) (keep p xs) → All (λ x. T (p x)) (cond b (x ∷ keep p xs) (keep p xs))
-      by-test true e r = also (subst T (sym e) tt) r
-      by-test false e r = r
-
-  every-ext : {P : A → Type 0} (p q : A → Bool) {xs : List A} → All P xs → ((x : A) → P x → p x ≡ q x) → every p xs ≡ every q xs
-  unfolding every
-  every-ext p q none h = refl
-  every-ext p q (also {x} t ts) h = ap₂ (λ (a b : Bool). a && b) (h x t) (every-ext p q ts h)
-
-pub every-below : (p : ℕ → Bool) (n : ℕ) → ((i : ℕ) → i < n → T (p i)) → T (every p (upto n))
-every-below p n h = all-every p (all-mono (all-upto n) h)
-
--- the order of a valid layout may be any that holds each vertex once
-pub permutation-eachOnce : {n : ℕ} {o : List ℕ} → Permutation n o → T (eachOnce n o)
-unfolding eachOnce
-permutation-eachOnce {n} {o} perm = every-below (λ v. eqb (occurrences v o) 1) n (λ v h. rw (eq-eqb (occurrences v o) 1 (perm .once v h)) tt)
+-- ---- a valid layout with another order
 
 -- whether the unused places are 0 asks only for these places
-pub zeroFrom-ext : (n : ℕ) (xs ys : List ℕ) → ((i : ℕ) → n ≤ i → at xs i ≡ at ys i) → zeroFrom n xs ≡ zeroFrom n ys
-unfolding zeroFrom
+zeroFrom-ext : (n : ℕ) (xs ys : List ℕ) → ((i : ℕ) → n ≤ i → at xs i ≡ at ys i) → zeroFrom n xs ≡ zeroFrom n ys
 zeroFrom-ext n xs ys h =
-    every-ext (λ i. eqb (at xs i) 0) (λ i. eqb (at ys i) 0) (all-kept (λ i. leb n i) (upto capacity))
-    (λ i t. ap (λ (x : ℕ). eqb x 0) (h i (leb→le n i t)))
-
--- ---- a layout with another order
+    bool-ext (zeroFrom n xs) (zeroFrom n ys) (λ t. zero-from n ys (λ i b l. sym (h i b) ∙ zero-from-at n xs t i b l))
+    (λ t. zero-from n xs (λ i b l. h i b ∙ zero-from-at n ys t i b l))
 
 module _ (l : Layout) (o : List ℕ) where
-  pub reordered-n : reordered l o .n ≡ l .n
-  unfolding reordered changed
-  reordered-n = refl
-
-  pub reordered-adjacency : reordered l o .adjacency ≡ l .adjacency
-  unfolding reordered changed
-  reordered-adjacency = refl
-
   pub reordered-order : length o ≡ l .n → vertexOrder (reordered l o) ≡ o
   unfolding reordered changed vertexOrder
   reordered-order e = take-at o (drop (l .n) (l .order)) (l .n) e
@@ -481,46 +415,6 @@ reordered-present l h = λ i. record { n = l .n; order = parts i; adjacency = l 
         ap (λ (xs : List ℕ). carried (l .count) (crossingsOf l) (crossings (l .n) (take (l .n) xs) (l .adjacency))) parts
         ∙ carried-same (l .count) (crossingsOf l) h
 
--- ---- the checks of a call
-
--- an accepted call passed each check
-pub check-passed : (c : Check) (cs : List Check) → (c .code ≡ 0 → ⊥) → refusal (c ∷ cs) ≡ 0 → T (c .passes) × (refusal cs ≡ 0)
-unfolding refusal
-check-passed c cs d e = by-test (c .passes) e
-  where
-    by-test : (b : Bool) → cond b (refusal cs) (c .code) ≡ 0 → T b × (refusal cs ≡ 0)
-    by-test true k = (tt, k)
-    by-test false k = absurd (d k)
-
--- and a call that passes each is accepted
-pub all-passed : {cs : List Check} → All (λ c. T (c .passes)) cs → refusal cs ≡ 0
-unfolding refusal
-all-passed none = refl
-all-passed (also {x = c} {xs = cs} t ts) = ap (λ (b : Bool). cond b (refusal cs) (c .code)) (T-true (c .passes) t) ∙ all-passed ts
-
-module _ {A : Type 0} (cs : List Check) (accepted : A) (refused : ℕ → A) where
-  pub checked-accepted : refusal cs ≡ 0 → checked cs accepted refused ≡ accepted
-  unfolding checked byRefusal
-  checked-accepted e = ap (λ (r : ℕ). byRefusal r accepted refused) e
-
-  pub checked-refused : (refusal cs ≡ 0 → ⊥) → checked cs accepted refused ≡ refused (refusal cs)
-  unfolding checked byRefusal
-  checked-refused d = by-number (refusal cs) d
-    where
-      by-number : (r : ℕ) → (r ≡ 0 → ⊥) → byRefusal r accepted refused ≡ refused r
-      by-number zero k = absurd (k refl)
-      by-number (suc r) k = refl
-
-  -- the number that comes back is that of the checks
-  pub checked-number : (number : A → ℕ) → number accepted ≡ 0 → ((r : ℕ) → number (refused r) ≡ r)
-      → number (checked cs accepted refused) ≡ refusal cs
-  unfolding checked byRefusal
-  checked-number number z s = by-number (refusal cs)
-    where
-      by-number : (r : ℕ) → number (byRefusal r accepted refused) ≡ r
-      by-number zero = z
-      by-number (suc r) = s (suc r)
-
 -- ---- the call move
 
 module _ (l : Layout) (a b : ℕ) where
@@ -532,31 +426,24 @@ module _ (l : Layout) (a b : ℕ) where
       (λ (c : Changed). c .refusal) refl (λ r. refl)
 
   -- what an accepted move may count on
-  pub move-passed : moveOf l a b .refusal ≡ 0 → T (valid l) × (a < l .n) × (b < l .n) × (a ≡ b → ⊥)
-  unfolding moveChecks isValid isVertex differ
-  move-passed e =
-      let first = check-passed (isValid l) (isVertex l a ∷ isVertex l b ∷ differ a b ∷ []) (λ k. omega arith) (sym move-number ∙ e) in
-      let second = check-passed (isVertex l a) (isVertex l b ∷ differ a b ∷ []) (λ k. omega arith) (first .1) in
-      let third = check-passed (isVertex l b) (differ a b ∷ []) (λ k. omega arith) (second .1) in
-      let last = check-passed (differ a b) [] (λ k. omega arith) (third .1) in
-      (first .0, ltb→lt a (l .n) (second .0), ltb→lt b (l .n) (third .0), λ k. T-not (eqb a b) (last .0) (subst T (sym (eq-eqb a b k)) tt))
+  pub move-passed : moveOf l a b .refusal ≡ 0 → Pair l a b
+  move-passed e = pair-passed l a b (sym move-number ∙ e)
 
   -- and a move that may count on it is accepted
   pub move-accepted : T (valid l) → a < l .n → b < l .n → (a ≡ b → ⊥)
       → moveOf l a b ≡ record { refusal = 0; layout = reordered l (movedAfter a b (vertexOrder l)) }
   unfolding moveOf changedOr moveChecks isValid isVertex differ
   move-accepted t h k d =
-      checked-accepted (moveChecks l a b)
+      when-accepted (moveChecks l a b)
       (record { refusal = 0; layout = reordered l (movedAfter a b (vertexOrder l)) }) (λ r. record { refusal = r; layout = l })
       (all-passed (also t (also (lt→ltb a (l .n) h) (also (lt→ltb b (l .n) k) (also (not-T (eqb a b) (λ e. d (eqb→eq a b e))) none)))))
 
   pub move-refused : (moveOf l a b .refusal ≡ 0 → ⊥) → moveOf l a b ≡ record { refusal = moveOf l a b .refusal; layout = l }
   unfolding moveOf changedOr
   move-refused d =
-      checked-refused (moveChecks l a b)
+      when-refused (moveChecks l a b)
       (record { refusal = 0; layout = reordered l (movedAfter a b (vertexOrder l)) }) (λ r. record { refusal = r; layout = l })
-      (λ e. d (move-number ∙ e))
-      ∙ ap (λ (r : ℕ). record { refusal = r; layout = l }) (sym move-number)
+      move-number d
 
 -- the layout that an accepted move gives
 module _ (l : Layout) (t : T (valid l)) (a : ℕ) (h : a < l .n) (b : ℕ) (k : b < l .n) (d : a ≡ b → ⊥) where
@@ -579,7 +466,7 @@ move-keeps l a b =
       | no d ↦ same-keeps (ap (λ (c : Changed). c .layout) (move-refused l a b d))
     ]
   where
-    accepted : T (valid l) × (a < l .n) × (b < l .n) × (a ≡ b → ⊥) → Keeps l (moveOf l a b .layout)
+    accepted : Pair l a b → Keeps l (moveOf l a b .layout)
     accepted p =
-        rw (move-layout l (p .0) a (p .1) b (p .2) (p .3))
-        (changed-keeps l (l .n) (movedAfter a b (vertexOrder l) ++ drop (l .n) (l .order)) (l .adjacency) (move-valid l (p .0) a (p .1) b (p .2) (p .3)))
+        rw (move-layout l (p .is-valid) a (p .first) b (p .second) (p .different))
+        (changed-keeps l (l .n) (movedAfter a b (vertexOrder l) ++ drop (l .n) (l .order)) (l .adjacency) (move-valid l (p .is-valid) a (p .first) b (p .second) (p .different)))

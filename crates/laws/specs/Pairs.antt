@@ -1,13 +1,13 @@
 -- Sums over unordered pairs of numbers below n.
-use Prim.Native.Nat.{ℕ, _+_, _*_, _≤_, _<_}
+use Prim.Native.Nat.{ℕ, _+_, _*_, _<_}
 use native.Mathlib.Nat.{mul-zero, mul-left-comm}
 use native.Mathlib.Omega.{arith}
-use mathlib.Core.Path.{_≡_, refl, sym, ap, ap₂, _∙_}
+use mathlib.Core.Path.{_≡_, sym, ap, _∙_}
 use mathlib.Core.List.{List}
 use lib.Dec.{ltb}
 use Rattle.model.specs.Lists.{one}
-use Rattle.laws.specs.Indicators.{Order, less, same, more, order, one-lt, one-ge}
-use Rattle.laws.specs.Sums.{sum, sum-ext, sum-zero, sum-add, sum-scale, sum-swap, sum4, sum4-ext, sum4-swap-first, sum4-swap-middle, sum4-swap-last}
+use Rattle.laws.specs.Indicators.{less, same, more, order, one-lt, one-ge}
+use Rattle.laws.specs.Sums.{double, halves, sum, sum-ext, sum-zero, sum-add, sum-scale, sum-swap, sum4, sum4-ext, sum4-swap-first, sum4-swap-middle, sum4-swap-last}
 use Rattle.laws.specs.Permutations.{at, Permutation, at-lt, sum-vertices}
 
 -- each unordered pair once, the lower number first
@@ -107,9 +107,6 @@ pairSum-twice n F s =
     down : ℕ → ℕ
     down i = sum n (λ j. one (ltb j i) * F i j)
 
-    double : (x : ℕ) → x + x ≡ 2 * x
-    double x = omega arith
-
     split : (i j : ℕ) → i < n → j < n → F i j ≡ one (ltb i j) * F i j + one (ltb j i) * F i j
     split i j a b =
         elim (order i j) [
@@ -137,6 +134,3 @@ pair-vertices {n} {o} perm F s =
       swap = λ i j a b. s .swap (at o i) (at o j) (at-lt perm i a) (at-lt perm j b);
       diagonal = λ i a. s .diagonal (at o i) (at-lt perm i a);
     }))
-  where
-    halves : (x y : ℕ) → 2 * x ≡ 2 * y → x ≡ y
-    halves x y e = omega arith

@@ -1,17 +1,17 @@
 -- A list that holds each vertex once: places and vertices are inverse, and a sum over vertices is the sum over places.
 use Prim.Native.Nat.{ℕ, zero, suc, _+_, _*_, _≤_, _<_, zero-le, suc-le-suc}
-use native.Mathlib.Nat.{add-zero, zero-add, mul-one, le-step, lt-suc-self, not-suc-le-zero, le-of-suc-le-suc}
+use native.Mathlib.Nat.{mul-one, not-suc-le-zero, le-of-suc-le-suc}
 use native.Mathlib.Omega.{arith}
-use mathlib.Core.Path.{_≡_, refl, sym, ap, ap₂, _∙_, subst}
+use mathlib.Core.Path.{_≡_, refl, sym, ap, _∙_}
 use mathlib.Core.Bool.{Bool, true, false, cond}
 use mathlib.Core.List.{List, [], _∷_, _++_}
 use lib.ListN.{length, getD, take, drop}
 use lib.Seq.{split-at, take-suc, drop-cons}
-use lib.Dec.{T, eqb, ltb, eqb→eq, eqb-refl}
-use borrow.Author.Tests.{eq-eqb, ne-eqb, eqb-true, eqb-false}
-use Rattle.model.specs.Lists.{one, upto, every, sumOver, occurrences, place}
-use Rattle.laws.specs.Indicators.{Order, less, same, more, order, one-eq, one-ne, one-lt, one-ge, one-le, one-sym}
-use Rattle.laws.specs.Sums.{sum, sum-ext, sum-zero, sum-add, sum-scale, sum-const, sum-swap, sum-at, sum-at-right, all-one}
+use lib.Dec.{eqb, ltb}
+use borrow.Author.Tests.{eq-eqb, eqb-true}
+use Rattle.model.specs.Lists.{one, sumOver, occurrences, place}
+use Rattle.laws.specs.Indicators.{less, same, more, order, one-eq, one-ne, one-lt, one-ge, one-le, one-sym}
+use Rattle.laws.specs.Sums.{sum, sum-ext, sum-zero, sum-scale, sum-const, sum-swap, sum-at, sum-at-right, all-one}
 use Rattle.laws.specs.ListSums.{sumOver-append, sumOver-places}
 
 -- the vertex at a place
@@ -31,6 +31,21 @@ occurrences-places v o = sumOver-places (λ x. one (eqb v x)) 0 o
 pub occurrences-nil : (v : ℕ) → occurrences v [] ≡ 0
 unfolding occurrences sumOver
 occurrences-nil v = refl
+
+pub occurrences-cons : (v x : ℕ) (xs : List ℕ) → occurrences v (x ∷ xs) ≡ one (eqb v x) + occurrences v xs
+unfolding occurrences sumOver
+occurrences-cons v x xs = refl
+
+-- in lists put together, and before a place, at it and behind it
+pub occurrences-append : (v : ℕ) (xs ys : List ℕ) → occurrences v (xs ++ ys) ≡ occurrences v xs + occurrences v ys
+unfolding occurrences
+occurrences-append v xs ys = sumOver-append (λ x. one (eqb v x)) xs ys
+
+pub occurrences-split : (v : ℕ) (o : List ℕ) (j : ℕ) → j < length o
+    → occurrences v o ≡ occurrences v (take j o) + (one (eqb v (at o j)) + occurrences v (drop (suc j) o))
+occurrences-split v o j h =
+    ap (occurrences v) (split-at o j 0 h)
+    ∙ rw (occurrences-append v (take j o) (at o j ∷ drop (suc j) o), occurrences-cons v (at o j) (drop (suc j) o))
 
 -- what occurs has a place, and stands there
 pub place-lt : (o : List ℕ) (v : ℕ) → 0 < occurrences v o → place o v < length o
@@ -128,29 +143,19 @@ module _ {n : ℕ} {o : List ℕ} (perm : Permutation n o) where
       gather : (i : ℕ) → i < n → sum n (λ v. f v * one (eqb v (at o i))) ≡ f (at o i)
       gather i h = sum-at-right n (at o i) f (at-lt i h)
 
-  -- what stands before a place, at it and behind it
-  split : (j : ℕ) → j < n → (v : ℕ) → occurrences v o ≡ occurrences v (take j o) + (one (eqb v (at o j)) + occurrences v (drop (suc j) o))
-  unfolding occurrences sumOver
-  split j h v =
-      ap (occurrences v) (split-at o j 0 (omega (arith, perm .size)))
-      ∙ sumOver-append (λ x. one (eqb v x)) (take j o) (at o j ∷ drop (suc j) o)
-
   pub before-next : (j : ℕ) → j < n → (v : ℕ) → occurrences v (take (suc j) o) ≡ occurrences v (take j o) + one (eqb v (at o j))
-  unfolding occurrences sumOver
   before-next j h v =
       ap (occurrences v) (take-suc o j 0 (omega (arith, perm .size)))
-      ∙ sumOver-append (λ x. one (eqb v x)) (take j o) (at o j ∷ [])
-      ∙ ap (λ (x : ℕ). occurrences v (take j o) + x) (add-zero (one (eqb v (at o j))))
+      ∙ rw (occurrences-append v (take j o) (at o j ∷ []), occurrences-cons v (at o j) [], occurrences-nil v) (omega arith)
 
   pub from-next : (j : ℕ) → j < n → (v : ℕ) → occurrences v (drop j o) ≡ one (eqb v (at o j)) + occurrences v (drop (suc j) o)
-  unfolding occurrences sumOver
-  from-next j h v = ap (occurrences v) (drop-cons o j 0 (omega (arith, perm .size)))
+  from-next j h v = ap (occurrences v) (drop-cons o j 0 (omega (arith, perm .size))) ∙ occurrences-cons v (at o j) (drop (suc j) o)
 
   pub alone-before : (j : ℕ) → j < n → occurrences (at o j) (take j o) ≡ 0
-  alone-before j h = omega (arith, split j h (at o j), perm .once (at o j) (at-lt j h), one-eq (at o j) (at o j) refl)
+  alone-before j h = omega (arith, occurrences-split (at o j) o j (rw (perm .size) h), perm .once (at o j) (at-lt j h), one-eq (at o j) (at o j) refl)
 
   pub alone-after : (j : ℕ) → j < n → occurrences (at o j) (drop (suc j) o) ≡ 0
-  alone-after j h = omega (arith, split j h (at o j), perm .once (at o j) (at-lt j h), one-eq (at o j) (at o j) refl)
+  alone-after j h = omega (arith, occurrences-split (at o j) o j (rw (perm .size) h), perm .once (at o j) (at-lt j h), one-eq (at o j) (at o j) refl)
 
   -- no number from n on occurs
   pub none-beyond : (v : ℕ) → n ≤ v → occurrences v o ≡ 0

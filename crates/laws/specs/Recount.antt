@@ -1,24 +1,22 @@
 -- The carried count of a changed layout, by the counter's formula and by the definition; and that edits keep an order and edges that can be counted.
-use Prim.Native.Nat.{ℕ, zero, suc, _+_, _*_, _-_, _/_, _%_, _^_, _≤_, _<_}
-use native.Mathlib.Nat.{mod-eq-of-lt, mod-add-mod, add-mod-right, lt-of-lt-of-le, le-of-lt, le-trans}
-use native.Mathlib.Decide.{ℕ-discrete}
+use Prim.Native.Nat.{ℕ, _+_, _-_, _%_, _≤_, _<_}
+use native.Mathlib.Nat.{mod-eq-of-lt, mod-add-mod, add-mod-right, lt-of-lt-of-le}
 use native.Mathlib.Omega.{arith}
-use mathlib.Core.Path.{_≡_, refl, sym, ap, ap₂, _∙_, subst}
-use mathlib.Core.Bool.{Bool, true, false, cond}
-use mathlib.Core.List.{List, [], _∷_, _++_}
-use lib.ListN.{length, getD, take, set}
-use lib.Seq.{getD-take, getD-set-same, getD-set-other}
-use lib.Dec.{T, eqb, leb, ltb}
+use mathlib.Core.Path.{_≡_, sym, ap, ap₂, _∙_}
+use mathlib.Core.Bool.{cond}
+use mathlib.Core.List.{List}
+use lib.ListN.{take}
+use lib.Seq.{getD-take}
+use lib.Dec.{T, leb}
 use borrow.Author.Tests.{le-leb}
 use Rattle.model.specs.declared.Layout.{Layout}
-use Rattle.model.specs.Lists.{one}
-use Rattle.model.specs.Crossings.{bit, linked, crossings}
-use Rattle.model.specs.Layouts.{capacity, modulus, vertexOrder, crossingsOf, valid, carried, changed}
-use Rattle.laws.specs.Permutations.{at, Permutation, at-lt}
+use Rattle.model.specs.Crossings.{crossings}
+use Rattle.model.specs.Layouts.{modulus, vertexOrder, crossingsOf, valid, carried, changed}
+use Rattle.laws.specs.Permutations.{Permutation, at-lt}
 use Rattle.laws.specs.Pairs.{Symmetric}
 use Rattle.laws.specs.EdgeCounts.{weight}
 use Rattle.laws.specs.MaskCount.{vertexAt, countOn, countOn-crossings}
-use Rattle.laws.specs.Validity.{Sound, sound}
+use Rattle.laws.specs.Validity.{sound}
 
 -- an order that holds each vertex once, and symmetric edges
 pub record Drawn (n : ℕ) (order adj : List ℕ) : Type 0 where

@@ -2,19 +2,19 @@
 use Prim.Native.Nat.{ℕ, zero, suc, _≤_, _<_}
 use native.Mathlib.Omega.{arith}
 use native.Mathlib.Decide.{ℕ-discrete}
-use mathlib.Core.Path.{_≡_, refl, sym, ap, ap₂, _∙_, subst}
+use mathlib.Core.Path.{_≡_, refl, sym, ap, _∙_, subst}
 use mathlib.Core.Bool.{Bool, true, false, not, cond}
 use mathlib.Core.List.{List, [], _∷_, _++_}
-use lib.Dec.{T, eqb, leb, ltb}
+use lib.Dec.{T, eqb}
 use borrow.Author.Tests.{ltb-true, eqb-false, not-true}
 use Rattle.model.specs.declared.Layout.{Layout}
-use Rattle.model.specs.declared.Changed.{Changed}
 use Rattle.model.specs.Crossings.{linked}
 use Rattle.model.specs.Layouts.{valid}
 use Rattle.model.specs.Checks.{Check, refusal, byRefusal, checked, isValid, isVertex, differ, isUnlinked, isLinked}
+use Rattle.model.specs.Edits.{changedOr, moveChecks, linkChecks, unlinkChecks}
+use Rattle.laws.specs.Indicators.{T-true}
 use Rattle.laws.specs.ListSums.{All, none, also}
 use Rattle.laws.specs.Validity.{sound}
-use Rattle.model.specs.Edits.{changedOr, moveChecks, linkChecks, unlinkChecks}
 
 -- ---- lists of checks
 
@@ -30,8 +30,23 @@ passed c cs h e = by-test (c .passes) refl e
     by-test true p z = record { passes = p; rest = z }
     by-test false p z = absurd (omega arith)
 
+-- each has a number
+abbrev pub Numbered : List Check → Type 0
+Numbered cs = All (λ c. 0 < c .code) cs
+
+-- where no number comes out, each passes
+pub all-pass : {cs : List Check} → Numbered cs → refusal cs ≡ 0 → All (λ c. c .passes ≡ true) cs
+all-pass none e = none
+all-pass (also {x = c} {xs = cs} p ps) e = let first = passed c cs p e in also (first .passes) (all-pass ps (first .rest))
+
+-- and where each passes, none does
+pub all-passed : {cs : List Check} → All (λ c. T (c .passes)) cs → refusal cs ≡ 0
+unfolding refusal
+all-passed none = refl
+all-passed (also {x = c} {xs = cs} t ts) = ap (λ (b : Bool). cond b (refusal cs) (c .code)) (T-true (c .passes) t) ∙ all-passed ts
+
 -- one check more, behind checks that pass, and behind one that fails
-pub one-more : {cs : List Check} (c : Check) → All (λ d. 0 < d .code) cs → refusal cs ≡ 0 → refusal (cs ++ (c ∷ [])) ≡ cond (c .passes) 0 (c .code)
+pub one-more : {cs : List Check} (c : Check) → Numbered cs → refusal cs ≡ 0 → refusal (cs ++ (c ∷ [])) ≡ cond (c .passes) 0 (c .code)
 unfolding refusal
 one-more c none z = refl
 one-more c (also {x = d} {xs = cs} p ps) z =
@@ -54,6 +69,11 @@ shared cs c e = elim (ℕ-discrete (refusal cs) 0) [ yes z ↦ z | no n ↦ sym 
 
 -- ---- what a call answers
 
+pub by-number : {A : Type 0} (r : ℕ) (accepted : A) (refused : ℕ → A) → (r ≡ 0 → ⊥) → byRefusal r accepted refused ≡ refused r
+unfolding byRefusal
+by-number zero accepted refused n = absurd (n refl)
+by-number (suc r) accepted refused n = refl
+
 module _ {A : Type 0} (cs : List Check) (accepted : A) (refused : ℕ → A) where
   pub when-accepted : refusal cs ≡ 0 → checked cs accepted refused ≡ accepted
   unfolding checked byRefusal
@@ -61,11 +81,29 @@ module _ {A : Type 0} (cs : List Check) (accepted : A) (refused : ℕ → A) whe
 
   pub when-refused : {r : ℕ} → r ≡ refusal cs → (r ≡ 0 → ⊥) → checked cs accepted refused ≡ refused r
   unfolding checked byRefusal
-  when-refused {r} e n = ap (λ (k : ℕ). byRefusal k accepted refused) (sym e) ∙ by-number r n
+  when-refused {r} e n = ap (λ (k : ℕ). byRefusal k accepted refused) (sym e) ∙ by-number r accepted refused n
+
+  -- the number that comes back is that of the checks
+  pub checked-number : (number : A → ℕ) → number accepted ≡ 0 → ((r : ℕ) → number (refused r) ≡ r)
+      → number (checked cs accepted refused) ≡ refusal cs
+  unfolding checked byRefusal
+  checked-number number z s = from (refusal cs)
     where
-      by-number : (r : ℕ) → (r ≡ 0 → ⊥) → byRefusal r accepted refused ≡ refused r
-      by-number zero m = absurd (m refl)
-      by-number (suc k) m = refl
+      from : (r : ℕ) → number (byRefusal r accepted refused) ≡ r
+      from zero = z
+      from (suc r) = s (suc r)
+
+-- ---- calls on a layout
+
+pub valid-passed : (l : Layout) (cs : List Check) → refusal (isValid l ∷ cs) ≡ 0 → T (valid l) × (refusal cs ≡ 0)
+unfolding isValid
+valid-passed l cs e = let first = passed (isValid l) cs (omega arith) e in (subst T (sym (first .passes)) tt, first .rest)
+
+pub vertex-passed : (l : Layout) (v : ℕ) → refusal (isValid l ∷ isVertex l v ∷ []) ≡ 0 → T (valid l) × (v < l .n)
+unfolding isVertex
+vertex-passed l v e =
+    let first = valid-passed l (isVertex l v ∷ []) e in
+    (first .0, ltb-true v (l .n) (passed (isVertex l v) [] (omega arith) (first .1) .passes))
 
 -- ---- calls with two named vertices
 
@@ -76,20 +114,20 @@ pub record Pair (l : Layout) (a b : ℕ) : Type 0 where
   pub second : b < l .n
   pub different : a ≡ b → ⊥
 
-pub codes-positive : (l : Layout) (a b : ℕ) → All (λ d. 0 < d .code) (moveChecks l a b)
+codes-positive : (l : Layout) (a b : ℕ) → Numbered (moveChecks l a b)
 unfolding moveChecks isValid isVertex differ
 codes-positive l a b =
     also {x = isValid l} (omega arith) (also {x = isVertex l a} (omega arith) (also {x = isVertex l b} (omega arith) (also {x = differ a b} (omega arith) none)))
 
 pub pair-passed : (l : Layout) (a b : ℕ) → refusal (moveChecks l a b) ≡ 0 → Pair l a b
-unfolding moveChecks isValid isVertex differ
+unfolding moveChecks isVertex differ
 pair-passed l a b e =
-    let p₁ = passed (isValid l) (isVertex l a ∷ isVertex l b ∷ differ a b ∷ []) (omega arith) e in
-    let p₂ = passed (isVertex l a) (isVertex l b ∷ differ a b ∷ []) (omega arith) (p₁ .rest) in
+    let p₁ = valid-passed l (isVertex l a ∷ isVertex l b ∷ differ a b ∷ []) e in
+    let p₂ = passed (isVertex l a) (isVertex l b ∷ differ a b ∷ []) (omega arith) (p₁ .1) in
     let p₃ = passed (isVertex l b) (differ a b ∷ []) (omega arith) (p₂ .rest) in
     let p₄ = passed (differ a b) [] (omega arith) (p₃ .rest) in
     record {
-      is-valid = subst T (sym (p₁ .passes)) tt;
+      is-valid = p₁ .0;
       first = ltb-true a (l .n) (p₂ .passes);
       second = ltb-true b (l .n) (p₃ .passes);
       different = eqb-false a b (not-true (eqb a b) (p₄ .passes));
@@ -140,12 +178,3 @@ module _ (l : Layout) (cs : List Check) (next : Layout) where
   changed-accepted z e =
       ap (λ (k : Layout). record { refusal = 0; layout = k }) e
       ∙ sym (when-accepted cs (record { refusal = 0; layout = next }) (λ r. record { refusal = r; layout = l }) z)
-
--- ---- calls with one named vertex
-
-pub vertex-passed : (l : Layout) (v : ℕ) → refusal (isValid l ∷ isVertex l v ∷ []) ≡ 0 → T (valid l) × (v < l .n)
-unfolding isValid isVertex
-vertex-passed l v e =
-    let p₁ = passed (isValid l) (isVertex l v ∷ []) (omega arith) e in
-    let p₂ = passed (isVertex l v) [] (omega arith) (p₁ .rest) in
-    (subst T (sym (p₁ .passes)) tt, ltb-true v (l .n) (p₂ .passes))

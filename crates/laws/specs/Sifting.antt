@@ -18,9 +18,9 @@ use Rattle.model.specs.Edits.{movedAfter, moveOf}
 use Rattle.model.specs.Sifting.{clockwiseFrom, candidates, least, leastCrossings, improves, siftedOrder, sifted, reduction, moves}
 use Rattle.laws.specs.Indicators.{less, same, more, order, one-eq, one-ne}
 use Rattle.laws.specs.ListSums.{All, none, also, all-map, all-places}
-use Rattle.laws.specs.Permutations.{at, Permutation, place-below, occurs-at, none-beyond}
+use Rattle.laws.specs.Permutations.{at, occurrences-append, Permutation, place-below, occurs-at, none-beyond}
 use Rattle.laws.specs.Validity.{sound}
-use Rattle.laws.specs.Moving.{occurrences-append, at-right, rest-occurrences, moved-permutation, moved-again, reordered-order, reordered-crossings, reordered-valid, carried-right, carried-carried, carried-lt, carried-same, crossings-fit, reordered-present, CountRight, move-accepted, move-crossings}
+use Rattle.laws.specs.Moving.{at-right, rest-occurrences, moved-permutation, moved-again, reordered-order, reordered-crossings, reordered-valid, carried-right, carried-carried, carried-lt, carried-same, crossings-fit, reordered-present, CountRight, move-accepted, move-crossings}
 
 -- ---- the least of a list, and the first entry with a test
 

@@ -1,11 +1,12 @@
 -- The calls sift, round and settle: what an accepted one may count on and gives, and that a refused one changes nothing.
-use Prim.Native.Nat.{ℕ, zero, suc, _≤_, _<_}
+use Prim.Native.Nat.{ℕ, _≤_, _<_}
 use native.Mathlib.Omega.{arith}
 use mathlib.Core.Path.{_≡_, refl, sym, ap, _∙_}
 use mathlib.Core.Bool.{false}
 use mathlib.Core.List.{List, [], _∷_}
 use native.Mathlib.Decide.{ℕ-discrete}
-use lib.Dec.{T, leb, leb→le, le→leb, ltb→lt, lt→ltb}
+use lib.Dec.{T, leb, le→leb, lt→ltb}
+use borrow.Author.Tests.{leb-true}
 use Rattle.model.specs.declared.Layout.{Layout}
 use Rattle.model.specs.declared.Sifted.{Sifted}
 use Rattle.model.specs.declared.Rounded.{Rounded}
@@ -13,12 +14,13 @@ use Rattle.model.specs.declared.Converged.{Converged}
 use Rattle.model.specs.Lists.{upto}
 use Rattle.model.specs.Layouts.{valid}
 use Rattle.model.specs.Checks.{refusal, isValid, isVertex, limitFits}
-use Rattle.model.specs.Sifting.{sifted, reduction, siftChecks, siftOf, siftAll, siftRound, roundOf, stopped, afterRound, roundsUpTo, settleChecks, settleOf}
-use Rattle.laws.specs.Indicators.{and-left, and-right}
+use Rattle.model.specs.Sifting.{sifted, reduction, siftChecks, siftOf, siftAll, siftRound, roundOf, roundsUpTo, settleChecks, settleOf}
+use Rattle.laws.specs.Indicators.{and-intro, both-left, both-right}
 use Rattle.laws.specs.ListSums.{none, also}
-use Rattle.laws.specs.Moving.{and-both, Keeps, same-keeps, check-passed, all-passed, checked-accepted, checked-refused, checked-number}
+use Rattle.laws.specs.Refusals.{passed, valid-passed, vertex-passed, all-passed, when-accepted, when-refused, checked-number}
+use Rattle.laws.specs.Moving.{Keeps, same-keeps}
 use Rattle.laws.specs.Sifting.{Improved, improved-count}
-use Rattle.laws.specs.SiftingRounds.{ProperSift, proper-sift, ProperRound, proper-round, roundsOf, Settling, settling, rounds-run}
+use Rattle.laws.specs.SiftingRounds.{ProperSift, proper-sift, ProperRound, proper-round, roundsOf, Settling, settling, rounds-refusal, rounds-run}
 
 improved-keeps : {l m : Layout} → Improved l m → Keeps l m
 improved-keeps p t = (p .valid-after, improved-count t p)
@@ -37,21 +39,17 @@ module _ (l : Layout) (u : ℕ) where
   sift-number = checked-number (siftChecks l u) siftAnswer siftRefusal (λ (s : Sifted). s .refusal) refl (λ r. refl)
 
   pub sift-passed : siftOf l u .refusal ≡ 0 → T (valid l) × (u < l .n)
-  unfolding siftChecks isValid isVertex
-  sift-passed e =
-      let first = check-passed (isValid l) (isVertex l u ∷ []) (λ k. omega arith) (sym sift-number ∙ e) in
-      let second = check-passed (isVertex l u) [] (λ k. omega arith) (first .1) in
-      (first .0, ltb→lt u (l .n) (second .0))
+  unfolding siftChecks
+  sift-passed e = vertex-passed l u (sym sift-number ∙ e)
 
   pub sift-accepted : T (valid l) → u < l .n
       → siftOf l u ≡ record { refusal = 0; layout = sifted l u; reduction = reduction l (sifted l u) }
   unfolding siftOf siftChecks isValid isVertex
-  sift-accepted t h = checked-accepted (siftChecks l u) siftAnswer siftRefusal (all-passed (also t (also (lt→ltb u (l .n) h) none)))
+  sift-accepted t h = when-accepted (siftChecks l u) siftAnswer siftRefusal (all-passed (also t (also (lt→ltb u (l .n) h) none)))
 
   pub sift-refused : (siftOf l u .refusal ≡ 0 → ⊥) → siftOf l u ≡ record { refusal = siftOf l u .refusal; layout = l; reduction = 0 }
   unfolding siftOf
-  sift-refused d =
-      checked-refused (siftChecks l u) siftAnswer siftRefusal (λ e. d (sift-number ∙ e)) ∙ ap siftRefusal (sym sift-number)
+  sift-refused d = when-refused (siftChecks l u) siftAnswer siftRefusal sift-number d
 
   -- an accepted sift
   pub sift-call : siftOf l u .refusal ≡ 0
@@ -84,17 +82,15 @@ module _ (l : Layout) where
   round-number = checked-number (isValid l ∷ []) (siftRound l) roundRefusal (λ (r : Rounded). r .refusal) (all-refusal (upto (l .n)) l) (λ r. refl)
 
   pub round-passed : roundOf l .refusal ≡ 0 → T (valid l)
-  unfolding isValid
-  round-passed e = check-passed (isValid l) [] (λ k. omega arith) (sym round-number ∙ e) .0
+  round-passed e = valid-passed l [] (sym round-number ∙ e) .0
 
   pub round-accepted : T (valid l) → roundOf l ≡ siftRound l
   unfolding roundOf isValid
-  round-accepted t = checked-accepted (isValid l ∷ []) (siftRound l) roundRefusal (all-passed (also t none))
+  round-accepted t = when-accepted (isValid l ∷ []) (siftRound l) roundRefusal (all-passed (also t none))
 
   pub round-refused : (roundOf l .refusal ≡ 0 → ⊥) → roundOf l ≡ record { refusal = roundOf l .refusal; layout = l; reduction = 0; moved = 0 }
   unfolding roundOf
-  round-refused d =
-      checked-refused (isValid l ∷ []) (siftRound l) roundRefusal (λ e. d (round-number ∙ e)) ∙ ap roundRefusal (sym round-number)
+  round-refused d = when-refused (isValid l ∷ []) (siftRound l) roundRefusal round-number d
 
   -- an accepted round
   pub round-call : roundOf l .refusal ≡ 0 → ProperRound l × (roundOf l ≡ siftRound l)
@@ -109,11 +105,6 @@ module _ (l : Layout) where
 
 -- ---- settle
 
-rounds-refusal : (limit : ℕ) (l : Layout) → roundsUpTo limit l .refusal ≡ 0
-unfolding roundsUpTo stopped afterRound
-rounds-refusal zero l = refl
-rounds-refusal (suc limit) l = refl
-
 module _ (l : Layout) (limit : ℕ) where
   abbrev settleRefusal : ℕ → Converged
   settleRefusal r = record { refusal = r; layout = l; reduction = 0; rounds = 0; converged = false }
@@ -124,23 +115,22 @@ module _ (l : Layout) (limit : ℕ) where
       checked-number (settleChecks l limit) (roundsUpTo limit l) settleRefusal (λ (c : Converged). c .refusal) (rounds-refusal limit l) (λ r. refl)
 
   pub settle-passed : settleOf l limit .refusal ≡ 0 → T (valid l) × (1 ≤ limit) × (limit ≤ 1000)
-  unfolding settleChecks isValid limitFits
+  unfolding settleChecks limitFits
   settle-passed e =
-      let first = check-passed (isValid l) (limitFits limit ∷ []) (λ k. omega arith) (sym settle-number ∙ e) in
-      let second = check-passed (limitFits limit) [] (λ k. omega arith) (first .1) in
-      (first .0, leb→le 1 limit (and-left (leb 1 limit) (leb limit 1000) (second .0)), leb→le limit 1000 (and-right (leb 1 limit) (leb limit 1000) (second .0)))
+      let first = valid-passed l (limitFits limit ∷ []) (sym settle-number ∙ e) in
+      let fits = passed (limitFits limit) [] (omega arith) (first .1) .passes in
+      (first .0, leb-true 1 limit (both-left (leb 1 limit) (leb limit 1000) fits), leb-true limit 1000 (both-right (leb 1 limit) (leb limit 1000) fits))
 
   pub settle-accepted : T (valid l) → 1 ≤ limit → limit ≤ 1000 → settleOf l limit ≡ roundsUpTo limit l
   unfolding settleOf settleChecks isValid limitFits
   settle-accepted t h k =
-      checked-accepted (settleChecks l limit) (roundsUpTo limit l) settleRefusal
-      (all-passed (also t (also (and-both (leb 1 limit) (leb limit 1000) (le→leb 1 limit h) (le→leb limit 1000 k)) none)))
+      when-accepted (settleChecks l limit) (roundsUpTo limit l) settleRefusal
+      (all-passed (also t (also (and-intro (leb 1 limit) (leb limit 1000) (le→leb 1 limit h) (le→leb limit 1000 k)) none)))
 
   pub settle-refused : (settleOf l limit .refusal ≡ 0 → ⊥)
       → settleOf l limit ≡ record { refusal = settleOf l limit .refusal; layout = l; reduction = 0; rounds = 0; converged = false }
   unfolding settleOf
-  settle-refused d =
-      checked-refused (settleChecks l limit) (roundsUpTo limit l) settleRefusal (λ e. d (settle-number ∙ e)) ∙ ap settleRefusal (sym settle-number)
+  settle-refused d = when-refused (settleChecks l limit) (roundsUpTo limit l) settleRefusal settle-number d
 
   -- an accepted settling
   pub settle-call : settleOf l limit .refusal ≡ 0

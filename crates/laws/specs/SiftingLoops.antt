@@ -1,29 +1,27 @@
 -- A round as a loop over the vertices, and settling as a loop over rounds.
-use Prim.Native.Nat.{ℕ, zero, suc, _+_, _-_, _≤_, _<_}
-use native.Mathlib.Nat.{add-zero, zero-add, add-comm, add-assoc, le-trans, le-of-eq, le-antisymm, sub-zero, sub-eq-zero-of-le}
+use Prim.Native.Nat.{ℕ, suc, _+_, _-_, _≤_, _<_}
+use native.Mathlib.Nat.{add-zero, zero-add, add-comm, add-assoc, le-antisymm, sub-zero, sub-eq-zero-of-le}
 use native.Mathlib.Numerals.{add-one}
 use native.Mathlib.Omega.{arith}
-use mathlib.Core.Path.{_≡_, refl, sym, ap, ap₂, _∙_, subst}
+use mathlib.Core.Path.{_≡_, refl, sym, ap, ap₂, _∙_}
 use mathlib.Core.Bool.{Bool, true, false, cond}
 use mathlib.Core.List.{List, [], _∷_, _++_}
-use lib.ListN.{take, drop}
-use lib.Dec.{T, eqb, ltb}
+use lib.ListN.{drop}
+use lib.Dec.{T, eqb}
 use borrow.Author.Tests.{eq-eqb, ne-eqb}
 use Rattle.model.specs.declared.Layout.{Layout}
-use Rattle.model.specs.declared.Sifted.{Sifted}
 use Rattle.model.specs.declared.Rounded.{Rounded}
 use Rattle.model.specs.declared.Converged.{Converged}
 use Rattle.model.specs.Lists.{one, upto}
 use Rattle.model.specs.Crossings.{crossings}
-use Rattle.model.specs.Layouts.{vertexOrder, valid, crossingsOf, reordered}
+use Rattle.model.specs.Layouts.{vertexOrder, valid, crossingsOf}
 use Rattle.model.specs.Sifting.{leastCrossings, siftedOrder, sifted, reduction, moves, siftAll, siftRound, afterRound, stopped, roundsUpTo}
-use Rattle.laws.specs.Indicators.{one-le}
-use Rattle.laws.specs.ListSums.{All, all-upto, all-mono}
+use Rattle.laws.specs.ListSums.{all-upto, all-mono}
 use Rattle.laws.specs.Validity.{sound, crossings-bound}
 use Rattle.laws.specs.Recount.{recounted}
 use Rattle.laws.specs.MovedPlaces.{reordered-recounted}
-use Rattle.laws.specs.Sifting.{Improved, sift-least, sift-permutation, sifted-crossings, sifted-reduction, sifted-improved, sifted-less, sift-stays}
-use Rattle.laws.specs.SiftingRounds.{ProperSifts, proper-sifts, ProperRound, proper-round}
+use Rattle.laws.specs.Sifting.{sift-least, sift-permutation, sifted-crossings, sifted-improved, sifted-less, sift-stays}
+use Rattle.laws.specs.SiftingRounds.{proper-sifts, proper-round, rounds-refusal}
 
 -- ---- one sift
 
@@ -146,11 +144,6 @@ pub record SettlingUpTo (l : Layout) (limit : ℕ) (m : Layout) (saved run : ℕ
   pub exact : crossingsOf m + saved ≡ crossingsOf l
   pub whole : roundsUpTo limit l ≡ afterRounds saved run (roundsUpTo (limit - run) m)
 
-rounds-accepted : (limit : ℕ) (l : Layout) → roundsUpTo limit l .refusal ≡ 0
-unfolding roundsUpTo stopped afterRound
-rounds-accepted zero l = refl
-rounds-accepted (suc limit) l = refl
-
 pub settling-start : (l : Layout) (limit : ℕ) → T (valid l) → SettlingUpTo l limit l 0 0
 unfolding afterRounds
 settling-start l limit t =
@@ -158,7 +151,7 @@ settling-start l limit t =
       inside = omega arith;
       is-valid = t;
       exact = add-zero (crossingsOf l);
-      whole = sym (ap (λ (k : ℕ). afterRounds 0 0 (roundsUpTo k l)) (sub-zero limit) ∙ nothing-yet (roundsUpTo limit l) (rounds-accepted limit l));
+      whole = sym (ap (λ (k : ℕ). afterRounds 0 0 (roundsUpTo k l)) (sub-zero limit) ∙ nothing-yet (roundsUpTo limit l) (rounds-refusal limit l));
     }
   where
     nothing-yet : (c : Converged) → c .refusal ≡ 0 → afterRounds 0 0 c ≡ c

@@ -1,12 +1,11 @@
 -- Rounds of sifts, and rounds until one moves no vertex: what holds of each sift and each round that is run.
 use Prim.Native.Nat.{ℕ, zero, suc, _+_, _-_, _≤_, _<_, zero-le, suc-le-suc}
 use native.Mathlib.Nat.{le-trans, le-of-eq, add-zero, add-le-add, not-suc-le-zero}
-use native.Mathlib.Numerals.{add-one}
 use native.Mathlib.Omega.{arith}
 use mathlib.Core.Path.{_≡_, refl, sym, ap, _∙_, subst}
 use mathlib.Core.Bool.{Bool, true, false, false≢true}
-use mathlib.Core.List.{List, [], _∷_, _++_, map}
-use lib.ListN.{length, length-append}
+use mathlib.Core.List.{List, [], _∷_, map}
+use lib.ListN.{length}
 use lib.Dec.{T, eqb}
 use borrow.Author.Tests.{eq-eqb, eqb-true}
 use Rattle.model.specs.declared.Layout.{Layout}
@@ -14,8 +13,8 @@ use Rattle.model.specs.declared.Converged.{Converged}
 use Rattle.model.specs.Lists.{one, upto, sumOver}
 use Rattle.model.specs.Layouts.{vertexOrder, crossingsOf, valid, modulus, changed, reordered}
 use Rattle.model.specs.Sifting.{improves, sifted, reduction, moves, siftAll, siftRound, afterRound, stopped, roundsUpTo}
-use Rattle.laws.specs.Indicators.{less, same, more, order, one-le}
-use Rattle.laws.specs.ListSums.{All, none, also, all-mono, all-upto}
+use Rattle.laws.specs.Indicators.{same, one-le}
+use Rattle.laws.specs.ListSums.{All, none, also, all-mono, all-upto, all-below, length-upto}
 use Rattle.laws.specs.Moving.{CountRight}
 use Rattle.laws.specs.Sifting.{BestPlace, LocalMinimum, Improved, improved-refl, improved-trans, improved-count, sifted-improved, sifted-best, sifted-reduction, sifted-stays, sifted-same, sifted-less, stays-put}
 
@@ -176,29 +175,6 @@ sifts-moved (u ∷ us) l = omega (arith, one-le (moves l u), sifts-moved us (sif
 
 -- ---- a round
 
-length-upto : (n : ℕ) → length (upto n) ≡ n
-unfolding upto
-length-upto zero = refl
-length-upto (suc n) = length-append (upto n) (n ∷ []) ∙ ap (λ (x : ℕ). x + 1) (length-upto n) ∙ add-one n
-
-all-last : {P : ℕ → Type 0} (xs : List ℕ) (y : ℕ) → All P (xs ++ (y ∷ [])) → P y
-all-last [] y (also p ps) = p
-all-last (x ∷ xs) y (also p ps) = all-last xs y ps
-
-all-front : {P : ℕ → Type 0} (xs : List ℕ) (y : ℕ) → All P (xs ++ (y ∷ [])) → All P xs
-all-front [] y (also p ps) = none
-all-front (x ∷ xs) y (also p ps) = also p (all-front xs y ps)
-
-all-below : {P : ℕ → Type 0} (n : ℕ) → All P (upto n) → (i : ℕ) → i < n → P i
-unfolding upto
-all-below zero a i h = absurd (not-suc-le-zero h)
-all-below {P} (suc n) a i h =
-    elim (order i n) [
-      | less l ↦ all-below n (all-front (upto n) n a) i l
-      | same e ↦ subst P (sym e) (all-last (upto n) n a)
-      | more l ↦ absurd (omega arith)
-    ]
-
 module _ (l : Layout) (t : T (valid l)) where
   pub round-sifts : ProperSifts (upto (l .n)) l
   round-sifts = proper-sifts (upto (l .n)) l t (all-upto (l .n))
@@ -273,6 +249,12 @@ round-count l t c = lead-count (proper-round l t .lead) (all-mono (proper-round 
 unfoldable pub roundsOf : ℕ → Layout → List Layout
 roundsOf zero l = []
 roundsOf (suc limit) l = l ∷ elim (eqb (siftRound l .moved) 0) [ true ↦ [] | false ↦ roundsOf limit (siftRound l .layout) ]
+
+-- rounds are not refused
+pub rounds-refusal : (limit : ℕ) (l : Layout) → roundsUpTo limit l .refusal ≡ 0
+unfolding roundsUpTo stopped afterRound
+rounds-refusal zero l = refl
+rounds-refusal (suc limit) l = refl
 
 -- did the last of these rounds move no vertex?
 unfoldable pub lastStill : List Layout → Bool

@@ -1,29 +1,27 @@
 -- A sift that goes through its candidates one by one and keeps the first with fewest crossings.
-use Prim.Native.Nat.{ℕ, zero, suc, _+_, _-_, _≤_, _<_, min}
-use native.Mathlib.Nat.{le-refl, le-trans, min-comm, min-le-left, min-le-right, min-eq-left, min-eq-right, le-antisymm, not-suc-le-zero, le-of-lt}
+use Prim.Native.Nat.{ℕ, suc, _+_, _-_, _≤_, _<_, min}
+use native.Mathlib.Nat.{le-refl, min-comm, min-le-left, min-le-right, min-eq-left, min-eq-right}
 use native.Mathlib.Numerals.{add-one}
 use native.Mathlib.Omega.{arith}
-use mathlib.Core.Path.{_≡_, refl, sym, ap, ap₂, _∙_, subst}
+use mathlib.Core.Path.{_≡_, refl, sym, ap, ap₂, _∙_}
 use mathlib.Core.Bool.{Bool, true, false, cond, _||_, _&&_}
-use mathlib.Core.List.{List, [], _∷_, _++_, map}
+use mathlib.Core.List.{List, [], _∷_, _++_}
 use lib.ListN.{length, getD, take, drop, length-map, take-append-drop, List·getD-map}
 use lib.Seq.{take-suc, take-all, take-at}
 use lib.Dec.{T, eqb, ltb}
 use borrow.Author.Tests.{lt-ltb, le-ltb, eq-eqb, ne-eqb}
-use Rattle.model.specs.declared.Layout.{Layout}
 use Rattle.model.specs.Lists.{any, firstWith, place}
 use Rattle.model.specs.Crossings.{crossings}
-use Rattle.model.specs.Layouts.{vertexOrder, valid, crossingsOf, reordered}
 use Rattle.model.specs.Edits.{movedAfter}
-use Rattle.model.specs.Sifting.{clockwiseFrom, candidates, least, leastCrossings, improves, siftedOrder, sifted, reduction}
-use Rattle.laws.specs.Indicators.{Order, less, same, more, order}
+use Rattle.model.specs.Sifting.{clockwiseFrom, candidates, least, leastCrossings, improves, siftedOrder}
+use Rattle.laws.specs.Indicators.{less, same, more, order}
 use Rattle.laws.specs.Permutations.{at, Permutation, at-lt, place-below, place-of-at}
 use Rattle.laws.specs.Pairs.{Symmetric}
 use Rattle.laws.specs.EdgeCounts.{weight}
-use Rattle.laws.specs.Recount.{Drawn, counted, counted-crossings}
+use Rattle.laws.specs.Recount.{counted, counted-crossings}
 use Rattle.laws.specs.Moving.{moved-permutation}
 use Rattle.laws.specs.MovedPlaces.{shifted, shifted-moved}
-use Rattle.laws.specs.Sifting.{least-default, least-some, clockwise-length, clockwise-behind, clockwise-before, sift-permutation, sift-least}
+use Rattle.laws.specs.Sifting.{least-default, least-some, clockwise-length, clockwise-behind, clockwise-before}
 
 -- ---- the first with the fewest, of the entries so far
 

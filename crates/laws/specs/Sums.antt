@@ -1,15 +1,22 @@
 -- Sums over the numbers below n.
 use Prim.Native.Nat.{ℕ, zero, suc, _+_, _*_, _-_, _≤_, _<_, zero-le}
-use native.Mathlib.Nat.{add-zero, zero-add, mul-zero, mul-add, add-suc, add-assoc, add-comm, add-le-add, le-refl, lt-suc-self, le-step, mul-comm, not-suc-le-zero, zero-mul, one-mul, add-sub-of-le, le-trans, le-add-right, le-add-left}
+use native.Mathlib.Nat.{add-zero, zero-add, mul-zero, add-suc, add-le-add, lt-suc-self, le-step, mul-comm, not-suc-le-zero, zero-mul, one-mul, add-sub-of-le, le-trans, le-add-right, le-add-left}
 use native.Mathlib.Omega.{arith}
 use mathlib.Core.Path.{_≡_, refl, sym, ap, ap₂, _∙_}
 use lib.Dec.{eqb, ltb}
 use Rattle.model.specs.Lists.{one}
-use Rattle.laws.specs.Indicators.{Order, less, same, more, order, one-eq, one-ne, one-lt, one-ge, one-sym}
+use Rattle.laws.specs.Indicators.{less, same, more, order, one-eq, one-ne, one-lt, one-ge, one-sym}
 
 unfoldable pub sum : ℕ → (ℕ → ℕ) → ℕ
 sum zero f = 0
 sum (suc n) f = sum n f + f n
+
+-- a number twice
+pub double : (x : ℕ) → x + x ≡ 2 * x
+double x = omega arith
+
+pub halves : (x y : ℕ) → 2 * x ≡ 2 * y → x ≡ y
+halves x y e = omega arith
 
 -- the same terms
 pub sum-ext : (n : ℕ) (f g : ℕ → ℕ) → ((i : ℕ) → i < n → f i ≡ g i) → sum n f ≡ sum n g

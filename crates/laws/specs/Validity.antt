@@ -4,20 +4,20 @@ use native.Mathlib.Nat.{le-antisymm, le-trans, le-of-eq, min-le-left, mul-one, n
 use native.Mathlib.Omega.{arith}
 use native.Mathlib.Decide.{ℕ-discrete}
 use native.Mathlib.Numerals.{add-one}
-use mathlib.Core.Path.{_≡_, refl, sym, ap, ap₂, _∙_, subst}
-use mathlib.Core.Bool.{Bool, true, false, Bool·beq, not, cond, _&&_}
-use mathlib.Core.List.{List, [], _∷_, _++_}
+use mathlib.Core.Path.{_≡_, refl, sym, ap, _∙_, subst}
+use mathlib.Core.Bool.{Bool, true, false, Bool·beq, not, cond}
+use mathlib.Core.List.{List}
 use lib.ListN.{length, getD, take, length-take}
 use lib.Seq.{getD-take}
 use borrow.Author.Tests.{le-leb, lt-leb, eq-eqb, ne-eqb, eqb-true}
 use lib.Dec.{T, eqb, leb, ltb, leb→le, ltb→lt, eqb→eq}
 use Rattle.model.specs.declared.Layout.{Layout}
 use Rattle.model.specs.Lists.{one, upto, every, occurrences}
-use Rattle.model.specs.Crossings.{bit, linked, crossings}
+use Rattle.model.specs.Crossings.{bit, linked}
 use Rattle.model.specs.Edits.{withBit}
 use Rattle.laws.specs.Bits.{bit-lt, bit-beyond, set-same, set-other}
 use Rattle.model.specs.Layouts.{capacity, vertexOrder, crossingsOf, eachOnce, zeroFrom, symmetric, loopless, bitsBelow, valid}
-use Rattle.laws.specs.Indicators.{one-eq, one-ne, one-lt, T-true, Order, less, same, more, order, and-left, and-right, one-le}
+use Rattle.laws.specs.Indicators.{one-eq, one-ne, one-lt, T-true, less, same, more, order, and-left, and-right, one-le, bool-ext, not-T-false, beq-self, beq-eq, beq-comm}
 use Rattle.laws.specs.Every.{every-upto, upto-every, upto-fails, every-keep}
 use Rattle.laws.specs.Sums.{sum, sum-ext, sum-const, sum-swap, sum-mono, all-one}
 use Rattle.laws.specs.ListSums.{sumOver-take}
@@ -26,28 +26,6 @@ use Rattle.laws.specs.Pairs.{pairSum, Symmetric}
 use Rattle.laws.specs.Counting.{crossingSum, placed, crossingSum-counted}
 use Rattle.laws.specs.EdgeCounts.{weight, crossings-sum}
 use Rattle.laws.specs.Bound.{sum-more, crossingSum-bound}
-
--- ---- Booleans
-
-bool-ext : (a b : Bool) → (T a → T b) → (T b → T a) → a ≡ b
-bool-ext true true f g = refl
-bool-ext true false f g = absurd (f tt)
-bool-ext false true f g = absurd (g tt)
-bool-ext false false f g = refl
-
-beq-self : (a : Bool) → T (Bool·beq a a)
-beq-self true = tt
-beq-self false = tt
-
-beq-comm : (a b : Bool) → Bool·beq a b ≡ Bool·beq b a
-beq-comm true true = refl
-beq-comm true false = refl
-beq-comm false true = refl
-beq-comm false false = refl
-
-not-T-false : (b : Bool) → (T b → ⊥) → b ≡ false
-not-T-false true f = absurd (f tt)
-not-T-false false f = refl
 
 -- a bit that is not 1 is 0
 pub not-one-bit : (b : ℕ) → b < 2 → eqb b 1 ≡ false → b ≡ 0
@@ -79,11 +57,9 @@ each-once n o h t =
         (λ i l. le-trans (le-of-eq (sum-hits n (at o i))) (one-le (ltb (at o i) n))))
         (le-of-eq (sum-const (length o) 1 ∙ mul-one (length o)))
 
-beq-eq : (a b : Bool) → T (Bool·beq a b) → a ≡ b
-beq-eq true true t = refl
-beq-eq true false t = absurd t
-beq-eq false true t = absurd t
-beq-eq false false t = refl
+pub permutation-eachOnce : {n : ℕ} {o : List ℕ} → Permutation n o → T (eachOnce n o)
+unfolding eachOnce
+permutation-eachOnce {n} {o} perm = upto-every (λ v. eqb (occurrences v o) 1) n (λ v h. rw (eq-eqb (occurrences v o) 1 (perm .once v h)) tt)
 
 not-one : (b : Bool) → T (not b) → one b ≡ 0
 unfolding one

@@ -1,17 +1,16 @@
 -- Text written into a list, part after part; and decimal numbers.
-use Prim.Native.Nat.{ℕ, zero, suc, _+_, _*_, _-_, _/_, _%_, _^_, _≤_, _<_, zero-le}
-use native.Mathlib.Nat.{add-assoc, add-zero, zero-add, le-trans, le-refl, lt-of-lt-of-le, div-lt-self, div-lt-iff-lt-mul, mod-lt, zero-lt-suc, not-suc-le-zero, le-of-suc-le-suc, pow-suc}
+use Prim.Native.Nat.{ℕ, zero, suc, _+_, _/_, _%_, _^_, _≤_, _<_}
+use native.Mathlib.Nat.{add-assoc, add-zero, zero-add, lt-of-lt-of-le, div-lt-self, div-lt-iff-lt-mul, not-suc-le-zero, pow-suc}
 use native.Mathlib.Numerals.{add-one}
 use native.Mathlib.Omega.{arith}
-use mathlib.Core.Path.{_≡_, refl, sym, ap, ap₂, _∙_, subst}
-use mathlib.Core.Bool.{Bool, true, false}
+use mathlib.Core.Path.{_≡_, sym, ap, ap₂, _∙_}
 use mathlib.Core.List.{List, [], _∷_, _++_, flatMap, append-assoc, append-nil}
 use lib.ListN.{length, getD, take, drop, set, length-append, length-drop, take-append-drop}
-use lib.Seq.{take-suc, take-at, drop-at, set-split, length-take-le, drop-drop, drop-append-add, take-append-add, split-at}
-use lib.Dec.{ltb}
+use lib.Seq.{take-suc, take-at, set-split, length-take-le, drop-drop, drop-append-add}
 use borrow.Author.Tests.{lt-ltb, le-ltb}
 use Rattle.model.specs.Listing.{decimalIn, decimal}
 use Rattle.laws.specs.Indicators.{Order, less, same, more, order}
+use Rattle.laws.specs.ListSums.{flatMap-append}
 
 -- xs with the bytes t written over it from place at on
 unfoldable pub written : List ℕ → ℕ → List ℕ → List ℕ
@@ -112,11 +111,6 @@ decimal-length (suc d) x h = by-size (order x 10) (decimal-length d (x / 10) (di
     by-size (same e) r = longer (omega arith) r
     by-size (more l) r = longer (omega arith) r
 
-flatMap-snoc : (f : ℕ → List ℕ) (ys : List ℕ) (y : ℕ) → flatMap f (ys ++ (y ∷ [])) ≡ flatMap f ys ++ f y
-unfolding flatMap
-flatMap-snoc f [] y = append-nil (f y)
-flatMap-snoc f (x ∷ xs) y = ap (λ (l : List ℕ). f x ++ l) (flatMap-snoc f xs y) ∙ sym (append-assoc (f x) (flatMap f xs) (f y))
-
 -- ---- parts written one after the other
 
 -- the text has been written over the bytes of start from a place on, and at is where it ends
@@ -145,8 +139,10 @@ written-whole {start} {s} w = (w .held ∙ ap (λ (k : ℕ). s ++ drop k start) 
 
 -- a function of each entry, one entry more
 pub flatMap-next : (f : ℕ → List ℕ) (xs : List ℕ) (i : ℕ) → i < length xs → flatMap f (take (i + 1) xs) ≡ flatMap f (take i xs) ++ f (getD xs i 0)
+unfolding flatMap
 flatMap-next f xs i h =
-    ap (λ (k : ℕ). flatMap f (take k xs)) (add-one i) ∙ ap (flatMap f) (take-suc xs i 0 h) ∙ flatMap-snoc f (take i xs) (getD xs i 0)
+    ap (λ (k : ℕ). flatMap f (take k xs)) (add-one i) ∙ ap (flatMap f) (take-suc xs i 0 h) ∙ flatMap-append f (take i xs) (getD xs i 0 ∷ [])
+    ∙ ap (λ (l : List ℕ). flatMap f (take i xs) ++ l) (append-nil (f (getD xs i 0)))
 
 -- one more byte of a text
 pub written-next : (xs : List ℕ) (at : ℕ) (t : List ℕ) (i : ℕ) → i < length t → at + length t ≤ length xs
