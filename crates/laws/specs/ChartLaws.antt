@@ -12,7 +12,7 @@ use Rattle.model.specs.declared.Layout.{Layout}
 use Rattle.model.specs.Lists.{one, any}
 use Rattle.model.specs.Layouts.{eachOnce, crossingsOf, valid}
 use Rattle.model.specs.Checks.{refusal}
-use Rattle.model.specs.Charts.{bodyOf, chartSize, chartEdges, chartOrder, sameEdge, joins, chartChecks, chartLayout, readOf}
+use Rattle.model.specs.Charts.{bodyOf, chartSize, chartEdges, chartOrder, sameEdge, joins, chartChecks, sizeChecks, endChecks, repeatChecks, placeChecks, chartLayout, readOf}
 use Rattle.laws.specs.ListSums.{All, none, also}
 use Rattle.laws.specs.Refusals.{Numbered, all-pass, when-accepted, checked-number}
 use Rattle.laws.specs.Indicators.{both-left, both-right, eqb-swap}
@@ -33,11 +33,11 @@ unfolding readOf refusedRead
 read-is s e = when-accepted (chartChecks s) (record { refusal = 0; layout = chartLayout s }) refusedRead (accepted-checks s e)
 
 numbered : (s : List ℕ) → Numbered (chartChecks s)
-unfolding chartChecks
+unfolding chartChecks sizeChecks endChecks repeatChecks placeChecks
 numbered s = also (lit< tt) (also (lit< tt) (also (lit< tt) (also (lit< tt) (also (lit< tt) (also (lit< tt) (also (lit< tt) (also (lit< tt) none)))))))
 
 pub accepted : (s : List ℕ) → readOf s .refusal ≡ 0 → Accepted (chartSize s) (bodyOf s 1) (bodyOf s 2)
-unfolding chartChecks chartEdges chartOrder
+unfolding chartChecks sizeChecks endChecks repeatChecks placeChecks chartEdges chartOrder chartSize
 accepted s e = from (all-pass (numbered s) (accepted-checks s e))
   where
     from : All (λ c. c .passes ≡ true) (chartChecks s) → Accepted (chartSize s) (bodyOf s 1) (bodyOf s 2)

@@ -97,6 +97,35 @@ sameEdge e f = eqb (e .low) (f .low) && eqb (e .high) (f .high)
 unfoldable pub edgeWithin : ℕ → Edge → Bool
 edgeWithin n e = ltb (e .low) (e .high) && ltb (e .high) n
 
+-- of the body of 44
+unfoldable pub sizeChecks : List ℕ → List Check
+sizeChecks body =
+    -- "Is the body of 44 one byte, at most 64? 4"
+    record { passes = eqb (length body) 1 && leb (getD body 0 0) capacity; code = 4 }
+    ∷ []
+
+-- of the body of 4C, with n vertices
+unfoldable pub endChecks : ℕ → List ℕ → List Check
+endChecks n links =
+    -- "Has the body of 4C an even length? 5"
+    record { passes = eqb (length links % 2) 0; code = 5 }
+    -- "Are the ends of each link below n and different? 6"
+    ∷ record { passes = every (edgeWithin n) (edgesIn links); code = 6 }
+    ∷ []
+
+unfoldable pub repeatChecks : List ℕ → List Check
+repeatChecks links =
+    -- "Is each pair written only once, either way round? 7"
+    record { passes = noRepeats sameEdge (edgesIn links); code = 7 }
+    ∷ []
+
+-- of the body of 52, with n vertices
+unfoldable pub placeChecks : ℕ → List ℕ → List Check
+placeChecks n o =
+    -- "Has the body of 52 n bytes, holding each device once? 8"
+    record { passes = eqb (length o) n && eachOnce n o; code = 8 }
+    ∷ []
+
 unfoldable pub chartChecks : List ℕ → List Check
 chartChecks s =
     -- "Is the input at most 8,192 bytes? 1"
@@ -105,17 +134,8 @@ chartChecks s =
     ∷ record { passes = fieldsOf s .complete; code = 2 }
     -- "Are the tags 44, 4C, 52, each once, in that sequence? 3"
     ∷ record { passes = sameList (map (λ f. f .tag) (fieldsOf s .fields)) (0x44 ∷ 0x4C ∷ 0x52 ∷ []); code = 3 }
-    -- "Is the body of 44 one byte, at most 64? 4"
-    ∷ record { passes = eqb (length (bodyOf s 0)) 1 && leb (chartSize s) capacity; code = 4 }
-    -- "Has the body of 4C an even length? 5"
-    ∷ record { passes = eqb (length (bodyOf s 1) % 2) 0; code = 5 }
-    -- "Are the ends of each link below n and different? 6"
-    ∷ record { passes = every (edgeWithin (chartSize s)) (chartEdges s); code = 6 }
-    -- "Is each pair written only once, either way round? 7"
-    ∷ record { passes = noRepeats sameEdge (chartEdges s); code = 7 }
-    -- "Has the body of 52 n bytes, holding each device once? 8"
-    ∷ record { passes = eqb (length (chartOrder s)) (chartSize s) && eachOnce (chartSize s) (chartOrder s); code = 8 }
-    ∷ []
+    -- 4 to 8
+    ∷ (sizeChecks (bodyOf s 0) ++ endChecks (chartSize s) (bodyOf s 1) ++ repeatChecks (bodyOf s 1) ++ placeChecks (chartSize s) (chartOrder s))
 
 -- ---- the layout
 
@@ -196,22 +216,6 @@ divisionAnswer s = answer (take 2 (chartChecks s)) []
 unfoldable pub bodiesAnswer : List ℕ → Answer
 bodiesAnswer s =
     answer (take 1 (drop 2 (chartChecks s))) (length (bodyOf s 0) ∷ length (bodyOf s 1) ∷ length (bodyOf s 2) ∷ [])
-
--- the same questions of the bodies alone, as chartChecks puts them to a whole chart: 4 to the body of 44, 5 to 7 to that of 4C, 8 to that of 52
-unfoldable pub sizeChecks : List ℕ → List Check
-sizeChecks body = record { passes = eqb (length body) 1 && leb (getD body 0 0) capacity; code = 4 } ∷ []
-
-unfoldable pub endChecks : ℕ → List ℕ → List Check
-endChecks n links =
-    record { passes = eqb (length links % 2) 0; code = 5 }
-    ∷ record { passes = every (edgeWithin n) (edgesIn links); code = 6 }
-    ∷ []
-
-unfoldable pub repeatChecks : List ℕ → List Check
-repeatChecks links = record { passes = noRepeats sameEdge (edgesIn links); code = 7 } ∷ []
-
-unfoldable pub placeChecks : ℕ → List ℕ → List Check
-placeChecks n o = record { passes = eqb (length o) n && eachOnce n o; code = 8 } ∷ []
 
 -- question 4: the number of vertices
 unfoldable pub sizeAnswer : List ℕ → Answer
