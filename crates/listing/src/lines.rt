@@ -22,7 +22,7 @@ pub struct Numbers {
     pub rounds: u32,
 }
 
-pub fn put_numbers(out: &mut [u8], x: Numbers) -> usize
+pub(crate) fn put_numbers(out: &mut [u8], x: Numbers) -> usize
     requires { ⌜ 1024 ≤ length (now out) ⌝ }
     ensures { λ r. ⌜ Written (now (out .entry)) 0 (line "devices" (spaced (x .vertices)) ++ line "links" (spaced (x .edges)) ++ line "before" (spaced (x .before)) ++ line "after" (spaced (x .after)) ++ line "rounds" (spaced (x .rounds))) (now (out .exit)) r × (r ≤ 100) ⌝ }
 {
@@ -34,7 +34,7 @@ pub fn put_numbers(out: &mut [u8], x: Numbers) -> usize
 }
 
 // Whether the last round moved no vertex.
-pub fn put_settled(out: &mut [u8], at: usize, converged: bool) -> usize
+pub(crate) fn put_settled(out: &mut [u8], at: usize, converged: bool) -> usize
     requires { ⌜ at + 12 ≤ length (now out) ⌝ }
     ensures { λ r. ⌜ Written (now (out .entry)) at (line "settled" (text (cond converged " yes" " no"))) (now (out .exit)) r × (r ≤ at + 12) ⌝ }
 {
@@ -46,7 +46,7 @@ pub fn put_settled(out: &mut [u8], at: usize, converged: bool) -> usize
 }
 
 // The order, with single spaces.
-pub fn put_order_line(out: &mut [u8], at: usize, order: &[u8]) -> usize
+pub(crate) fn put_order_line(out: &mut [u8], at: usize, order: &[u8]) -> usize
     requires { ⌜ (at ≤ 200) × (length (now order) ≤ 64) × (1024 ≤ length (now out)) ⌝ }
     ensures { λ r. ⌜ Written (now (out .entry)) at (line "order" (flatMap spaced (now (order .entry)))) (now (out .exit)) r × (r ≤ length (now (out .exit))) ⌝ }
 {

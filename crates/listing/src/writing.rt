@@ -7,7 +7,7 @@ ghost use lib.ListN.{length, take};
 ghost use Rattle.model.specs.Listing.{text, decimal, spaced};
 ghost use Rattle.laws.specs.Writing.{written};
 
-pub fn put_byte(out: &mut [u8], at: usize, b: u8) -> usize
+pub(crate) fn put_byte(out: &mut [u8], at: usize, b: u8) -> usize
     requires { ⌜ at < length (now out) ⌝ }
     ensures { λ r. ⌜ (now (out .exit) ≡ written (now (out .entry)) at (b ∷ [])) × (r ≡ at + 1) ⌝ }
 {
@@ -15,7 +15,7 @@ pub fn put_byte(out: &mut [u8], at: usize, b: u8) -> usize
     at + 1
 }
 
-pub fn put_text(out: &mut [u8], at: usize, t: &[u8]) -> usize
+pub(crate) fn put_text(out: &mut [u8], at: usize, t: &[u8]) -> usize
     requires { ⌜ at + length (now t) ≤ length (now out) ⌝ }
     ensures { λ r. ⌜ (now (out .exit) ≡ written (now (out .entry)) at (now (t .entry))) × (r ≡ at + length (now (t .entry))) ⌝ }
 {
@@ -28,7 +28,7 @@ pub fn put_text(out: &mut [u8], at: usize, t: &[u8]) -> usize
 }
 
 // A number in decimal: at most ten digits.
-pub fn put_decimal(out: &mut [u8], at: usize, x: u32) -> usize
+pub(crate) fn put_decimal(out: &mut [u8], at: usize, x: u32) -> usize
     requires { ⌜ at + length (decimal x) ≤ length (now out) ⌝ }
     ensures { λ r. ⌜ (now (out .exit) ≡ written (now (out .entry)) at (decimal x)) × (r ≡ at + length (decimal x)) ⌝ }
 {
@@ -40,7 +40,7 @@ pub fn put_decimal(out: &mut [u8], at: usize, x: u32) -> usize
 }
 
 // A number behind a space.
-pub fn put_spaced(out: &mut [u8], at: usize, x: u32) -> usize
+pub(crate) fn put_spaced(out: &mut [u8], at: usize, x: u32) -> usize
     requires { ⌜ at + 11 ≤ length (now out) ⌝ }
     ensures { λ r. ⌜ (now (out .exit) ≡ written (now (out .entry)) at (spaced x)) × (r ≡ at + length (spaced x)) × (r ≤ at + 11) ⌝ }
 {
@@ -49,7 +49,7 @@ pub fn put_spaced(out: &mut [u8], at: usize, x: u32) -> usize
 }
 
 // A line with a name and a number.
-pub fn put_line(out: &mut [u8], at: usize, name: &[u8], x: u32) -> usize
+pub(crate) fn put_line(out: &mut [u8], at: usize, name: &[u8], x: u32) -> usize
     requires { ⌜ at + length (now name) + 12 ≤ length (now out) ⌝ }
     ensures { λ r. ⌜ (now (out .exit) ≡ written (now (out .entry)) at (now (name .entry) ++ spaced x ++ text "\n")) × (r ≡ at + length (now (name .entry) ++ spaced x ++ text "\n")) × (r ≤ at + length (now (name .entry)) + 12) ⌝ }
 {
@@ -59,7 +59,7 @@ pub fn put_line(out: &mut [u8], at: usize, name: &[u8], x: u32) -> usize
 }
 
 // The vertices of an order, each behind a space.
-pub fn put_order(out: &mut [u8], at: usize, order: &[u8]) -> usize
+pub(crate) fn put_order(out: &mut [u8], at: usize, order: &[u8]) -> usize
     requires { ⌜ at + 11 * length (now order) ≤ length (now out) ⌝ }
     ensures { λ r. ⌜ (now (out .exit) ≡ written (now (out .entry)) at (flatMap spaced (now (order .entry)))) × (r ≡ at + length (flatMap spaced (now (order .entry)))) × (r ≤ at + 11 * length (now (order .entry))) ⌝ }
 {

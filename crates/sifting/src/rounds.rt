@@ -26,7 +26,7 @@ pub fn sifting_round(l: Layout) -> Rounded
 }
 
 // A round whose check has passed.
-pub fn sift_all(l: Layout) -> Rounded
+pub(crate) fn sift_all(l: Layout) -> Rounded
     requires { ⌜ T (valid l) ⌝ }
     ensures { λ r. ⌜ r ≡ siftRound l ⌝ }
 {

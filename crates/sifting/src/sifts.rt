@@ -25,7 +25,7 @@ pub fn sift(l: Layout, u: usize) -> Sifted
 }
 
 // A sift whose checks have passed.
-pub fn sift_vertex(l: Layout, u: usize) -> Sifted
+pub(crate) fn sift_vertex(l: Layout, u: usize) -> Sifted
     requires { ⌜ T (valid l) × (u < l .n) ⌝ }
     ensures { λ r. ⌜ r ≡ record { refusal = 0; layout = sifted l u; reduction = reductionOf l (sifted l u) } ⌝ }
 {

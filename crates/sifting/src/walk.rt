@@ -19,7 +19,7 @@ pub struct Walk {
 }
 
 // Of the present order and its candidates, the first with fewest crossings.
-pub fn best_order(n: usize, order: [u8; 64], adjacency: &[u64; 64], u: usize) -> Walk
+pub(crate) fn best_order(n: usize, order: [u8; 64], adjacency: &[u64; 64], u: usize) -> Walk
     requires { ⌜ Drawn n order (now adjacency) × (u < n) ⌝ }
     ensures order { λ r. ⌜ r .order ≡ siftedOrder n (now (adjacency .entry)) u (take n order) ++ drop n order ⌝ }
     ensures before { λ r. ⌜ r .before ≡ crossings n (take n order) (now (adjacency .entry)) ⌝ }
