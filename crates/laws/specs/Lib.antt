@@ -18,6 +18,7 @@ pub mod EdgeEdits
 pub mod Copying
 pub mod VertexEdits
 pub mod Moving
+pub mod LocalSearch
 pub mod Sifting
 pub mod SiftingRounds
 pub mod SiftingCalls

@@ -8,15 +8,11 @@ use mathlib.Core.List.{List, [], _∷_, _++_, map, flatMap, append-assoc}
 use lib.ListN.{length, getD, take, drop, length-append, length-drop, List·getD-append}
 use lib.Seq.{length-take-le, getD-at, getD-take, getD-drop}
 use Rattle.model.specs.Lists.{one, upto, keep, sumOver, sumPairs}
+pub use Rattle.model.specs.Lists.{All, none, also}
 use Rattle.laws.specs.Indicators.{less, same, more, order}
 use Rattle.laws.specs.Sums.{sum, sum-ext, sum-first}
 
 module _ {A : Type 0} where
-  -- each entry has the property P
-  pub data All (P : A → Type 0) : List A → Type 0 where
-    none : All P []
-    also : {x : A} {xs : List A} → P x → All P xs → All P (x ∷ xs)
-
   pub all-append : {P : A → Type 0} {xs ys : List A} → All P xs → All P ys → All P (xs ++ ys)
   all-append none q = q
   all-append (also p ps) q = also p (all-append ps q)

@@ -1,75 +1,30 @@
--- Sifting one vertex: the place found is the best, and no sift raises the crossings.
-use Prim.Native.Nat.{ℕ, suc, _+_, _-_, _≤_, _<_, min}
-use native.Mathlib.Nat.{le-refl, le-trans, le-of-eq, le-antisymm, min-le-right, not-suc-le-zero}
+-- Sifting one vertex of a layout: the candidates, and the one that is chosen.
+use Prim.Native.Nat.{ℕ, suc, _+_, _-_, _≤_, _<_}
+use native.Mathlib.Nat.{le-refl, le-trans, le-of-eq}
 use native.Mathlib.Omega.{arith}
 use mathlib.Core.Path.{_≡_, refl, sym, ap, _∙_, subst}
-use mathlib.Core.Bool.{Bool, true, false, cond, _||_}
+use mathlib.Core.Bool.{Bool, true, false}
 use mathlib.Core.List.{List, [], _∷_, map}
 use lib.ListN.{length, take, drop, length-append, length-drop, List·getD-append}
 use lib.Seq.{length-take-le, getD-take, getD-drop}
-use lib.Dec.{T, eqb, eqb→eq}
-use borrow.Author.Tests.{eq-eqb, eqb-true, lt-ltb, ltb-true, ltb-false}
+use lib.Dec.{T, eqb}
+use borrow.Author.Tests.{ltb-true}
 use Rattle.model.specs.declared.Layout.{Layout}
-use Rattle.model.specs.declared.Changed.{Changed}
-use Rattle.model.specs.Lists.{one, any, firstWith, sumOver, occurrences, place}
+use Rattle.model.specs.Lists.{one, occurrences, place}
 use Rattle.model.specs.Crossings.{crossings}
 use Rattle.model.specs.Layouts.{vertexOrder, crossingsOf, valid, modulus, carried, changed, reordered}
-use Rattle.model.specs.Edits.{movedAfter, moveOf}
-use Rattle.model.specs.Sifting.{clockwiseFrom, candidates, least, leastCrossings, improves, siftedOrder, sifted, reduction, moves}
+use Rattle.model.specs.Edits.{movedAfter}
+use Rattle.model.specs.Sifting.{clockwiseFrom, candidates, leastCrossings, improves, siftedOrder, sifted, reduction, moves}
 use Rattle.laws.specs.Indicators.{less, same, more, order, one-eq, one-ne}
-use Rattle.laws.specs.ListSums.{All, none, also, all-map, all-places}
+use Rattle.laws.specs.ListSums.{All, all-mono, all-map, all-places}
 use Rattle.laws.specs.Permutations.{at, occurrences-append, Permutation, place-below, occurs-at, none-beyond}
 use Rattle.laws.specs.Validity.{sound}
-use Rattle.laws.specs.Moving.{at-right, rest-occurrences, moved-permutation, moved-again, reordered-order, reordered-crossings, reordered-valid, carried-right, carried-carried, carried-lt, carried-same, crossings-fit, reordered-present, CountRight, move-accepted, move-crossings}
-
--- ---- the least of a list, and the first entry with a test
+use Rattle.laws.specs.LocalSearch.{least-default, chosen-stays, chosen-goes, chosen-has, chosen-least}
+use Rattle.laws.specs.Moving.{at-right, rest-occurrences, moved-permutation, moved-again, reordered-order, reordered-crossings, reordered-valid, carried-right, carried-carried, carried-lt, carried-same, crossings-fit, CountRight}
 
 -- a property of whatever occurs is one of each entry
 all-occurring : {P : ℕ → Type 0} (xs : List ℕ) → ((v : ℕ) → 0 < occurrences v xs → P v) → All P xs
 all-occurring xs h = all-places xs (λ i l. h (at xs i) (occurs-at xs i l))
-
-or-right : (a b : Bool) → T b → T (a || b)
-or-right true b t = tt
-or-right false b t = t
-
-module _ (f : List ℕ → ℕ) (d : ℕ) where
-  pub least-default : (xs : List (List ℕ)) → least f d xs ≤ d
-  unfolding least
-  least-default [] = le-refl d
-  least-default (x ∷ xs) = le-trans (min-le-right (f x) (least f d xs)) (least-default xs)
-
-  pub least-each : (g : ℕ → List ℕ) (vs : List ℕ) (v : ℕ) → 0 < occurrences v vs → least f d (map g vs) ≤ f (g v)
-  unfolding least occurrences sumOver one
-  least-each g [] v h = absurd (not-suc-le-zero h)
-  least-each g (x ∷ xs) v h = by-test (eqb v x) (eqb-true v x) h (least-each g xs v)
-    where
-      by-test : (b : Bool) → (b ≡ true → v ≡ x) → 0 < one b + occurrences v xs → (0 < occurrences v xs → least f d (map g xs) ≤ f (g v))
-          → min (f (g x)) (least f d (map g xs)) ≤ f (g v)
-      by-test true e k r = omega (arith, ap (λ (y : ℕ). f (g y)) (e refl))
-      by-test false e k r = omega (arith, r (omega arith))
-
-  -- a least below the default is that of an entry
-  pub least-some : (xs : List (List ℕ)) (m : ℕ) → least f d xs ≡ m → m < d → T (any (λ x. eqb (f x) m) xs)
-  unfolding least any
-  least-some [] m e h = absurd (omega arith)
-  least-some (x ∷ xs) m e h =
-      elim (order (f x) m) [
-        | less l ↦ absurd (omega arith)
-        | same k ↦ rw (eq-eqb (f x) m k) tt
-        | more l ↦ or-right (eqb (f x) m) (any (λ y. eqb (f y) m) xs) (least-some xs m (omega arith) h)
-      ]
-
-module _ {A : Type 0} where
-  -- the first entry with the test has it, and whatever holds of each entry
-  pub first-found : {P : A → Type 0} (p : A → Bool) (d : A) {xs : List A} → All P xs → T (any p xs) → P (firstWith p d xs) × T (p (firstWith p d xs))
-  unfolding any firstWith
-  first-found p d none t = absurd t
-  first-found {P} p d (also {x} {xs} q qs) t = by-test (p x) refl t (first-found p d qs)
-    where
-      by-test : (b : Bool) → p x ≡ b → T (b || any p xs) → (T (any p xs) → P (firstWith p d xs) × T (p (firstWith p d xs)))
-          → P (cond b x (firstWith p d xs)) × T (p (cond b x (firstWith p d xs)))
-      by-test true e u r = (q, subst T (sym e) tt)
-      by-test false e u r = r u
 
 -- ---- the candidates
 
@@ -141,105 +96,37 @@ module _ {n : ℕ} {o : List ℕ} (perm : Permutation n o) (u : ℕ) (h : u < n)
 -- ---- the order after a sift
 
 module _ {n : ℕ} {o : List ℕ} (perm : Permutation n o) (adj : List ℕ) (u : ℕ) (h : u < n) where
-  -- no place of u has fewer crossings than the least
-  pub least-place : (v : ℕ) → v < n → (u ≡ v → ⊥) → leastCrossings n adj u o ≤ crossings n (movedAfter u v o) adj
-  unfolding leastCrossings candidates
-  least-place v l d =
-      least-each (λ c. crossings n c adj) (crossings n o adj) (λ w. movedAfter u w o) (clockwiseFrom u o) v
-      (omega (arith, clockwise-once perm u h v l d))
-
-  pub least-present : leastCrossings n adj u o ≤ crossings n o adj
-  unfolding leastCrossings
-  least-present = least-default (λ c. crossings n c adj) (crossings n o adj) (candidates u o)
-
-  -- without an improvement the list stays as it was
+  -- without an improvement the list stays as it was, with one u is moved to a candidate
   pub sift-stays : improves n adj u o ≡ false → siftedOrder n adj u o ≡ o
-  unfolding siftedOrder
-  sift-stays e = rw e
-
-  stays-least : improves n adj u o ≡ false → crossings n o adj ≡ leastCrossings n adj u o
-  unfolding improves
-  stays-least e = le-antisymm (ltb-false (leastCrossings n adj u o) (crossings n o adj) e) least-present
-
-  -- with one, u is moved to a candidate with least crossings
-  goes-first : improves n adj u o ≡ true
-      → siftedOrder n adj u o ≡ firstWith (λ c. eqb (crossings n c adj) (leastCrossings n adj u o)) o (candidates u o)
-  unfolding siftedOrder
-  goes-first e = rw e
-
-  some-least : improves n adj u o ≡ true → T (any (λ c. eqb (crossings n c adj) (leastCrossings n adj u o)) (candidates u o))
-  unfolding improves leastCrossings
-  some-least e =
-      least-some (λ c. crossings n c adj) (crossings n o adj) (candidates u o) (leastCrossings n adj u o) refl
-      (ltb-true (leastCrossings n adj u o) (crossings n o adj) e)
-
-  found : improves n adj u o ≡ true
-      → Candidate n u o (siftedOrder n adj u o) × T (eqb (crossings n (siftedOrder n adj u o) adj) (leastCrossings n adj u o))
-  found e =
-      rw (goes-first e)
-      (first-found (λ c. eqb (crossings n c adj) (leastCrossings n adj u o)) o (all-candidates perm u h) (some-least e))
-
-  pub sift-goes : improves n adj u o ≡ true → Candidate n u o (siftedOrder n adj u o)
-  sift-goes e = found e .0
+  unfolding siftedOrder improves leastCrossings
+  sift-stays e = chosen-stays (λ c. crossings n c adj) o (candidates u o) e
 
   pub sift-permutation : Permutation n (siftedOrder n adj u o)
-  sift-permutation = by-test (improves n adj u o) refl
-    where
-      by-test : (b : Bool) → improves n adj u o ≡ b → Permutation n (siftedOrder n adj u o)
-      by-test true e = candidate-permutation perm u h (sift-goes e)
-      by-test false e = rw (sift-stays e) perm
+  unfolding siftedOrder improves leastCrossings
+  sift-permutation =
+      chosen-has (λ c. crossings n c adj) o (candidates u o) perm (all-mono (all-candidates perm u h) (λ c k. candidate-permutation perm u h k))
 
-  -- its crossings are the least
+  -- its crossings are the least, so no more than before, and fewer exactly where it improves
   pub sift-least : crossings n (siftedOrder n adj u o) adj ≡ leastCrossings n adj u o
-  sift-least = by-test (improves n adj u o) refl
-    where
-      by-test : (b : Bool) → improves n adj u o ≡ b → crossings n (siftedOrder n adj u o) adj ≡ leastCrossings n adj u o
-      by-test true e = eqb→eq (crossings n (siftedOrder n adj u o) adj) (leastCrossings n adj u o) (found e .1)
-      by-test false e = rw (sift-stays e) (stays-least e)
+  unfolding siftedOrder improves leastCrossings
+  sift-least = chosen-least (λ c. crossings n c adj) o (candidates u o)
 
-  -- so a sift raises no crossings, and lowers them exactly where it improves
   pub sift-le : crossings n (siftedOrder n adj u o) adj ≤ crossings n o adj
-  sift-le = rw sift-least least-present
+  unfolding leastCrossings
+  sift-le = rw sift-least (least-default (λ c. crossings n c adj) (crossings n o adj) (candidates u o))
 
   pub sift-less : improves n adj u o ≡ true → crossings n (siftedOrder n adj u o) adj < crossings n o adj
   unfolding improves
   sift-less e = rw sift-least (ltb-true (leastCrossings n adj u o) (crossings n o adj) e)
 
-  pub less-improves : crossings n (siftedOrder n adj u o) adj < crossings n o adj → improves n adj u o ≡ true
-  unfolding improves
-  less-improves l = lt-ltb (leastCrossings n adj u o) (crossings n o adj) (rw sift-least at l)
-
-  -- the best place: nowhere behind another vertex has u fewer crossings
-  pub sift-best : (v : ℕ) → v < n → (u ≡ v → ⊥)
-      → crossings n (siftedOrder n adj u o) adj ≤ crossings n (movedAfter u v (siftedOrder n adj u o)) adj
-  sift-best v l d = le-trans (le-of-eq sift-least) (le-trans (least-place v l d) (le-of-eq (ap (λ (c : List ℕ). crossings n c adj) (sym from-there))))
-    where
-      by-test : (b : Bool) → improves n adj u o ≡ b → movedAfter u v (siftedOrder n adj u o) ≡ movedAfter u v o
-      by-test true e = ap (movedAfter u v) (sift-goes e .moved) ∙ moved-again u (sift-goes e .behind) v o
-      by-test false e = ap (movedAfter u v) (sift-stays e)
-
-      from-there : movedAfter u v (siftedOrder n adj u o) ≡ movedAfter u v o
-      from-there = by-test (improves n adj u o) refl
-
-  -- u stands best where no candidate has fewer crossings
-  pub stays-best : improves n adj u o ≡ false → (v : ℕ) → v < n → (u ≡ v → ⊥) → crossings n o adj ≤ crossings n (movedAfter u v o) adj
-  stays-best e v l d = le-trans (le-of-eq (stays-least e)) (least-place v l d)
+  -- moving u once more leads where moving it at once would have led
+  pub sift-moved : (v : ℕ) → movedAfter u v (siftedOrder n adj u o) ≡ movedAfter u v o
+  unfolding siftedOrder improves leastCrossings
+  sift-moved v =
+      chosen-has (λ c. crossings n c adj) o (candidates u o) {P = λ c. movedAfter u v c ≡ movedAfter u v o} refl
+      (all-mono (all-candidates perm u h) (λ c k. ap (movedAfter u v) (k .moved) ∙ moved-again u (k .behind) v o))
 
 -- ---- layouts
-
--- no vertex behind which u would have fewer crossings
-abbrev pub BestPlace : Layout → ℕ → Type 0
-BestPlace l u = (v : ℕ) → v < l .n → (u ≡ v → ⊥) → crossingsOf l ≤ crossings (l .n) (movedAfter u v (vertexOrder l)) (l .adjacency)
-
--- the same for each vertex
-abbrev pub LocalMinimum : Layout → Type 0
-LocalMinimum l = (u : ℕ) → u < l .n → BestPlace l u
-
--- by the call move
-pub best-move : (l : Layout) → T (valid l) → (u : ℕ) → u < l .n → BestPlace l u
-    → (v : ℕ) → v < l .n → (u ≡ v → ⊥) → (moveOf l u v .refusal ≡ 0) × (crossingsOf l ≤ crossingsOf (moveOf l u v .layout))
-best-move l t u h b v k d =
-    (ap (λ (c : Changed). c .refusal) (move-accepted l u v t h k d), le-trans (b v k d) (le-of-eq (sym (move-crossings l t u h v k d))))
 
 -- m is a valid layout of the vertices and edges of l, with no more crossings, and its count has changed by what they have
 pub record Improved (l m : Layout) : Type 0 where
@@ -313,38 +200,21 @@ module _ (l : Layout) (t : T (valid l)) (u : ℕ) (h : u < l .n) where
       reordered-improved l t (siftedOrder (l .n) (l .adjacency) u (vertexOrder l)) sifted-permutation
       (sift-le (sound l t .permutation) (l .adjacency) u h)
 
-  -- u stands best
-  pub sifted-best : BestPlace (sifted l u) u
-  unfolding sifted reordered changed
-  sifted-best v k d =
-      le-trans (le-of-eq sifted-crossings)
-      (le-trans (sift-best (sound l t .permutation) (l .adjacency) u h v k d)
-      (le-of-eq (ap (λ (o : List ℕ). crossings (l .n) (movedAfter u v o) (l .adjacency)) (sym sifted-order))))
-
-  pub sifted-best-move : (v : ℕ) → v < l .n → (u ≡ v → ⊥)
-      → (moveOf (sifted l u) u v .refusal ≡ 0) × (crossingsOf (sifted l u) ≤ crossingsOf (moveOf (sifted l u) u v .layout))
-  unfolding sifted reordered changed
-  sifted-best-move = best-move (sifted l u) (sifted-improved .valid-after) u h sifted-best
-
   -- the reduction is exact
   pub sifted-reduction : crossingsOf (sifted l u) + reduction l (sifted l u) ≡ crossingsOf l
   unfolding reduction
   sifted-reduction = omega (arith, sifted-improved .no-more)
 
-  -- where u does not move, the order stays, and u stands best already
+  -- where u does not move the order stays, and where it does there are fewer crossings
   pub sifted-stays : moves l u ≡ false → vertexOrder (sifted l u) ≡ vertexOrder l
   unfolding moves
   sifted-stays e = sifted-order ∙ sift-stays (sound l t .permutation) (l .adjacency) u h e
 
-  pub sifted-same : l .count < modulus → moves l u ≡ false → sifted l u ≡ l
-  unfolding moves sifted
-  sifted-same k e = ap (reordered l) (sift-stays (sound l t .permutation) (l .adjacency) u h e) ∙ reordered-present l k
-
-  pub stays-put : moves l u ≡ false → BestPlace l u
+  pub sifted-still : moves l u ≡ false → crossingsOf (sifted l u) ≡ crossingsOf l
   unfolding moves crossingsOf
-  stays-put e = stays-best (sound l t .permutation) (l .adjacency) u h e
+  sifted-still e =
+      sifted-crossings ∙ ap (λ (x : List ℕ). crossings (l .n) x (l .adjacency)) (sift-stays (sound l t .permutation) (l .adjacency) u h e)
 
-  -- where it moves there are fewer crossings
   pub sifted-less : moves l u ≡ true → crossingsOf (sifted l u) < crossingsOf l
   unfolding moves crossingsOf
   sifted-less e = rw sifted-crossings (sift-less (sound l t .permutation) (l .adjacency) u h e)

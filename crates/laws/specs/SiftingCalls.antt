@@ -2,7 +2,6 @@
 use Prim.Native.Nat.{ℕ, _≤_, _<_}
 use native.Mathlib.Omega.{arith}
 use mathlib.Core.Path.{_≡_, refl, sym, ap, _∙_}
-use mathlib.Core.Bool.{false}
 use mathlib.Core.List.{List, [], _∷_}
 use native.Mathlib.Decide.{ℕ-discrete}
 use lib.Dec.{T, leb, le→leb, lt→ltb}
@@ -14,13 +13,13 @@ use Rattle.model.specs.declared.Converged.{Converged}
 use Rattle.model.specs.Lists.{upto}
 use Rattle.model.specs.Layouts.{valid}
 use Rattle.model.specs.Checks.{refusal, isValid, isVertex, limitFits}
-use Rattle.model.specs.Sifting.{sifted, reduction, siftChecks, siftOf, siftAll, siftRound, roundOf, roundsUpTo, settleChecks, settleOf}
+use Rattle.model.specs.Sifting.{siftChecks, siftAnswer, siftRefused, siftOf, siftAll, siftRound, roundRefused, roundOf, roundsUpTo, settleChecks, settleRefused, settleOf}
 use Rattle.laws.specs.Indicators.{and-intro, both-left, both-right}
 use Rattle.laws.specs.ListSums.{none, also}
 use Rattle.laws.specs.Refusals.{passed, valid-passed, vertex-passed, all-passed, when-accepted, when-refused, checked-number}
 use Rattle.laws.specs.Moving.{Keeps, same-keeps}
-use Rattle.laws.specs.Sifting.{Improved, improved-count}
-use Rattle.laws.specs.SiftingRounds.{ProperSift, proper-sift, ProperRound, proper-round, roundsOf, Settling, settling, rounds-refusal, rounds-run}
+use Rattle.laws.specs.Sifting.{Improved, improved-count, sifted-improved}
+use Rattle.laws.specs.SiftingRounds.{round-reduced, settling, rounds-refusal}
 
 improved-keeps : {l m : Layout} → Improved l m → Keeps l m
 improved-keeps p t = (p .valid-after, improved-count t p)
@@ -28,41 +27,26 @@ improved-keeps p t = (p .valid-after, improved-count t p)
 -- ---- sift
 
 module _ (l : Layout) (u : ℕ) where
-  abbrev siftAnswer : Sifted
-  siftAnswer = record { refusal = 0; layout = sifted l u; reduction = reduction l (sifted l u) }
-
-  abbrev siftRefusal : ℕ → Sifted
-  siftRefusal r = record { refusal = r; layout = l; reduction = 0 }
-
   sift-number : siftOf l u .refusal ≡ refusal (siftChecks l u)
   unfolding siftOf
-  sift-number = checked-number (siftChecks l u) siftAnswer siftRefusal (λ (s : Sifted). s .refusal) refl (λ r. refl)
+  sift-number = checked-number (siftChecks l u) (siftAnswer l u) (siftRefused l) (λ (s : Sifted). s .refusal) refl (λ r. refl)
 
   pub sift-passed : siftOf l u .refusal ≡ 0 → T (valid l) × (u < l .n)
   unfolding siftChecks
   sift-passed e = vertex-passed l u (sym sift-number ∙ e)
 
-  pub sift-accepted : T (valid l) → u < l .n
-      → siftOf l u ≡ record { refusal = 0; layout = sifted l u; reduction = reduction l (sifted l u) }
+  pub sift-accepted : T (valid l) → u < l .n → siftOf l u ≡ siftAnswer l u
   unfolding siftOf siftChecks isValid isVertex
-  sift-accepted t h = when-accepted (siftChecks l u) siftAnswer siftRefusal (all-passed (also t (also (lt→ltb u (l .n) h) none)))
+  sift-accepted t h = when-accepted (siftChecks l u) (siftAnswer l u) (siftRefused l) (all-passed (also t (also (lt→ltb u (l .n) h) none)))
 
-  pub sift-refused : (siftOf l u .refusal ≡ 0 → ⊥) → siftOf l u ≡ record { refusal = siftOf l u .refusal; layout = l; reduction = 0 }
+  pub sift-refused : (siftOf l u .refusal ≡ 0 → ⊥) → siftOf l u ≡ siftRefused l (siftOf l u .refusal)
   unfolding siftOf
-  sift-refused d = when-refused (siftChecks l u) siftAnswer siftRefusal sift-number d
-
-  -- an accepted sift
-  pub sift-call : siftOf l u .refusal ≡ 0
-      → ProperSift (record { before = l; vertex = u })
-      × (siftOf l u ≡ record { refusal = 0; layout = sifted l u; reduction = reduction l (sifted l u) })
-  sift-call e =
-      let passed = sift-passed e in
-      (proper-sift l (passed .0) u (passed .1), sift-accepted (passed .0) (passed .1))
+  sift-refused d = when-refused (siftChecks l u) (siftAnswer l u) (siftRefused l) sift-number d
 
   pub sift-keeps : Keeps l (siftOf l u .layout)
   sift-keeps =
       elim (ℕ-discrete (siftOf l u .refusal) 0) [
-        | yes e ↦ rw (sift-call e .1) (improved-keeps (sift-call e .0 .improved))
+        | yes e ↦ let p = sift-passed e in rw (sift-accepted (p .0) (p .1)) (improved-keeps (sifted-improved l (p .0) u (p .1)))
         | no d ↦ same-keeps (ap (λ (s : Sifted). s .layout) (sift-refused d))
       ]
 
@@ -74,45 +58,36 @@ all-refusal [] l = refl
 all-refusal (u ∷ us) l = refl
 
 module _ (l : Layout) where
-  abbrev roundRefusal : ℕ → Rounded
-  roundRefusal r = record { refusal = r; layout = l; reduction = 0; moved = 0 }
-
   round-number : roundOf l .refusal ≡ refusal (isValid l ∷ [])
   unfolding roundOf siftRound
-  round-number = checked-number (isValid l ∷ []) (siftRound l) roundRefusal (λ (r : Rounded). r .refusal) (all-refusal (upto (l .n)) l) (λ r. refl)
+  round-number =
+      checked-number (isValid l ∷ []) (siftRound l) (roundRefused l) (λ (r : Rounded). r .refusal) (all-refusal (upto (l .n)) l) (λ r. refl)
 
   pub round-passed : roundOf l .refusal ≡ 0 → T (valid l)
   round-passed e = valid-passed l [] (sym round-number ∙ e) .0
 
   pub round-accepted : T (valid l) → roundOf l ≡ siftRound l
   unfolding roundOf isValid
-  round-accepted t = when-accepted (isValid l ∷ []) (siftRound l) roundRefusal (all-passed (also t none))
+  round-accepted t = when-accepted (isValid l ∷ []) (siftRound l) (roundRefused l) (all-passed (also t none))
 
-  pub round-refused : (roundOf l .refusal ≡ 0 → ⊥) → roundOf l ≡ record { refusal = roundOf l .refusal; layout = l; reduction = 0; moved = 0 }
+  pub round-refused : (roundOf l .refusal ≡ 0 → ⊥) → roundOf l ≡ roundRefused l (roundOf l .refusal)
   unfolding roundOf
-  round-refused d = when-refused (isValid l ∷ []) (siftRound l) roundRefusal round-number d
-
-  -- an accepted round
-  pub round-call : roundOf l .refusal ≡ 0 → ProperRound l × (roundOf l ≡ siftRound l)
-  round-call e = (proper-round l (round-passed e), round-accepted (round-passed e))
+  round-refused d = when-refused (isValid l ∷ []) (siftRound l) (roundRefused l) round-number d
 
   pub round-keeps : Keeps l (roundOf l .layout)
   round-keeps =
       elim (ℕ-discrete (roundOf l .refusal) 0) [
-        | yes e ↦ rw (round-call e .1) (improved-keeps (round-call e .0 .improved))
+        | yes e ↦ let t = round-passed e in rw (round-accepted t) (improved-keeps (round-reduced l t .improved))
         | no d ↦ same-keeps (ap (λ (r : Rounded). r .layout) (round-refused d))
       ]
 
 -- ---- settle
 
 module _ (l : Layout) (limit : ℕ) where
-  abbrev settleRefusal : ℕ → Converged
-  settleRefusal r = record { refusal = r; layout = l; reduction = 0; rounds = 0; converged = false }
-
   settle-number : settleOf l limit .refusal ≡ refusal (settleChecks l limit)
   unfolding settleOf
   settle-number =
-      checked-number (settleChecks l limit) (roundsUpTo limit l) settleRefusal (λ (c : Converged). c .refusal) (rounds-refusal limit l) (λ r. refl)
+      checked-number (settleChecks l limit) (roundsUpTo limit l) (settleRefused l) (λ (c : Converged). c .refusal) (rounds-refusal limit l) (λ r. refl)
 
   pub settle-passed : settleOf l limit .refusal ≡ 0 → T (valid l) × (1 ≤ limit) × (limit ≤ 1000)
   unfolding settleChecks limitFits
@@ -124,24 +99,16 @@ module _ (l : Layout) (limit : ℕ) where
   pub settle-accepted : T (valid l) → 1 ≤ limit → limit ≤ 1000 → settleOf l limit ≡ roundsUpTo limit l
   unfolding settleOf settleChecks isValid limitFits
   settle-accepted t h k =
-      when-accepted (settleChecks l limit) (roundsUpTo limit l) settleRefusal
+      when-accepted (settleChecks l limit) (roundsUpTo limit l) (settleRefused l)
       (all-passed (also t (also (and-intro (leb 1 limit) (leb limit 1000) (le→leb 1 limit h) (le→leb limit 1000 k)) none)))
 
-  pub settle-refused : (settleOf l limit .refusal ≡ 0 → ⊥)
-      → settleOf l limit ≡ record { refusal = settleOf l limit .refusal; layout = l; reduction = 0; rounds = 0; converged = false }
+  pub settle-refused : (settleOf l limit .refusal ≡ 0 → ⊥) → settleOf l limit ≡ settleRefused l (settleOf l limit .refusal)
   unfolding settleOf
-  settle-refused d = when-refused (settleChecks l limit) (roundsUpTo limit l) settleRefusal settle-number d
-
-  -- an accepted settling
-  pub settle-call : settleOf l limit .refusal ≡ 0
-      → Settling limit l (roundsUpTo limit l) (roundsOf limit l) × (1 ≤ roundsUpTo limit l .rounds) × (settleOf l limit ≡ roundsUpTo limit l)
-  settle-call e =
-      let passed = settle-passed e in
-      (settling limit l (passed .0), rounds-run limit l (passed .1), settle-accepted (passed .0) (passed .1) (passed .2))
+  settle-refused d = when-refused (settleChecks l limit) (roundsUpTo limit l) (settleRefused l) settle-number d
 
   pub settle-keeps : Keeps l (settleOf l limit .layout)
   settle-keeps =
       elim (ℕ-discrete (settleOf l limit .refusal) 0) [
-        | yes e ↦ rw (settle-call e .2) (improved-keeps (settle-call e .0 .improved))
+        | yes e ↦ let p = settle-passed e in rw (settle-accepted (p .0) (p .1) (p .2)) (improved-keeps (settling limit l (p .0) .improved))
         | no d ↦ same-keeps (ap (λ (c : Converged). c .layout) (settle-refused d))
       ]

@@ -15,13 +15,13 @@ use Rattle.model.specs.declared.Converged.{Converged}
 use Rattle.model.specs.Lists.{one, upto}
 use Rattle.model.specs.Crossings.{crossings}
 use Rattle.model.specs.Layouts.{vertexOrder, valid, crossingsOf}
-use Rattle.model.specs.Sifting.{leastCrossings, siftedOrder, sifted, reduction, moves, siftAll, siftRound, afterRound, stopped, roundsUpTo}
+use Rattle.model.specs.Sifting.{leastCrossings, siftedOrder, sifted, reduction, moves, noSifts, afterSift, siftAll, siftRound, afterRound, stopped, roundsUpTo}
 use Rattle.laws.specs.ListSums.{all-upto, all-mono}
 use Rattle.laws.specs.Validity.{sound, crossings-bound}
 use Rattle.laws.specs.Recount.{recounted}
 use Rattle.laws.specs.MovedPlaces.{reordered-recounted}
-use Rattle.laws.specs.Sifting.{sift-least, sift-permutation, sifted-crossings, sifted-improved, sifted-less, sift-stays}
-use Rattle.laws.specs.SiftingRounds.{proper-sifts, proper-round, rounds-refusal}
+use Rattle.laws.specs.Sifting.{sift-least, sift-permutation, sifted-crossings, sifted-improved, sifted-still, sifted-less}
+use Rattle.laws.specs.SiftingRounds.{sifts-reduced, round-reduced, rounds-refusal}
 
 -- ---- one sift
 
@@ -41,11 +41,6 @@ module _ (l : Layout) (t : T (valid l)) (u : ℕ) (h : u < l .n) where
       let after : crossingsOf (sifted l u) ≡ fewest = sifted-crossings l t u h ∙ sift-least (sound l t .permutation) (l .adjacency) u h ∙ sym f in
       (omega (arith, sifted-improved l t u h .no-more), ap₂ _-_ b (sym after))
 
-  stays-same : moves l u ≡ false → crossingsOf (sifted l u) ≡ crossingsOf l
-  unfolding moves crossingsOf
-  stays-same e =
-      sifted-crossings l t u h ∙ ap (λ (x : List ℕ). crossings (l .n) x (l .adjacency)) (sift-stays (sound l t .permutation) (l .adjacency) u h e)
-
   -- a vertex moves exactly where its sift takes crossings away
   pub moves-saving : cond (eqb (reduction l (sifted l u)) 0) 0 1 ≡ one (moves l u)
   unfolding reduction one
@@ -53,7 +48,7 @@ module _ (l : Layout) (t : T (valid l)) (u : ℕ) (h : u < l .n) where
     where
       by-test : (b : Bool) → moves l u ≡ b → cond (eqb (crossingsOf l - crossingsOf (sifted l u)) 0) 0 1 ≡ one b
       by-test true m = rw (ne-eqb (crossingsOf l - crossingsOf (sifted l u)) 0 (λ e. omega (arith, sifted-less l t u h m)))
-      by-test false m = rw (eq-eqb (crossingsOf l - crossingsOf (sifted l u)) 0 (omega (arith, stays-same m)))
+      by-test false m = rw (eq-eqb (crossingsOf l - crossingsOf (sifted l u)) 0 (omega (arith, sifted-still l t u h m)))
 
 -- ---- a round
 
@@ -74,14 +69,7 @@ sift-snoc [] u l =
     (add-comm (reduction l (sifted l u)) 0) (add-comm (one (moves l u)) 0)
 sift-snoc (v ∷ vs) u l =
     let rest = siftAll vs (sifted l v) in
-    ap
-    (λ (r : Rounded). record {
-      refusal = 0;
-      layout = r .layout;
-      reduction = reduction l (sifted l v) + r .reduction;
-      moved = one (moves l v) + r .moved;
-    })
-    (sift-snoc vs u (sifted l v))
+    ap (afterSift l v) (sift-snoc vs u (sifted l v))
     ∙ ap₂ (λ (x y : ℕ). record { refusal = 0; layout = sifted (rest .layout) u; reduction = x; moved = y })
     (sym (add-assoc (reduction l (sifted l v)) (rest .reduction) (reduction (rest .layout) (sifted (rest .layout) u))))
     (sym (add-assoc (one (moves l v)) (rest .moved) (one (moves (rest .layout) u))))
@@ -100,11 +88,11 @@ pub record Ready (l : Layout) (s : Rounded) : Type 0 where
 
 pub ready : {l : Layout} {s : Rounded} {u : ℕ} → T (valid l) → RoundUpTo l s u → Ready l s
 ready {l} {s} {u} t r =
-    let p = proper-sifts (upto u) l t (all-mono (all-upto u) (λ v b. omega (arith, r .inside))) in
+    let p = sifts-reduced (upto u) l t (all-mono (all-upto u) (λ v b. omega (arith, r .inside))) in
     rw (r .state)
     (record { is-valid = p .improved .valid-after; same-n = p .improved .same-n; exact = p .exact; fewer = p .fewer })
 
-pub round-start : (l : Layout) → RoundUpTo l (record { refusal = 0; layout = l; reduction = 0; moved = 0 }) 0
+pub round-start : (l : Layout) → RoundUpTo l (noSifts l) 0
 unfolding siftAll upto
 round-start l = record { inside = omega arith; state = refl }
 
@@ -182,7 +170,7 @@ module _ {l : Layout} {limit : ℕ} {m : Layout} {saved run : ℕ} (s : Settling
 
   pub settling-next : {r : Rounded} → run < limit → r ≡ siftRound m → (r .moved ≡ 0 → ⊥) → SettlingUpTo l limit (r .layout) (saved + r .reduction) (run + 1)
   settling-next {r} h e d =
-      let p = proper-round m (s .is-valid) in
+      let p = round-reduced m (s .is-valid) in
       rw e
       (record {
         inside = omega arith;
@@ -219,4 +207,4 @@ module _ {l : Layout} {limit : ℕ} {m : Layout} {saved run : ℕ} (s : Settling
   -- the numbers stay small
   pub settling-bounds : {r : Rounded} → T (valid l) → r ≡ siftRound m → (saved + r .reduction ≤ 635376)
   settling-bounds {r} t e =
-      omega (arith, crossings-bound l t, s .exact, proper-round m (s .is-valid) .exact, ap (λ (x : Rounded). x .reduction) e)
+      omega (arith, crossings-bound l t, s .exact, round-reduced m (s .is-valid) .exact, ap (λ (x : Rounded). x .reduction) e)

@@ -21,7 +21,8 @@ use Rattle.laws.specs.EdgeCounts.{weight}
 use Rattle.laws.specs.Recount.{counted, counted-crossings}
 use Rattle.laws.specs.Moving.{moved-permutation}
 use Rattle.laws.specs.MovedPlaces.{shifted, shifted-moved}
-use Rattle.laws.specs.Sifting.{least-default, least-some, clockwise-length, clockwise-behind, clockwise-before}
+use Rattle.laws.specs.LocalSearch.{least-default, least-some}
+use Rattle.laws.specs.Sifting.{clockwise-length, clockwise-behind, clockwise-before}
 
 -- ---- the first with the fewest, of the entries so far
 

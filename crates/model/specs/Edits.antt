@@ -22,11 +22,14 @@ unfoldable pub addChecks : Layout → List Check
 addChecks l = isValid l ∷ hasRoom l ∷ []
 
 -- "Answers its number."
+abbrev pub addAnswer : Layout → Added
+addAnswer l = record { refusal = 0; layout = added l; vertex = l .n }
+
+abbrev pub addRefused : Layout → ℕ → Added
+addRefused l r = record { refusal = r; layout = l; vertex = 0 }
+
 unfoldable pub addOf : Layout → Added
-addOf l =
-    checked (addChecks l)
-    (record { refusal = 0; layout = added l; vertex = l .n })
-    (λ r. record { refusal = r; layout = l; vertex = 0 })
+addOf l = checked (addChecks l) (addAnswer l) (addRefused l)
 
 -- ---- link and unlink
 
@@ -46,9 +49,14 @@ unfoldable pub withEdges : Layout → List ℕ → Layout
 withEdges l adj = changed l (l .n) (l .order) adj
 
 -- an accepted call gives the layout, a refused one the layout as it came
+abbrev pub changedTo : Layout → Changed
+changedTo next = record { refusal = 0; layout = next }
+
+abbrev pub changeRefused : Layout → ℕ → Changed
+changeRefused l r = record { refusal = r; layout = l }
+
 unfoldable pub changedOr : Layout → List Check → Layout → Changed
-changedOr l checks next =
-    checked checks (record { refusal = 0; layout = next }) (λ r. record { refusal = r; layout = l })
+changedOr l checks next = checked checks (changedTo next) (changeRefused l)
 
 unfoldable pub linkChecks : Layout → ℕ → ℕ → List Check
 linkChecks l a b = isValid l ∷ isVertex l a ∷ isVertex l b ∷ differ a b ∷ isUnlinked l a b ∷ []

@@ -80,9 +80,11 @@ unfoldable pub layChecks : Layout → ℕ → List Check
 layChecks l s = isValid l ∷ isVertex l s ∷ []
 
 -- "The answer carries a tally, the sum over all steps of the crossings at the end taken."
+abbrev pub layAnswer : Layout → Placing → Appended
+layAnswer l done = record { refusal = 0; layout = reordered l (done .placed); tally = done .tally }
+
+abbrev pub layRefused : Layout → ℕ → Appended
+layRefused l r = record { refusal = r; layout = l; tally = 0 }
+
 unfoldable pub layOf : Layout → ℕ → Appended
-layOf l s =
-    let done = placeAll (l .n) (l .adjacency) s in
-    checked (layChecks l s)
-    (record { refusal = 0; layout = reordered l (done .placed); tally = done .tally })
-    (λ r. record { refusal = r; layout = l; tally = 0 })
+layOf l s = checked (layChecks l s) (layAnswer l (placeAll (l .n) (l .adjacency) s)) (layRefused l)

@@ -9,5 +9,6 @@ pub mod Reading
 pub mod GreedyAppend
 pub mod Sifting
 pub mod Charts
+pub mod Histories
 pub mod Listing
 pub mod Starred

@@ -45,6 +45,11 @@ module _ {A : Type 0} where
   sumPairs f [] = 0
   sumPairs f (x ∷ xs) = sumOver (f x) xs + sumPairs f xs
 
+  -- each entry has the property P
+  pub data All (P : A → Type 0) : List A → Type 0 where
+    none : All P []
+    also : {x : A} {xs : List A} → P x → All P xs → All P (x ∷ xs)
+
   -- are no two entries the same, by the test given?
   unfoldable pub noRepeats : (A → A → Bool) → List A → Bool
   noRepeats same [] = true

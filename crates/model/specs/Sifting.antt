@@ -25,7 +25,7 @@ unfoldable pub candidates : ℕ → List ℕ → List (List ℕ)
 candidates u o = map (λ v. movedAfter u v o) (clockwiseFrom u o)
 
 -- the least of f over the list, or d where that is less
-unfoldable pub least : (List ℕ → ℕ) → ℕ → List (List ℕ) → ℕ
+unfoldable pub least : {A : Type 0} → (A → ℕ) → ℕ → List A → ℕ
 least f d [] = d
 least f d (x ∷ xs) = min (f x) (least f d xs)
 
@@ -53,12 +53,15 @@ reduction before after = crossingsOf before - crossingsOf after
 unfoldable pub siftChecks : Layout → ℕ → List Check
 siftChecks l u = isValid l ∷ isVertex l u ∷ []
 
+-- an accepted sift's answer, and a refused one's
+abbrev pub siftAnswer : Layout → ℕ → Sifted
+siftAnswer l u = record { refusal = 0; layout = sifted l u; reduction = reduction l (sifted l u) }
+
+abbrev pub siftRefused : Layout → ℕ → Sifted
+siftRefused l r = record { refusal = r; layout = l; reduction = 0 }
+
 unfoldable pub siftOf : Layout → ℕ → Sifted
-siftOf l u =
-    let after = sifted l u in
-    checked (siftChecks l u)
-    (record { refusal = 0; layout = after; reduction = reduction l after })
-    (λ r. record { refusal = r; layout = l; reduction = 0 })
+siftOf l u = checked (siftChecks l u) (siftAnswer l u) (siftRefused l)
 
 -- ---- round
 
@@ -66,27 +69,35 @@ siftOf l u =
 unfoldable pub moves : Layout → ℕ → Bool
 moves l u = improves (l .n) (l .adjacency) u (vertexOrder l)
 
--- the vertices sifted one after the other, with the summed reduction and how many moved
-unfoldable pub siftAll : List ℕ → Layout → Rounded
-siftAll [] l = record { refusal = 0; layout = l; reduction = 0; moved = 0 }
-siftAll (u ∷ us) l =
-    let after = sifted l u in
-    let rest = siftAll us after in
+-- no vertex sifted yet
+abbrev pub noSifts : Layout → Rounded
+noSifts l = record { refusal = 0; layout = l; reduction = 0; moved = 0 }
+
+-- u sifted, and what sifting the rest gives
+abbrev pub afterSift : Layout → ℕ → Rounded → Rounded
+afterSift l u rest =
     record {
       refusal = 0;
       layout = rest .layout;
-      reduction = reduction l after + rest .reduction;
+      reduction = reduction l (sifted l u) + rest .reduction;
       moved = one (moves l u) + rest .moved;
     }
+
+-- the vertices sifted one after the other, with the summed reduction and how many moved
+unfoldable pub siftAll : List ℕ → Layout → Rounded
+siftAll [] l = noSifts l
+siftAll (u ∷ us) l = afterSift l u (siftAll us (sifted l u))
 
 -- "sifts devices 0 to n − 1 in rising number"
 unfoldable pub siftRound : Layout → Rounded
 siftRound l = siftAll (upto (l .n)) l
 
+abbrev pub roundRefused : Layout → ℕ → Rounded
+roundRefused l r = record { refusal = r; layout = l; reduction = 0; moved = 0 }
+
 -- "Answers the summed saving and how many devices moved."
 unfoldable pub roundOf : Layout → Rounded
-roundOf l =
-    checked (isValid l ∷ []) (siftRound l) (λ r. record { refusal = r; layout = l; reduction = 0; moved = 0 })
+roundOf l = checked (isValid l ∷ []) (siftRound l) (roundRefused l)
 
 -- ---- settle
 
@@ -117,8 +128,8 @@ roundsUpTo (suc limit) l =
 unfoldable pub settleChecks : Layout → ℕ → List Check
 settleChecks l limit = isValid l ∷ limitFits limit ∷ []
 
+abbrev pub settleRefused : Layout → ℕ → Converged
+settleRefused l r = record { refusal = r; layout = l; reduction = 0; rounds = 0; converged = false }
+
 unfoldable pub settleOf : Layout → ℕ → Converged
-settleOf l limit =
-    checked (settleChecks l limit)
-    (roundsUpTo limit l)
-    (λ r. record { refusal = r; layout = l; reduction = 0; rounds = 0; converged = false })
+settleOf l limit = checked (settleChecks l limit) (roundsUpTo limit l) (settleRefused l)

@@ -111,3 +111,25 @@ pub enum SizeFound {
     Found(usize),
     Refused(u8),
 }
+
+// A call that changes a layout, with what it names: any numbers at all.
+pub enum Call {
+    AddVertex,
+    AddEdge(usize, usize),
+    RemoveEdge(usize, usize),
+    MoveAfter(usize, usize),
+    GreedyAppend(usize),
+    Sift(usize),
+    SiftingRound,
+    Converge(usize),
+}
+
+// What any of these calls answers: the refusal code, the layout, and the further numbers of its answer in their sequence, 0 where it has fewer;
+// a bool counts as 0 or 1.
+pub struct Outcome {
+    pub refusal: u8,
+    pub layout: Layout,
+    pub first: u64,
+    pub second: u64,
+    pub third: u64,
+}

@@ -1,0 +1,160 @@
+-- Lists of calls (document 01, "The calls of a ring", demand 3): every call as a value, what it answers, the steps of a list, and the sifts and
+-- rounds that were run in it.
+use Prim.Native.Nat.{ℕ, zero, suc, _≤_, _<_}
+use mathlib.Core.Path.{_≡_}
+use mathlib.Core.Bool.{Bool, true, false, cond}
+use mathlib.Core.List.{List, [], _∷_, flatMap}
+use lib.Dec.{eqb}
+use Rattle.model.specs.declared.Layout.{Layout}
+use Rattle.model.specs.declared.Outcome.{Outcome}
+use Rattle.model.specs.declared.Call.{Call}
+use Rattle.model.specs.declared.Call.the-variants as call
+use Rattle.model.specs.Lists.{one, upto}
+use Rattle.model.specs.Layouts.{emptyLayout, crossingsOf}
+use Rattle.model.specs.Edits.{addOf, linkOf, unlinkOf, moveOf}
+use Rattle.model.specs.GreedyAppend.{layOf}
+use Rattle.model.specs.Sifting.{sifted, siftOf, moves, siftRound, roundOf, settleOf}
+use Rattle.model.specs.Charts.{readOf}
+
+-- ---- calls and what they answer
+
+-- the refusal code, the layout, and up to three further numbers
+abbrev pub outcome : ℕ → Layout → ℕ → ℕ → ℕ → Outcome
+outcome refusal l a b c = record { refusal = refusal; layout = l; first = a; second = b; third = c }
+
+-- the definition of each call, "settled" told by 1
+unfoldable pub answerOf : Layout → Call → Outcome
+answerOf l call.AddVertex = let a = addOf l in outcome (a .refusal) (a .layout) (a .vertex) 0 0
+answerOf l (call.AddEdge a b) = let c = linkOf l a b in outcome (c .refusal) (c .layout) 0 0 0
+answerOf l (call.RemoveEdge a b) = let c = unlinkOf l a b in outcome (c .refusal) (c .layout) 0 0 0
+answerOf l (call.MoveAfter a b) = let c = moveOf l a b in outcome (c .refusal) (c .layout) 0 0 0
+answerOf l (call.GreedyAppend s) = let a = layOf l s in outcome (a .refusal) (a .layout) (a .tally) 0 0
+answerOf l (call.Sift u) = let s = siftOf l u in outcome (s .refusal) (s .layout) (s .reduction) 0 0
+answerOf l call.SiftingRound = let r = roundOf l in outcome (r .refusal) (r .layout) (r .reduction) (r .moved) 0
+answerOf l (call.Converge limit) =
+    let c = settleOf l limit in outcome (c .refusal) (c .layout) (c .reduction) (c .rounds) (one (c .converged))
+
+-- ---- a list of calls
+
+-- "For every list of calls from the empty or a freshly read ring"; "A freshly read ring is one that reading an accepted chart returned."
+pub data Start : Layout → Type 0 where
+  empty : Start emptyLayout
+  read : (s : List ℕ) → readOf s .refusal ≡ 0 → Start (readOf s .layout)
+
+-- a step: the layout before the call, the call, and its whole answer, with the layout after it
+pub record Step : Type 0 where
+  pub before : Layout
+  pub call : Call
+  pub answer : Outcome
+
+abbrev pub afterStep : Step → Layout
+afterStep s = s .answer .layout
+
+-- the steps of the calls played one after the other from l; "Nothing else writes the ring between two calls of the list."
+unfoldable pub steps : Layout → List Call → List Step
+steps l [] = []
+steps l (c ∷ cs) = record { before = l; call = c; answer = answerOf l c } ∷ steps (answerOf l c .layout) cs
+
+-- the layout after them
+unfoldable pub played : Layout → List Call → Layout
+played l [] = l
+played l (c ∷ cs) = played (answerOf l c .layout) cs
+
+-- things that lead from one state to another, each beginning where the one before it ended
+pub data Follow {A S : Type 0} (start end : A → S) : S → List A → S → Type 0 where
+  ended : {s : S} → Follow start end s [] s
+  next : {x : A} {xs : List A} {t : S} → Follow start end (end x) xs t → Follow start end (start x) (x ∷ xs) t
+
+-- each entry but the last
+unfoldable pub butLast : {A : Type 0} → List A → List A
+butLast [] = []
+butLast (x ∷ []) = []
+butLast (x ∷ y ∷ ys) = x ∷ butLast (y ∷ ys)
+
+-- ---- the sifts and rounds that a list ran
+
+-- a sift: the state before it, the vertex, the state after it, and whether the vertex moved
+pub record Sift (S : Type 0) : Type 0 where
+  pub before : S
+  pub vertex : ℕ
+  pub after : S
+  pub moved : Bool
+
+-- a round: the state before it and after it, and how many vertices moved
+pub record Round (S : Type 0) : Type 0 where
+  pub before : S
+  pub after : S
+  pub moved : ℕ
+
+abbrev pub siftOn : Layout → ℕ → Sift Layout
+siftOn l u = record { before = l; vertex = u; after = sifted l u; moved = moves l u }
+
+abbrev pub roundOn : Layout → Round Layout
+roundOn l = record { before = l; after = siftRound l .layout; moved = siftRound l .moved }
+
+-- the sifts of the vertices us one after the other
+unfoldable pub siftsFrom : List ℕ → Layout → List (Sift Layout)
+siftsFrom [] l = []
+siftsFrom (u ∷ us) l = siftOn l u ∷ siftsFrom us (sifted l u)
+
+-- the sifts that a round runs
+unfoldable pub siftsOfRound : Round Layout → List (Sift Layout)
+siftsOfRound r = siftsFrom (upto (r .before .n)) (r .before)
+
+-- the rounds that a settling runs: up to the first that moves no vertex, and at most as many as the limit
+unfoldable pub roundsFrom : ℕ → Layout → List (Round Layout)
+roundsFrom zero l = []
+roundsFrom (suc limit) l =
+    roundOn l ∷ elim (eqb (siftRound l .moved) 0) [ true ↦ [] | false ↦ roundsFrom limit (siftRound l .layout) ]
+
+-- the rounds that an accepted call runs
+unfoldable pub roundsOfCall : Layout → Call → List (Round Layout)
+roundsOfCall l call.SiftingRound = roundOn l ∷ []
+roundsOfCall l (call.Converge limit) = roundsFrom limit l
+roundsOfCall l call.AddVertex = []
+roundsOfCall l (call.AddEdge a b) = []
+roundsOfCall l (call.RemoveEdge a b) = []
+roundsOfCall l (call.MoveAfter a b) = []
+roundsOfCall l (call.GreedyAppend s) = []
+roundsOfCall l (call.Sift u) = []
+
+-- the sifts that an accepted call runs: the one called, or those of its rounds
+unfoldable pub siftsOfCall : Layout → Call → List (Sift Layout)
+siftsOfCall l (call.Sift u) = siftOn l u ∷ []
+siftsOfCall l call.SiftingRound = flatMap siftsOfRound (roundsOfCall l call.SiftingRound)
+siftsOfCall l (call.Converge limit) = flatMap siftsOfRound (roundsOfCall l (call.Converge limit))
+siftsOfCall l call.AddVertex = []
+siftsOfCall l (call.AddEdge a b) = []
+siftsOfCall l (call.RemoveEdge a b) = []
+siftsOfCall l (call.MoveAfter a b) = []
+siftsOfCall l (call.GreedyAppend s) = []
+
+-- was the call accepted?
+unfoldable pub accepted : Step → Bool
+accepted s = eqb (s .answer .refusal) 0
+
+unfoldable pub roundsOfStep : Step → List (Round Layout)
+roundsOfStep s = cond (accepted s) (roundsOfCall (s .before) (s .call)) []
+
+unfoldable pub siftsOfStep : Step → List (Sift Layout)
+siftsOfStep s = cond (accepted s) (siftsOfCall (s .before) (s .call)) []
+
+-- "What demand 3 says of sifts and rounds holds too for the sifts that an accepted round or settling runs, and for the rounds that an accepted
+-- settling runs."
+unfoldable pub roundsIn : List Step → List (Round Layout)
+roundsIn ss = flatMap roundsOfStep ss
+
+unfoldable pub siftsIn : List Step → List (Sift Layout)
+siftsIn ss = flatMap siftsOfStep ss
+
+-- ---- best places
+
+-- u stands at a best place: it can be moved behind each other vertex, and none of these moves gives fewer crossings. "The crossings of a device's
+-- place behind another are those of the ring that moving it behind that other gives."
+abbrev pub BestPlace : Layout → ℕ → Type 0
+BestPlace l u =
+    (v : ℕ) → v < l .n → (u ≡ v → ⊥) → (moveOf l u v .refusal ≡ 0) × (crossingsOf l ≤ crossingsOf (moveOf l u v .layout))
+
+-- "no move of one device behind another helps"
+abbrev pub LocalMinimum : Layout → Type 0
+LocalMinimum l = (u : ℕ) → u < l .n → BestPlace l u
