@@ -3,7 +3,7 @@
 use Prim.Native.Nat.{ℕ, zero, suc, _≤_, _<_}
 use mathlib.Core.Path.{_≡_}
 use mathlib.Core.Bool.{Bool, true, false, cond}
-use mathlib.Core.List.{List, [], _∷_, flatMap}
+use mathlib.Core.List.{List, [], _∷_, _++_, flatMap}
 use lib.Dec.{eqb}
 use Rattle.model.specs.declared.Layout.{Layout}
 use Rattle.model.specs.declared.Outcome.{Outcome}
@@ -118,16 +118,16 @@ roundsOfCall l (call.MoveAfter a b) = []
 roundsOfCall l (call.GreedyAppend s) = []
 roundsOfCall l (call.Sift u) = []
 
--- the sifts that an accepted call runs: the one called, or those of its rounds
-unfoldable pub siftsOfCall : Layout → Call → List (Sift Layout)
-siftsOfCall l (call.Sift u) = siftOn l u ∷ []
-siftsOfCall l call.SiftingRound = flatMap siftsOfRound (roundsOfCall l call.SiftingRound)
-siftsOfCall l (call.Converge limit) = flatMap siftsOfRound (roundsOfCall l (call.Converge limit))
-siftsOfCall l call.AddVertex = []
-siftsOfCall l (call.AddEdge a b) = []
-siftsOfCall l (call.RemoveEdge a b) = []
-siftsOfCall l (call.MoveAfter a b) = []
-siftsOfCall l (call.GreedyAppend s) = []
+-- the sifts that it runs besides those of its rounds: the one called
+unfoldable pub siftCalled : Layout → Call → List (Sift Layout)
+siftCalled l (call.Sift u) = siftOn l u ∷ []
+siftCalled l call.SiftingRound = []
+siftCalled l (call.Converge limit) = []
+siftCalled l call.AddVertex = []
+siftCalled l (call.AddEdge a b) = []
+siftCalled l (call.RemoveEdge a b) = []
+siftCalled l (call.MoveAfter a b) = []
+siftCalled l (call.GreedyAppend s) = []
 
 -- was the call accepted?
 unfoldable pub accepted : Step → Bool
@@ -137,7 +137,7 @@ unfoldable pub roundsOfStep : Step → List (Round Layout)
 roundsOfStep s = cond (accepted s) (roundsOfCall (s .before) (s .call)) []
 
 unfoldable pub siftsOfStep : Step → List (Sift Layout)
-siftsOfStep s = cond (accepted s) (siftsOfCall (s .before) (s .call)) []
+siftsOfStep s = cond (accepted s) (siftCalled (s .before) (s .call)) [] ++ flatMap siftsOfRound (roundsOfStep s)
 
 -- "What demand 3 says of sifts and rounds holds too for the sifts that an accepted round or settling runs, and for the rounds that an accepted
 -- settling runs."
@@ -146,6 +146,41 @@ roundsIn ss = flatMap roundsOfStep ss
 
 unfoldable pub siftsIn : List Step → List (Sift Layout)
 siftsIn ss = flatMap siftsOfStep ss
+
+-- ---- what the answers say of them
+
+-- does the call sift: a sift, a round or a settling?
+unfoldable pub sifting : Call → Bool
+sifting (call.Sift u) = true
+sifting call.SiftingRound = true
+sifting (call.Converge limit) = true
+sifting call.AddVertex = false
+sifting (call.AddEdge a b) = false
+sifting (call.RemoveEdge a b) = false
+sifting (call.MoveAfter a b) = false
+sifting (call.GreedyAppend s) = false
+
+-- how many rounds an accepted call should have run: a round one, a settling as many as it answers
+unfoldable pub roundsDue : Call → Outcome → ℕ
+roundsDue call.SiftingRound a = 1
+roundsDue (call.Converge limit) a = a .second
+roundsDue (call.Sift u) a = 0
+roundsDue call.AddVertex a = 0
+roundsDue (call.AddEdge u v) a = 0
+roundsDue (call.RemoveEdge u v) a = 0
+roundsDue (call.MoveAfter u v) a = 0
+roundsDue (call.GreedyAppend s) a = 0
+
+-- does the answer say converged ("settled")?
+unfoldable pub saysConverged : Call → Outcome → Bool
+saysConverged (call.Converge limit) a = eqb (a .third) 1
+saysConverged (call.Sift u) a = false
+saysConverged call.SiftingRound a = false
+saysConverged call.AddVertex a = false
+saysConverged (call.AddEdge u v) a = false
+saysConverged (call.RemoveEdge u v) a = false
+saysConverged (call.MoveAfter u v) a = false
+saysConverged (call.GreedyAppend s) a = false
 
 -- ---- best places
 

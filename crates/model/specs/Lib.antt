@@ -10,5 +10,6 @@ pub mod GreedyAppend
 pub mod Sifting
 pub mod Charts
 pub mod Histories
+pub mod Playing
 pub mod Listing
 pub mod Starred

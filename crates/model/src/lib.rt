@@ -133,3 +133,22 @@ pub struct Outcome {
     pub second: u64,
     pub third: u64,
 }
+
+// A call read from three numbers, or the end of the list.
+pub enum Decoded {
+    Next(Call),
+    End,
+}
+
+// Where a list of calls starts: from the empty layout, or from a chart.
+pub enum Origin {
+    Empty,
+    Chart,
+}
+
+// A list of calls played: the refusal code, the layout at the end, and how many calls were played.
+pub struct Played {
+    pub refusal: u8,
+    pub layout: Layout,
+    pub calls: usize,
+}

@@ -1,0 +1,98 @@
+-- Lists of calls written as numbers, and what playing one gives: the layout at the end and a table of the answers.
+use Prim.Native.Nat.{ℕ, zero, suc, _*_, _/_}
+use mathlib.Core.Bool.{cond}
+use mathlib.Core.List.{List, [], _∷_, _++_, flatMap}
+use lib.ListN.{length, getD, drop}
+use lib.Dec.{eqb, leb}
+use Rattle.model.specs.declared.Layout.{Layout}
+use Rattle.model.specs.declared.Outcome.{Outcome}
+use Rattle.model.specs.declared.ChartRead.{ChartRead}
+use Rattle.model.specs.declared.Played.{Played}
+use Rattle.model.specs.declared.Call.{Call}
+use Rattle.model.specs.declared.Call.the-variants as call
+use Rattle.model.specs.declared.Decoded.{Decoded}
+use Rattle.model.specs.declared.Decoded.the-variants as decoded
+use Rattle.model.specs.declared.Origin.{Origin}
+use Rattle.model.specs.declared.Origin.the-variants as origin
+use Rattle.model.specs.Layouts.{emptyLayout}
+use Rattle.model.specs.Checks.{Check, checked}
+use Rattle.model.specs.Charts.{readOf}
+use Rattle.model.specs.Histories.{Step, steps, played}
+
+-- ---- calls as numbers
+
+-- a call is three numbers: which one, and what it names; a number that stands for no call ends the list
+unfoldable pub callOf : ℕ → ℕ → ℕ → Decoded
+callOf op a b =
+    cond (eqb op 16) (decoded.Next call.AddVertex)
+    (cond (eqb op 17) (decoded.Next (call.AddEdge a b))
+    (cond (eqb op 18) (decoded.Next (call.RemoveEdge a b))
+    (cond (eqb op 19) (decoded.Next (call.MoveAfter a b))
+    (cond (eqb op 20) (decoded.Next (call.GreedyAppend a))
+    (cond (eqb op 21) (decoded.Next (call.Sift a))
+    (cond (eqb op 22) (decoded.Next call.SiftingRound)
+    (cond (eqb op 23) (decoded.Next (call.Converge a)) decoded.End)))))))
+
+-- the call that the first three numbers are
+unfoldable pub firstCall : List ℕ → Decoded
+firstCall s = callOf (getD s 0 0) (getD s 1 0) (getD s 2 0)
+
+-- a call and those behind it, or none
+unfoldable pub followed : Decoded → List Call → List Call
+followed (decoded.Next c) rest = c ∷ rest
+followed decoded.End rest = []
+
+-- at most k calls
+unfoldable pub callsIn : ℕ → List ℕ → List Call
+callsIn zero s = []
+callsIn (suc k) s = followed (firstCall s) (callsIn k (drop 3 s))
+
+-- one or two numbers behind the last call are not looked at
+unfoldable pub callsOf : List ℕ → List Call
+callsOf s = callsIn (length s / 3) s
+
+-- ---- the table of the answers
+
+-- how many numbers a call's answer takes in the table
+abbrev pub answerWidth : ℕ
+answerWidth = 4
+
+-- the refusal code, and the further numbers
+unfoldable pub answerNumbers : Outcome → List ℕ
+answerNumbers a = a .refusal ∷ a .first ∷ a .second ∷ a .third ∷ []
+
+unfoldable pub answersOf : Layout → List Call → List ℕ
+answersOf l cs = flatMap (λ (s : Step). answerNumbers (s .answer)) (steps l cs)
+
+-- ---- playing
+
+-- the start: the empty layout, or what reading the chart gives
+unfoldable pub startOf : Origin → List ℕ → ChartRead
+startOf origin.Empty chart = record { refusal = 0; layout = emptyLayout }
+startOf origin.Chart chart = readOf chart
+
+module _ (from : Origin) (chart numbers : List ℕ) (size : ℕ) where
+  -- is there a start, and does the table of the given size hold an answer for each call? The second has the number of a short buffer.
+  unfoldable pub playChecks : List Check
+  playChecks =
+      record { passes = eqb (startOf from chart .refusal) 0; code = startOf from chart .refusal }
+      ∷ record { passes = leb (answerWidth * length (callsOf numbers)) size; code = 18 }
+      ∷ []
+
+  -- the calls that are played: all, or none where playing is refused
+  unfoldable pub playedCalls : List Call
+  playedCalls = checked playChecks (callsOf numbers) (λ r. [])
+
+  -- what comes back: refused, the layout is the start, the empty one where there is none
+  unfoldable pub playOf : Played
+  playOf =
+      checked playChecks
+      (record { refusal = 0; layout = played (startOf from chart .layout) (callsOf numbers); calls = length (callsOf numbers) })
+      (λ r. record { refusal = r; layout = startOf from chart .layout; calls = 0 })
+
+-- the table after the call: the answers, and the rest as it was; untouched where playing is refused
+unfoldable pub tableOf : Origin → List ℕ → List ℕ → List ℕ → List ℕ
+tableOf from chart numbers table =
+    checked (playChecks from chart numbers (length table))
+    (answersOf (startOf from chart .layout) (callsOf numbers) ++ drop (answerWidth * length (callsOf numbers)) table)
+    (λ r. table)
