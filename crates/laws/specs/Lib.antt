@@ -24,6 +24,7 @@ pub mod SiftingCalls
 pub mod MovedPlaces
 pub mod SiftingWalk
 pub mod SiftingLoops
+pub mod AppendOrder
 pub mod Writing
 pub mod EdgeTotals
 pub mod FirstCrossing
