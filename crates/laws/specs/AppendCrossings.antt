@@ -42,7 +42,7 @@ module _ {A : Type 0} where
     quads-last f (x ∷ xs) = rw (triples-last (f x) xs, quads-last f xs) (omega arith)
 
   -- the same terms, and addition
-  pub sumPairs-ext : {P : A → Type 0} (f g : A → A → ℕ) {xs : List A} → All P xs → ((x y : A) → P x → P y → f x y ≡ g x y)
+  sumPairs-ext : {P : A → Type 0} (f g : A → A → ℕ) {xs : List A} → All P xs → ((x y : A) → P x → P y → f x y ≡ g x y)
       → sumPairs f xs ≡ sumPairs g xs
   unfolding sumPairs
   sumPairs-ext f g none h = refl
@@ -156,7 +156,7 @@ quads-places f (x ∷ xs) =
     ∙ simp sumAfter-next))
 
 -- the crossings of a list, over its places
-pub closed-crossings : (W : ℕ → ℕ → ℕ) (xs : List ℕ) → closedCrossings W xs ≡ crossingSum (length xs) (placed xs W)
+closed-crossings : (W : ℕ → ℕ → ℕ) (xs : List ℕ) → closedCrossings W xs ≡ crossingSum (length xs) (placed xs W)
 unfolding closedCrossings crossingSum sum4 sumAfter rising
 closed-crossings W xs = quads-places (λ a b c d. W a c * W b d) xs ∙ simp (← sum-scale, mul-assoc)
 

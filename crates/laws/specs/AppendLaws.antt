@@ -1,5 +1,6 @@
 -- The call lay: its list holds each vertex once, and its tally is exactly the crossings of the layout that it returns.
-use Prim.Native.Nat.{ℕ, zero, suc, _+_, _*_, _-_, _≤_, _<_}
+use Prim.Native.Nat.{ℕ, zero, suc, _+_, _-_, _≤_, _<_}
+use native.Mathlib.Nat.{le-refl, le-trans, le-of-eq, le-add-right}
 use native.Mathlib.Omega.{arith}
 use native.Mathlib.Decide.{ℕ-discrete}
 use mathlib.Core.Path.{_≡_, refl, sym, ap, _∙_, subst}
@@ -9,44 +10,85 @@ use lib.ListN.{length, drop, length-append}
 use lib.Dec.{T, ltb, lt→ltb}
 use Rattle.model.specs.declared.Layout.{Layout}
 use Rattle.model.specs.declared.Appended.{Appended}
-use Rattle.model.specs.Lists.{sumOver, sumPairs, occurrences}
-use Rattle.model.specs.Crossings.{crossings}
+use Rattle.model.specs.Lists.{sumOver, occurrences}
+use Rattle.model.specs.Crossings.{linked, crossings}
 use Rattle.model.specs.Layouts.{crossingsOf, valid, reordered}
 use Rattle.model.specs.Checks.{refusal, isValid, isVertex}
-use Rattle.model.specs.GreedyAppend.{unplaced, degreeIn, nextVertex, closing, open′, frontCrossings, backCrossings, Placing, placeVertex, placeMore, placeAll, layChecks, layOf}
+use Rattle.model.specs.GreedyAppend.{unplaced, degreeIn, nextVertex, closing, open′, frontCrossings, backCrossings}
+use Rattle.model.specs.GreedyAppend.{Placing, placeVertex, placeMore, placeAll, layChecks, layOf}
+use Rattle.laws.specs.Indicators.{one-le}
 use Rattle.laws.specs.ListSums.{All, none, also, all-mono}
-use Rattle.laws.specs.Permutations.{Permutation}
+use Rattle.laws.specs.Permutations.{at, Permutation}
 use Rattle.laws.specs.Pairs.{Symmetric}
 use Rattle.laws.specs.Counting.{crossingSum, placed}
 use Rattle.laws.specs.EdgeCounts.{weight, crossings-sum}
-use Rattle.laws.specs.Validity.{sound, crossings-bound}
+use Rattle.laws.specs.Bound.{crossingSum-bound}
+use Rattle.laws.specs.Validity.{sound}
 use Rattle.laws.specs.Refusals.{vertex-passed, all-passed, when-accepted, when-refused, checked-number}
 use Rattle.laws.specs.Moving.{reordered-crossings, reordered-valid, Keeps, same-keeps, changed-keeps}
-use Rattle.laws.specs.AppendOrder.{Placed, placed-start, placed-back, placed-front, placed-all, unplacedBut, unplaced-front, unplaced-back, sumOver-but, all-placed, next-unplaced}
+use Rattle.laws.specs.AppendOrder.{Placed, placed-start, placed-back, placed-front, placed-all, placed-count, all-placed, next-unplaced}
+use Rattle.laws.specs.AppendOrder.{unplacedBut, unplaced-front, unplaced-back, sumOver-but}
 use Rattle.laws.specs.AppendCrossings.{crossingsMet, Closing, met-start, met-back, met-front, met-finished}
 
-module _ (n : ℕ) (adj : List ℕ) where
-  -- the crossings that the placed vertices have met: of the edges between them, and of these with the edges to the others
-  abbrev pub met : List ℕ → ℕ
-  met xs = crossingsMet (weight adj) (λ b. degreeIn adj b (unplaced n xs)) xs
+-- the edges from b to the vertices us
+abbrev pub openTo : List ℕ → List ℕ → ℕ → ℕ
+openTo adj us b = degreeIn adj b us
 
-  -- after a step: m vertices are placed, and the tally is what they have met
+module _ (n : ℕ) (adj : List ℕ) where
+  -- v put at an end
+  abbrev atFront : Placing → ℕ → Placing
+  atFront s v = record { placed = v ∷ s .placed; tally = s .tally + frontCrossings n adj (s .placed) v }
+
+  abbrev atBack : Placing → ℕ → Placing
+  atBack s v = record { placed = s .placed ++ (v ∷ []); tally = s .tally + backCrossings n adj (s .placed) v }
+
+  -- what holds at either end holds at the one that is taken
+  either-end : (P : Placing → Type 0) (s : Placing) (v : ℕ) → P (atFront s v) → P (atBack s v) → P (placeVertex n adj s v)
+  unfolding placeVertex
+  either-end P s v front back = by-test (ltb (frontCrossings n adj (s .placed) v) (backCrossings n adj (s .placed) v))
+    where
+      by-test : (b : Bool) → P (cond b (atFront s v) (atBack s v))
+      by-test true = front
+      by-test false = back
+
+  -- m vertices are placed, and the tally is what they have met: the crossings of the edges between them, and of these with the edges to the others
   pub record Laid (m : ℕ) (s : Placing) : Type 0 where
     pub order : Placed n (s .placed)
     pub size : length (s .placed) ≡ m
-    pub tallied : s .tally ≡ met (s .placed)
+    pub tallied : s .tally ≡ crossingsMet (weight adj) (openTo adj (unplaced n (s .placed))) (s .placed)
 
   pub laid-start : (s : ℕ) → s < n → Laid 1 (record { placed = s ∷ []; tally = 0 })
-  laid-start s h =
-      record { order = placed-start h; size = refl; tallied = sym (met-start (weight adj) (λ b. degreeIn adj b (unplaced n (s ∷ []))) s) }
+  laid-start s h = record { order = placed-start h; size = refl; tallied = sym (met-start (weight adj) (openTo adj (unplaced n (s ∷ []))) s) }
+
+  -- the tally only grows
+  tally-step : (s : Placing) (v : ℕ) → s .tally ≤ placeVertex n adj s v .tally
+  tally-step s v =
+      either-end (λ t. s .tally ≤ t .tally) s v
+      (le-add-right (s .tally) (frontCrossings n adj (s .placed) v)) (le-add-right (s .tally) (backCrossings n adj (s .placed) v))
+
+  tally-grows : (k : ℕ) (s : Placing) → s .tally ≤ placeMore k n adj s .tally
+  unfolding placeMore
+  tally-grows zero s = le-refl (s .tally)
+  tally-grows (suc k) s =
+      let v = nextVertex n adj (s .placed) (unplaced n (s .placed)) in
+      le-trans (tally-step s v) (tally-grows k (placeVertex n adj s v))
+
+-- once all are placed, it is the crossings of the list
+laid-finished : {n : ℕ} {adj : List ℕ} {s : Placing} → Laid n adj n s → s .tally ≡ crossingSum n (placed (s .placed) (weight adj))
+unfolding degreeIn sumOver
+laid-finished {n} {adj} {s} laid =
+    laid .tallied
+    ∙ met-finished (weight adj) (openTo adj (unplaced n (s .placed))) (s .placed) (λ b. ap (degreeIn adj b) (all-placed (laid .order) (laid .size)))
+    ∙ ap (λ (m : ℕ). crossingSum m (placed (s .placed) (weight adj))) (laid .size)
 
 module _ {n : ℕ} (adj : List ℕ) (symmetry : Symmetric n (weight adj)) where
-  module _ {m : ℕ} {s : Placing} (laid : Laid n adj m s) (v : ℕ) (h : v < n) (free : occurrences v (s .placed) ≡ 0) where
+  module _ {m : ℕ} {s : Placing} (laid : Laid n adj m s) {v : ℕ} (h : v < n) (free : occurrences v (s .placed) ≡ 0) where
     -- the edges that v closes
-    closing-edges : All (Closing (weight adj) v (λ b. degreeIn adj b (unplaced n (s .placed))) (open′ n adj (s .placed) v)) (s .placed)
-    unfolding open′ degreeIn
+    closing-edges : All (Closing (weight adj) v (openTo adj (unplaced n (s .placed))) (openTo adj (unplacedBut n (s .placed) v))) (s .placed)
+    unfolding degreeIn
     closing-edges =
-        all-mono (laid .order .below) (λ b l.
+        all-mono (laid .order .below)
+        (λ b l.
         record {
           same = symmetry .swap v b h l;
           opened =
@@ -56,33 +98,29 @@ module _ {n : ℕ} (adj : List ℕ) (symmetry : Symmetric n (weight adj)) where
 
     -- one vertex more, at the end with fewer crossings
     pub laid-next : Laid n adj (suc m) (placeVertex n adj s v)
-    unfolding placeVertex frontCrossings backCrossings closing open′
-    laid-next = by-test (ltb (frontCrossings n adj (s .placed) v) (backCrossings n adj (s .placed) v))
+    unfolding frontCrossings backCrossings closing open′
+    laid-next = either-end n adj (Laid n adj (suc m)) s v front back
       where
-        others : List ℕ → ℕ → ℕ
-        others us b = degreeIn adj b us
-
-        by-test : (b : Bool) → Laid n adj (suc m)
-            (cond b
-            (record { placed = v ∷ s .placed; tally = s .tally + frontCrossings n adj (s .placed) v })
-            (record { placed = s .placed ++ (v ∷ []); tally = s .tally + backCrossings n adj (s .placed) v }))
-        by-test true =
+        front : Laid n adj (suc m) (atFront n adj s v)
+        front =
             record {
               order = placed-front (laid .order) h free;
               size = ap suc (laid .size);
               tallied =
                   ap (λ (t : ℕ). t + frontCrossings n adj (s .placed) v) (laid .tallied)
-                  ∙ sym (met-front (weight adj) v (others (unplaced n (s .placed))) (others (unplacedBut n (s .placed) v)) closing-edges)
-                  ∙ ap (λ (us : List ℕ). crossingsMet (weight adj) (others us) (v ∷ s .placed)) (sym (unplaced-front n (s .placed) v));
+                  ∙ sym (met-front (weight adj) v (openTo adj (unplaced n (s .placed))) (openTo adj (unplacedBut n (s .placed) v)) closing-edges)
+                  ∙ ap (λ (us : List ℕ). crossingsMet (weight adj) (openTo adj us) (v ∷ s .placed)) (sym (unplaced-front n (s .placed) v));
             }
-        by-test false =
+
+        back : Laid n adj (suc m) (atBack n adj s v)
+        back =
             record {
               order = placed-back (laid .order) h free;
               size = length-append (s .placed) (v ∷ []) ∙ omega (arith, laid .size);
               tallied =
                   ap (λ (t : ℕ). t + backCrossings n adj (s .placed) v) (laid .tallied)
-                  ∙ sym (met-back (weight adj) v (others (unplaced n (s .placed))) (others (unplacedBut n (s .placed) v)) closing-edges)
-                  ∙ ap (λ (us : List ℕ). crossingsMet (weight adj) (others us) (s .placed ++ (v ∷ []))) (sym (unplaced-back n (s .placed) v));
+                  ∙ sym (met-back (weight adj) v (openTo adj (unplaced n (s .placed))) (openTo adj (unplacedBut n (s .placed) v)) closing-edges)
+                  ∙ ap (λ (us : List ℕ). crossingsMet (weight adj) (openTo adj us) (s .placed ++ (v ∷ []))) (sym (unplaced-back n (s .placed) v));
             }
 
   -- step after step, until all are placed
@@ -91,7 +129,16 @@ module _ {n : ℕ} (adj : List ℕ) (symmetry : Symmetric n (weight adj)) where
   laid-more zero {m} {s} e laid = subst (λ (j : ℕ). Laid n adj j s) (omega arith) laid
   laid-more (suc k) {m} {s} e laid =
       let next = next-unplaced (laid .order) adj (omega (arith, laid .size)) in
-      laid-more k (omega arith) (laid-next laid (nextVertex n adj (s .placed) (unplaced n (s .placed))) (next .0) (next .1))
+      laid-more k (omega arith) (laid-next laid (next .0) (next .1))
+
+  -- so the tally is at no step more than the most crossings possible
+  pub laid-bound : {m : ℕ} {s : Placing} → n ≤ 64 → Laid n adj m s → s .tally ≤ 635376
+  laid-bound {m} {s} small laid =
+      let finished = laid-more (n - m) (omega (arith, placed-count (laid .order), laid .size)) laid in
+      le-trans (tally-grows n adj (n - m) s)
+      (le-trans (le-of-eq (laid-finished finished))
+      (crossingSum-bound n 1 (placed (placeMore (n - m) n adj s .placed) (weight adj)) small
+      (λ i j a b. one-le (linked adj (at (placeMore (n - m) n adj s .placed) i) (at (placeMore (n - m) n adj s .placed) j)))))
 
   module _ (s : ℕ) (h : s < n) where
     pub laid-all : Laid n adj n (placeAll n adj s)
@@ -102,15 +149,9 @@ module _ {n : ℕ} (adj : List ℕ) (symmetry : Symmetric n (weight adj)) where
     pub append-permutation : Permutation n (placeAll n adj s .placed)
     append-permutation = placed-all (laid-all .order) (laid-all .size)
 
-    -- the tally is the crossings of the finished list
+    -- the tally is exactly the crossings of the finished list
     pub append-tally : placeAll n adj s .tally ≡ crossings n (placeAll n adj s .placed) adj
-    unfolding degreeIn sumOver
-    append-tally =
-        laid-all .tallied
-        ∙ met-finished (weight adj) (λ b. degreeIn adj b (unplaced n (placeAll n adj s .placed))) (placeAll n adj s .placed)
-        (λ b. ap (degreeIn adj b) (all-placed (laid-all .order) (laid-all .size)))
-        ∙ ap (λ (k : ℕ). crossingSum k (placed (placeAll n adj s .placed) (weight adj))) (laid-all .size)
-        ∙ sym (crossings-sum append-permutation adj symmetry)
+    append-tally = laid-finished laid-all ∙ sym (crossings-sum append-permutation adj symmetry)
 
 -- ---- the call lay
 
@@ -161,8 +202,9 @@ module _ (l : Layout) (s : ℕ) where
       elim (ℕ-discrete (layOf l s .refusal) 0) [
         | yes e ↦
             let passed = lay-passed e in
-            rw (lay-tally e, lay-accepted (passed .0) (passed .1))
-            (crossings-bound (reordered l (laidOut .placed)) (lay-valid (passed .0) (passed .1)))
+            let facts = sound l (passed .0) in
+            rw (lay-accepted (passed .0) (passed .1))
+            (laid-bound (l .adjacency) (facts .symmetry) (facts .small) (laid-all (l .adjacency) (facts .symmetry) s (passed .1)))
         | no d ↦ rw (lay-refused d) (omega arith)
       ]
 
