@@ -1,11 +1,11 @@
 -- The order of a chart: that it holds each vertex once, and the array that it goes into.
 use Prim.Native.Nat.{ℕ, zero, suc, _+_, _-_, _^_, _≤_, _<_, zero-le, min}
-use native.Mathlib.Nat.{zero-add, le-step, lt-suc-self, le-trans, le-of-eq, lt-of-lt-of-le, min-eq-left, not-suc-le-zero, mul-one, add-sub-of-le}
+use native.Mathlib.Nat.{le-step, lt-suc-self, le-trans, le-of-eq, lt-of-lt-of-le, min-eq-left, not-suc-le-zero, mul-one, add-sub-of-le}
 use native.Mathlib.Numerals.{add-one}
 use native.Mathlib.Decide.{ℕ-discrete, decLt}
 use native.Mathlib.Omega.{arith}
 use mathlib.Core.Path.{_≡_, refl, sym, ap, _∙_}
-use mathlib.Core.Bool.{Bool, true, false, cond, _||_}
+use mathlib.Core.Bool.{Bool, true, false, cond}
 use mathlib.Core.List.{List, [], _∷_, _++_}
 use lib.ListN.{length, getD, take, set, replicate, length-take, length-append, length-replicate, length-set, getD-replicate, List·getD-append, List·getD-eq-default}
 use lib.Seq.{take-suc, take-all, length-take-le, getD-take, getD-append-add, getD-set-same, getD-set-other, ext-getD}
@@ -13,15 +13,15 @@ use lib.Dec.{eqb, ltb}
 use lib.Pow.{ones-lt, pow-mono}
 use borrow.Author.Tests.{lt-ltb, le-ltb, ltb-true, eq-eqb, ne-eqb}
 use Rattle.model.specs.declared.Asked.the-variants as asks
-use Rattle.model.specs.Lists.{one, any, member, sumOver, occurrences}
+use Rattle.model.specs.Lists.{one, any, member, occurrences}
 use Rattle.model.specs.Crossings.{bit}
 use Rattle.model.specs.Layouts.{eachOnce}
 use Rattle.model.specs.Edits.{withBit}
 use Rattle.model.specs.Checks.{refusal, byRefusal, checked}
 use Rattle.model.specs.Charts.{asked, answer, placeChecks}
 use Rattle.laws.specs.Indicators.{less, same, more, order, one-le, one-true}
-use Rattle.laws.specs.Sums.{sum, sum-ext, sum-const, sum-swap, sum-mono}
-use Rattle.laws.specs.Permutations.{at, Permutation, occurrences-places, sum-hits, none-beyond}
+use Rattle.laws.specs.Sums.{sum, sum-const, sum-mono}
+use Rattle.laws.specs.Permutations.{at, Permutation, member-occurs, occurrences-total, none-beyond}
 use Rattle.laws.specs.Bits.{set-same, set-other, bit-beyond}
 use Rattle.laws.specs.MaskCount.{bit-full}
 use Rattle.laws.specs.Validity.{each-once}
@@ -83,16 +83,6 @@ module _ {o : List ℕ} where
 
 -- ---- question 8
 
--- what is an entry occurs
-occurs : (v : ℕ) (o : List ℕ) → member v o ≡ ltb 0 (occurrences v o)
-unfolding member any occurrences sumOver one
-occurs v [] = refl
-occurs v (x ∷ xs) = by-test (eqb v x) (occurs v xs)
-  where
-    by-test : (b : Bool) → any (eqb v) xs ≡ ltb 0 (sumOver (λ y. one (eqb v y)) xs) → (b || any (eqb v) xs) ≡ ltb 0 (one b + sumOver (λ y. one (eqb v y)) xs)
-    by-test true e = sym (lt-ltb 0 (1 + sumOver (λ y. one (eqb v y)) xs) (omega arith))
-    by-test false e = e ∙ ap (ltb 0) (sym (zero-add (sumOver (λ y. one (eqb v y)) xs)))
-
 -- terms of at least 1 whose sum is no more than their number are all 1
 no-more : (n : ℕ) (f : ℕ → ℕ) → ((i : ℕ) → i < n → 1 ≤ f i) → sum n f ≤ n → (k : ℕ) → k < n → f k ≡ 1
 unfolding sum
@@ -114,10 +104,7 @@ all-once n o l h = no-more n (λ v. occurrences v o) h total
     total : sum n (λ v. occurrences v o) ≤ n
     total =
         le-trans
-        (le-of-eq
-        (sum-ext n (λ v. occurrences v o) (λ v. sum (length o) (λ i. one (eqb v (at o i)))) (λ v b. occurrences-places v o)
-        ∙ sum-swap n (length o) (λ v i. one (eqb v (at o i)))
-        ∙ sum-ext (length o) (λ i. sum n (λ v. one (eqb v (at o i)))) (λ i. one (ltb (at o i) n)) (λ i b. sum-hits n (at o i))))
+        (le-of-eq (occurrences-total n o))
         (le-trans (sum-mono (length o) (λ i. one (ltb (at o i) n)) (λ i. 1) (λ i b. one-le (ltb (at o i) n))) (le-trans (le-of-eq (sum-const (length o) 1 ∙ mul-one (length o))) l))
 
 module _ (n : ℕ) (o : List ℕ) (few : n ≤ 64) (long : length o ≡ n) where
@@ -129,7 +116,7 @@ module _ (n : ℕ) (o : List ℕ) (few : n ≤ 64) (long : length o ≡ n) where
       there : (v : ℕ) → v < n → 0 < occurrences v o
       there v l =
           ltb-true 0 (occurrences v o)
-          (sym (occurs v o)
+          (sym (member-occurs v o)
           ∙ one-true (member v o)
           (sym (wordOf-bit (λ u. member u o) 64 v (lt-of-lt-of-le l few))
           ∙ ap (λ (w : ℕ). bit w v) (e ∙ ap (λ (m : ℕ). 2 ^ m - 1) (min-eq-left few))
@@ -145,8 +132,10 @@ module _ (n : ℕ) (o : List ℕ) (few : n ≤ 64) (long : length o ≡ n) where
       bits : (v : ℕ) → v < 64 → bit (2 ^ n - 1) v ≡ one (member v o)
       bits v l =
           elim (decLt v n) [
-            | yes h ↦ bit-full n v h ∙ sym (ap one (occurs v o ∙ lt-ltb 0 (occurrences v o) (omega (arith, perm .once v h))))
-            | no h ↦ bit-beyond n (2 ^ n - 1) v (ones-lt n) (omega arith) ∙ sym (ap one (occurs v o ∙ le-ltb 0 (occurrences v o) (le-of-eq (none-beyond perm v (omega arith)))))
+            | yes h ↦ bit-full n v h ∙ sym (ap one (member-occurs v o ∙ lt-ltb 0 (occurrences v o) (omega (arith, perm .once v h))))
+            | no h ↦
+                bit-beyond n (2 ^ n - 1) v (ones-lt n) (omega arith)
+                ∙ sym (ap one (member-occurs v o ∙ le-ltb 0 (occurrences v o) (le-of-eq (none-beyond perm v (omega arith)))))
           ]
 
   pub answer-places : vertexSet o ≡ 2 ^ min n 64 - 1 → asked asks.Passed ≡ answer (placeChecks n o) []

@@ -25,6 +25,9 @@ pub mod SiftingCalls
 pub mod MovedPlaces
 pub mod SiftingWalk
 pub mod SiftingLoops
+pub mod AppendOrder
+pub mod AppendCrossings
+pub mod AppendLaws
 pub mod Writing
 pub mod EdgeTotals
 pub mod FirstCrossing

@@ -3,7 +3,7 @@ use Prim.Native.Nat.{ℕ, zero, suc, _+_, _*_, _-_, _≤_, _<_, zero-le, suc-le-
 use native.Mathlib.Nat.{add-zero, le-step, lt-suc-self, not-suc-le-zero, le-of-suc-le-suc}
 use native.Mathlib.Omega.{arith}
 use mathlib.Core.Path.{_≡_, refl, sym, ap, ap₂, _∙_, subst}
-use mathlib.Core.Bool.{Bool, true, false, cond}
+use mathlib.Core.Bool.{Bool, true, false, cond, _&&_}
 use mathlib.Core.List.{List, [], _∷_, _++_, map, flatMap, append-assoc}
 use lib.ListN.{length, getD, take, drop, length-append, length-drop, List·getD-append}
 use lib.Seq.{length-take-le, getD-at, getD-take, getD-drop}
@@ -107,6 +107,26 @@ module _ {A : Type 0} where
       by-test : (b : Bool) → All P (keep p xs) → All P (cond b (x ∷ keep p xs) (keep p xs))
       by-test true r = also q r
       by-test false r = r
+
+  -- what is kept has passed
+  pub all-kept : {P : A → Type 0} (p : A → Bool) {xs : List A} → All P xs → All (λ x. P x × (p x ≡ true)) (keep p xs)
+  unfolding keep
+  all-kept p none = none
+  all-kept {P} p (also {x} {xs} q qs) = by-test (p x) refl (all-kept p qs)
+    where
+      by-test : (b : Bool) → p x ≡ b → All (λ y. P y × (p y ≡ true)) (keep p xs) → All (λ y. P y × (p y ≡ true)) (cond b (x ∷ keep p xs) (keep p xs))
+      by-test true e r = also (q, e) r
+      by-test false e r = r
+
+  pub keep-keep : (p q : A → Bool) (xs : List A) → keep p (keep q xs) ≡ keep (λ x. q x && p x) xs
+  unfolding keep
+  keep-keep p q [] = refl
+  keep-keep p q (x ∷ xs) = by-test (q x) (keep-keep p q xs)
+    where
+      by-test : (b : Bool) → keep p (keep q xs) ≡ keep (λ y. q y && p y) xs
+          → keep p (cond b (x ∷ keep q xs) (keep q xs)) ≡ cond (b && p x) (x ∷ keep (λ y. q y && p y) xs) (keep (λ y. q y && p y) xs)
+      by-test true e = ap (λ (ys : List A). cond (p x) (x ∷ ys) ys) e
+      by-test false e = e
 
 pub all-upto : (n : ℕ) → All (λ i. i < n) (upto n)
 unfolding upto

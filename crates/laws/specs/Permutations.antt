@@ -1,15 +1,15 @@
 -- A list that holds each vertex once: places and vertices are inverse, and a sum over vertices is the sum over places.
 use Prim.Native.Nat.{ℕ, zero, suc, _+_, _*_, _≤_, _<_, zero-le, suc-le-suc}
-use native.Mathlib.Nat.{mul-one, not-suc-le-zero, le-of-suc-le-suc}
+use native.Mathlib.Nat.{zero-add, mul-one, not-suc-le-zero, le-of-suc-le-suc}
 use native.Mathlib.Omega.{arith}
 use mathlib.Core.Path.{_≡_, refl, sym, ap, _∙_}
-use mathlib.Core.Bool.{Bool, true, false, cond}
+use mathlib.Core.Bool.{Bool, true, false, cond, _||_}
 use mathlib.Core.List.{List, [], _∷_, _++_}
 use lib.ListN.{length, getD, take, drop}
 use lib.Seq.{split-at, take-suc, drop-cons}
 use lib.Dec.{eqb, ltb}
-use borrow.Author.Tests.{eq-eqb, eqb-true}
-use Rattle.model.specs.Lists.{one, sumOver, occurrences, place}
+use borrow.Author.Tests.{eq-eqb, eqb-true, lt-ltb}
+use Rattle.model.specs.Lists.{one, any, sumOver, member, occurrences, place}
 use Rattle.laws.specs.Indicators.{less, same, more, order, one-eq, one-ne, one-lt, one-ge, one-le, one-sym}
 use Rattle.laws.specs.Sums.{sum, sum-ext, sum-zero, sum-scale, sum-const, sum-swap, sum-at, sum-at-right, all-one}
 use Rattle.laws.specs.ListSums.{sumOver-append, sumOver-places}
@@ -89,6 +89,17 @@ place-at (x ∷ xs) (suc i) h e = by-test (eqb (at xs i) x) e (occurs-at xs i (l
     by-test true k p r = absurd (omega arith)
     by-test false k p r = ap suc (r (omega arith))
 
+-- what is an entry occurs
+pub member-occurs : (v : ℕ) (o : List ℕ) → member v o ≡ ltb 0 (occurrences v o)
+unfolding member any occurrences sumOver one
+member-occurs v [] = refl
+member-occurs v (x ∷ xs) = by-test (eqb v x) (member-occurs v xs)
+  where
+    by-test : (b : Bool) → any (eqb v) xs ≡ ltb 0 (sumOver (λ y. one (eqb v y)) xs)
+        → (b || any (eqb v) xs) ≡ ltb 0 (one b + sumOver (λ y. one (eqb v y)) xs)
+    by-test true e = sym (lt-ltb 0 (1 + sumOver (λ y. one (eqb v y)) xs) (omega arith))
+    by-test false e = e ∙ ap (ltb 0) (sym (zero-add (sumOver (λ y. one (eqb v y)) xs)))
+
 -- the numbers below n that are k: one if k is below n
 pub sum-hits : (n k : ℕ) → sum n (λ v. one (eqb v k)) ≡ one (ltb k n)
 sum-hits n k =
@@ -100,6 +111,13 @@ sum-hits n k =
   where
     none-hit : n ≤ k → sum n (λ v. one (eqb v k)) ≡ one (ltb k n)
     none-hit l = sum-zero n (λ v. one (eqb v k)) (λ v b. one-ne v k (λ e. omega arith)) ∙ sym (one-ge k n l)
+
+-- the numbers below n occur as often as there are places that hold one
+pub occurrences-total : (n : ℕ) (o : List ℕ) → sum n (λ v. occurrences v o) ≡ sum (length o) (λ i. one (ltb (at o i) n))
+occurrences-total n o =
+    sum-ext n (λ v. occurrences v o) (λ v. sum (length o) (λ i. one (eqb v (at o i)))) (λ v h. occurrences-places v o)
+    ∙ sum-swap n (length o) (λ v i. one (eqb v (at o i)))
+    ∙ sum-ext (length o) (λ i. sum n (λ v. one (eqb v (at o i)))) (λ i. one (ltb (at o i) n)) (λ i h. sum-hits n (at o i))
 
 module _ {n : ℕ} {o : List ℕ} (perm : Permutation n o) where
   -- how often v occurs, over n places
