@@ -15,7 +15,7 @@ use Rattle.model.specs.Crossings.{linked, crossings}
 use Rattle.model.specs.Layouts.{crossingsOf, valid, reordered}
 use Rattle.model.specs.Checks.{refusal, isValid, isVertex}
 use Rattle.model.specs.GreedyAppend.{unplaced, degreeIn, nextVertex, closing, open′, frontCrossings, backCrossings}
-use Rattle.model.specs.GreedyAppend.{Placing, placeVertex, placeMore, placeAll, layChecks, layOf}
+use Rattle.model.specs.GreedyAppend.{Placing, placeVertex, placeMore, placeAll, layChecks, layAnswer, layRefused, layOf}
 use Rattle.laws.specs.Indicators.{one-le}
 use Rattle.laws.specs.ListSums.{All, none, also, all-mono}
 use Rattle.laws.specs.Permutations.{at, Permutation}
@@ -160,27 +160,21 @@ module _ (l : Layout) (s : ℕ) where
   abbrev pub laidOut : Placing
   laidOut = placeAll (l .n) (l .adjacency) s
 
-  abbrev pub layAnswer : Appended
-  layAnswer = record { refusal = 0; layout = reordered l (laidOut .placed); tally = laidOut .tally }
-
-  abbrev pub layRefused : ℕ → Appended
-  layRefused r = record { refusal = r; layout = l; tally = 0 }
-
   lay-number : layOf l s .refusal ≡ refusal (layChecks l s)
   unfolding layOf
-  lay-number = checked-number (layChecks l s) layAnswer layRefused (λ (a : Appended). a .refusal) refl (λ r. refl)
+  lay-number = checked-number (layChecks l s) (layAnswer l laidOut) (layRefused l) (λ (a : Appended). a .refusal) refl (λ r. refl)
 
   pub lay-passed : layOf l s .refusal ≡ 0 → T (valid l) × (s < l .n)
   unfolding layChecks
   lay-passed e = vertex-passed l s (sym lay-number ∙ e)
 
-  pub lay-accepted : T (valid l) → s < l .n → layOf l s ≡ layAnswer
+  pub lay-accepted : T (valid l) → s < l .n → layOf l s ≡ layAnswer l laidOut
   unfolding layOf layChecks isValid isVertex
-  lay-accepted t h = when-accepted (layChecks l s) layAnswer layRefused (all-passed (also t (also (lt→ltb s (l .n) h) none)))
+  lay-accepted t h = when-accepted (layChecks l s) (layAnswer l laidOut) (layRefused l) (all-passed (also t (also (lt→ltb s (l .n) h) none)))
 
-  pub lay-refused : (layOf l s .refusal ≡ 0 → ⊥) → layOf l s ≡ layRefused (layOf l s .refusal)
+  pub lay-refused : (layOf l s .refusal ≡ 0 → ⊥) → layOf l s ≡ layRefused l (layOf l s .refusal)
   unfolding layOf
-  lay-refused d = when-refused (layChecks l s) layAnswer layRefused lay-number d
+  lay-refused d = when-refused (layChecks l s) (layAnswer l laidOut) (layRefused l) lay-number d
 
   module _ (t : T (valid l)) (h : s < l .n) where
     pub lay-permutation : Permutation (l .n) (laidOut .placed)
