@@ -10,6 +10,7 @@ pub mod Counting
 pub mod EdgeCounts
 pub mod Bound
 pub mod Validity
+pub mod Complete
 pub mod Bits
 pub mod MaskCount
 pub mod Recount

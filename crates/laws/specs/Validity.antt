@@ -25,7 +25,7 @@ use Rattle.laws.specs.Permutations.{at, Permutation, at-lt, occurrences-
 use Rattle.laws.specs.Pairs.{pairSum, Symmetric}
 use Rattle.laws.specs.Counting.{crossingSum, placed, crossingSum-counted}
 use Rattle.laws.specs.EdgeCounts.{weight, crossings-sum}
-use Rattle.laws.specs.Bound.{sum-more, crossingSum-bound}
+use Rattle.laws.specs.Bound.{sum-more, mostCrossings, crossingSum-bound}
 
 -- a bit that is not 1 is 0
 pub not-one-bit : (b : ℕ) → b < 2 → eqb b 1 ≡ false → b ≡ 0
@@ -143,7 +143,7 @@ module _ (l : Layout) (t : T (valid l)) where
   crossings-counted = crossings-rising ∙ crossingSum-counted (l .n) (placeWeight l)
 
   -- "Most possible: 635,376"
-  pub crossings-bound : crossingsOf l ≤ 635376
+  pub crossings-bound : crossingsOf l ≤ mostCrossings
   crossings-bound =
       le-trans (le-of-eq crossings-rising)
       (crossingSum-bound (l .n) 1 (placeWeight l) (sound l t .small)
