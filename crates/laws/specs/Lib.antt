@@ -36,3 +36,5 @@ pub mod ChartWords
 pub mod ChartOrder
 pub mod ChartReading
 pub mod ChartLaws
+pub mod Sizes
+pub mod EditCalls

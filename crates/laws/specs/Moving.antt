@@ -18,7 +18,8 @@ use Rattle.model.specs.Checks.{refusal}
 use Rattle.model.specs.Edits.{insertAfter, movedAfter, moveChecks, moveOf}
 use Rattle.laws.specs.Indicators.{less, same, more, order, one-ne}
 use Rattle.laws.specs.Permutations.{at, occurrences-cons, occurrences-append, occurrences-split, Permutation, place-lt, place-at, at-of-place, place-below}
-use Rattle.laws.specs.Refusals.{Pair, pair-passed, passed-pair, acceptedWith, refusedWith, changed-number, changed-accepted, changed-refused, changed-either}
+use Rattle.laws.specs.Refusals.{Pair, pair-passed, passed-pair}
+use Rattle.laws.specs.Refusals.{acceptedWith, refusedWith, changed-number, changed-accepted, changed-refused, changed-either}
 use Rattle.laws.specs.Validity.{sound, sound-valid, crossings-bound}
 
 -- a list without the vertex a

@@ -1,10 +1,9 @@
 -- The calls sift, round and settle: what an accepted one may count on and gives, and that a refused one changes nothing.
 use Prim.Native.Nat.{ℕ, _≤_, _<_}
 use native.Mathlib.Omega.{arith}
-use mathlib.Core.Path.{_≡_, refl, sym, ap, _∙_}
+use mathlib.Core.Path.{_≡_, refl, sym, _∙_}
 use mathlib.Core.Bool.{false}
 use mathlib.Core.List.{List, [], _∷_}
-use native.Mathlib.Decide.{ℕ-discrete}
 use lib.Dec.{T, leb, le→leb, lt→ltb}
 use borrow.Author.Tests.{leb-true}
 use Rattle.model.specs.declared.Layout.{Layout}
@@ -17,7 +16,7 @@ use Rattle.model.specs.Checks.{refusal, isValid, isVertex, limitFits}
 use Rattle.model.specs.Sifting.{sifted, reduction, siftChecks, siftOf, siftAll, siftRound, roundOf, roundsUpTo, settleChecks, settleOf}
 use Rattle.laws.specs.Indicators.{and-intro, both-left, both-right}
 use Rattle.laws.specs.ListSums.{none, also}
-use Rattle.laws.specs.Refusals.{passed, valid-passed, vertex-passed, all-passed, when-accepted, when-refused, checked-number}
+use Rattle.laws.specs.Refusals.{passed, valid-passed, vertex-passed, all-passed, when-accepted, when-refused, checked-number, checked-either}
 use Rattle.laws.specs.Moving.{Keeps, same-keeps}
 use Rattle.laws.specs.Sifting.{Improved, improved-count}
 use Rattle.laws.specs.SiftingRounds.{ProperSift, proper-sift, ProperRound, proper-round, roundsOf, Settling, settling, rounds-refusal, rounds-run}
@@ -59,12 +58,15 @@ module _ (l : Layout) (u : ℕ) where
       let passed = sift-passed e in
       (proper-sift l (passed .0) u (passed .1), sift-accepted (passed .0) (passed .1))
 
+  -- what holds of the layout before, and of the layout that an accepted sift gives, holds of the layout that is answered
+  pub sift-either : (P : Layout → Type 0) → (ProperSift (record { before = l; vertex = u }) → P (sifted l u)) → P l → P (siftOf l u .layout)
+  unfolding siftOf siftChecks
+  sift-either P a r =
+      checked-either (siftChecks l u) siftAnswer siftRefusal (λ (s : Sifted). P (s .layout))
+      (λ e. (let passed = vertex-passed l u e in a (proper-sift l (passed .0) u (passed .1)))) (λ k. r)
+
   pub sift-keeps : Keeps l (siftOf l u .layout)
-  sift-keeps =
-      elim (ℕ-discrete (siftOf l u .refusal) 0) [
-        | yes e ↦ rw (sift-call e .1) (improved-keeps (sift-call e .0 .improved))
-        | no d ↦ same-keeps (ap (λ (s : Sifted). s .layout) (sift-refused d))
-      ]
+  sift-keeps = sift-either (Keeps l) (λ p. improved-keeps (p .improved)) (same-keeps refl)
 
 -- ---- round
 
@@ -96,12 +98,14 @@ module _ (l : Layout) where
   pub round-call : roundOf l .refusal ≡ 0 → ProperRound l × (roundOf l ≡ siftRound l)
   round-call e = (proper-round l (round-passed e), round-accepted (round-passed e))
 
+  pub round-either : (P : Layout → Type 0) → (ProperRound l → P (siftRound l .layout)) → P l → P (roundOf l .layout)
+  unfolding roundOf
+  round-either P a r =
+      checked-either (isValid l ∷ []) (siftRound l) roundRefusal (λ (s : Rounded). P (s .layout))
+      (λ e. a (proper-round l (valid-passed l [] e .0))) (λ k. r)
+
   pub round-keeps : Keeps l (roundOf l .layout)
-  round-keeps =
-      elim (ℕ-discrete (roundOf l .refusal) 0) [
-        | yes e ↦ rw (round-call e .1) (improved-keeps (round-call e .0 .improved))
-        | no d ↦ same-keeps (ap (λ (r : Rounded). r .layout) (round-refused d))
-      ]
+  round-keeps = round-either (Keeps l) (λ p. improved-keeps (p .improved)) (same-keeps refl)
 
 -- ---- settle
 
@@ -139,9 +143,12 @@ module _ (l : Layout) (limit : ℕ) where
       let passed = settle-passed e in
       (settling limit l (passed .0), rounds-run limit l (passed .1), settle-accepted (passed .0) (passed .1) (passed .2))
 
+  pub settle-either : (P : Layout → Type 0)
+      → (Settling limit l (roundsUpTo limit l) (roundsOf limit l) → P (roundsUpTo limit l .layout)) → P l → P (settleOf l limit .layout)
+  unfolding settleOf settleChecks
+  settle-either P a r =
+      checked-either (settleChecks l limit) (roundsUpTo limit l) settleRefusal (λ (s : Converged). P (s .layout))
+      (λ e. a (settling limit l (valid-passed l (limitFits limit ∷ []) e .0))) (λ k. r)
+
   pub settle-keeps : Keeps l (settleOf l limit .layout)
-  settle-keeps =
-      elim (ℕ-discrete (settleOf l limit .refusal) 0) [
-        | yes e ↦ rw (settle-call e .2) (improved-keeps (settle-call e .0 .improved))
-        | no d ↦ same-keeps (ap (λ (c : Converged). c .layout) (settle-refused d))
-      ]
+  settle-keeps = settle-either (Keeps l) (λ p. improved-keeps (p .improved)) (same-keeps refl)

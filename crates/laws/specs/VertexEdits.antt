@@ -11,6 +11,7 @@ use lib.Dec.{T, eqb}
 use lib.Seq.{take-suc-set, getD-set-other}
 use lib.Pow.{pow-mono}
 use Rattle.model.specs.declared.Layout.{Layout}
+use Rattle.model.specs.declared.Added.{Added}
 use Rattle.model.specs.Lists.{one, occurrences}
 use Rattle.model.specs.Layouts.{vertexOrder, valid, changed}
 use Rattle.model.specs.Edits.{added}
@@ -90,3 +91,12 @@ module _ (l : Layout) (t : T (valid l)) (room : l .n < 64) where
         rw (e, add-one (l .n))
         (recounted-changed l (suc (l .n)) (set (l .order) (l .n) (l .n)) (l .adjacency) t
         (record { small = room; permutation = permutation-added; symmetry = symmetric-more }))
+
+-- ---- what the call add answers
+
+module _ (l : Layout) where
+  abbrev pub addAnswer : Added
+  addAnswer = record { refusal = 0; layout = added l; vertex = l .n }
+
+  abbrev pub addRefusal : ℕ → Added
+  addRefusal r = record { refusal = r; layout = l; vertex = 0 }
