@@ -36,5 +36,6 @@ pub mod ChartWords
 pub mod ChartOrder
 pub mod ChartReading
 pub mod ChartLaws
+pub mod Turning
 pub mod Sizes
 pub mod EditCalls
