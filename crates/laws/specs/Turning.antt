@@ -1,6 +1,6 @@
 -- Where the list starts makes no difference: turning it leaves the crossings. So the last candidate of a sift, with the vertex back where it
 -- stood on the circle, has as many as the present order.
-use Prim.Native.Nat.{ℕ, suc, _+_, _*_, _-_, _%_, _≤_, _<_}
+use Prim.Native.Nat.{ℕ, zero, suc, _+_, _*_, _-_, _%_, _≤_, _<_, zero-le}
 use native.Mathlib.Nat.{add-comm, add-sub-of-le}
 use native.Mathlib.Decide.{decLt}
 use native.Mathlib.Omega.{arith}
@@ -27,10 +27,11 @@ use Rattle.laws.specs.Sifting.{clockwise-length, clockwise-behind, clock
 
 -- ---- edges cross where an odd number of their ends' four comparisons hold
 
+-- what is added to both makes no difference
 both-odd : (u v t : ℕ) → ((u + t) % 2 + (v + t) % 2) % 2 ≡ (u + v) % 2
 both-odd u v t = omega arith
 
--- what is added to each end's two comparisons makes no difference
+-- nor what is added for each end, to its two comparisons
 all-odd : (a b c d w x y z : ℕ)
     → (((a + w + y) % 2 + (b + x + y) % 2) % 2 + ((c + w + z) % 2 + (d + x + z) % 2) % 2) % 2 ≡ ((a + b) % 2 + (c + d) % 2) % 2
 all-odd a b c d w x y z = rw (both-odd (a + w) (b + x) y, both-odd (c + w) (d + x) z) (omega arith)
@@ -67,12 +68,14 @@ unfolding alternate
 alternate-odd p q r s pr qr ps qs =
     xor-odd (between p q r) (between p q s) ∙ rw (between-odd p q r pr qr, between-odd p q s ps qs)
 
+-- 1 if u stands before v
+abbrev before : List ℕ → ℕ → ℕ → ℕ
+before o u v = one (ltb (place o u) (place o v))
+
 -- the same of vertices that are different
 places-odd : {n : ℕ} {o : List ℕ} → Permutation n o → (a b c d : ℕ) → a < n → b < n → c < n → d < n
     → eqb a c ≡ false → eqb b c ≡ false → eqb a d ≡ false → eqb b d ≡ false
-    → one (alternate (place o a) (place o b) (place o c) (place o d))
-    ≡ ((one (ltb (place o a) (place o c)) + one (ltb (place o b) (place o c))) % 2 + (one (ltb (place o a) (place o d)) + one (ltb (place o b) (place o d))) % 2)
-    % 2
+    → one (alternate (place o a) (place o b) (place o c) (place o d)) ≡ ((before o a c + before o b c) % 2 + (before o a d + before o b d) % 2) % 2
 places-odd {n} {o} perm a b c d ha hb hc hd ac bc ad bd =
     alternate-odd (place o a) (place o b) (place o c) (place o d) (apart a c ha hc ac) (apart b c hb hc bc) (apart a d ha hd ad) (apart b d hb hd bd)
   where
@@ -192,8 +195,7 @@ module _ {n : ℕ} {o : List ℕ} (perm : Permutation n o) (k : ℕ) (h : k ≤ 
       ∙ place-of-at turn-permutation (turnedPlace n k (place o v)) (turned-lt n k (place o v) h p)
 
   -- which of two vertices stands first, and whether two edges cross
-  first-odd : (u v : ℕ) → u < n → v < n
-      → one (ltb (place (turn k o) u) (place (turn k o) v)) ≡ (one (ltb (place o u) (place o v)) + one (ltb (place o u) k) + one (ltb (place o v) k)) % 2
+  first-odd : (u v : ℕ) → u < n → v < n → before (turn k o) u v ≡ (before o u v + one (ltb (place o u) k) + one (ltb (place o v) k)) % 2
   first-odd u v a b =
       rw (turned-place u a, turned-place v b) (turned-odd n k (place o u) (place o v) h (place-below perm u a) (place-below perm v b))
 
@@ -214,12 +216,9 @@ module _ {n : ℕ} {o : List ℕ} (perm : Permutation n o) (k : ℕ) (h : k ≤ 
         first-odd a d ha hd,
         first-odd b d hb hd,
       )
-      (all-odd (before a c) (before b c) (before a d) (before b d) (front a) (front b) (front c) (front d)))
+      (all-odd (before o a c) (before o b c) (before o a d) (before o b d) (front a) (front b) (front c) (front d)))
       ∙ crosses-places perm (edge a b) (edge c d) (ha, hb) (hc, hd)
     where
-      before : ℕ → ℕ → ℕ
-      before u v = one (ltb (place o u) (place o v))
-
       front : ℕ → ℕ
       front u = one (ltb (place o u) k)
 
@@ -234,7 +233,101 @@ module _ {n : ℕ} {o : List ℕ} (perm : Permutation n o) (k : ℕ) (h : k ≤ 
       (λ c d. W a b * W c d * cross (place o a) (place o b) (place o c) (place o d))
       (λ c d l m. ap (λ (x : ℕ). W a b * W c d * x) (turned-cross a b c d (omega arith) j (omega arith) m)))
 
+  -- and of the model; turned by one, x ∷ xs is xs ++ (x ∷ [])
   pub turned-crossings : (adj : List ℕ) → crossings n (turn k o) adj ≡ crossings n o adj
   turned-crossings adj =
       halves (crossings n (turn k o) adj) (crossings n o adj)
       (crossings-twice turn-permutation adj ∙ turned-twice (weight adj) ∙ sym (crossings-twice perm adj))
+
+-- ---- the last candidate of a sift
+
+-- moved behind the one directly before it, an entry stays
+stays-behind : (q i : ℕ) → movedFrom (suc q) q i ≡ i
+stays-behind q i =
+    elim (order i (suc q)) [
+      | less l ↦ back-kept (suc q) q (omega arith) i (omega arith)
+      | same e ↦ rw e (back-put (suc q) q (omega arith))
+      | more l ↦ back-beyond (suc q) q (omega arith) i l
+    ]
+
+module _ {n : ℕ} {o : List ℕ} (perm : Permutation n o) (u : ℕ) (h : u < n) where
+  -- the list with u moved, by the entries that it has: those of xs
+  moved-as : (q : ℕ) → q < n → (place o u ≡ q → ⊥) → (xs : List ℕ) → Permutation n xs
+      → ((i : ℕ) → i < n → at o (movedFrom (place o u) q i) ≡ at xs i) → movedAfter u (at o q) o ≡ xs
+  moved-as q l d xs other e =
+      ext-getD 0 (movedAfter u (at o q) o) xs (moved .size ∙ sym (other .size))
+      (λ i b.
+      moved-entry perm u h (at o q) (at-lt perm q l) apart i
+      ∙ ap (λ (r : ℕ). at o (movedFrom (place o u) r i)) (place-of-at perm q l)
+      ∙ e i (rw (moved .size) at b))
+    where
+      apart : u ≡ at o q → ⊥
+      apart k = d (ap (place o) k ∙ place-of-at perm q l)
+
+      moved : Permutation n (movedAfter u (at o q) o)
+      moved = moved-permutation perm u h (at o q) (at-lt perm q l) apart
+
+  module _ (two : 2 ≤ n) (adj : List ℕ) where
+    abbrev Stays : ℕ → Type 0
+    Stays v = crossings n (movedAfter u v o) adj ≡ crossings n o adj
+
+    -- u stood first: the list is turned by one
+    first-stays : place o u ≡ 0 → Stays (at o (n - 1))
+    first-stays e =
+        ap (λ (xs : List ℕ). crossings n xs adj)
+        (moved-as (n - 1) (omega arith) (λ d. omega arith) (turn 1 o) (turn-permutation perm 1 (omega arith)) entries)
+        ∙ turned-crossings perm 1 (omega arith) adj
+      where
+        entries : (i : ℕ) → i < n → at o (movedFrom (place o u) (n - 1) i) ≡ at (turn 1 o) i
+        entries i b =
+            ap (λ (p : ℕ). at o (movedFrom p (n - 1) i)) e
+            ∙ elim (order i (n - 1)) [
+              | less l ↦
+                  ap (at o) (on-shifted 0 (n - 1) (omega arith) i zero-le l)
+                  ∙ sym (turned-entry perm 1 (omega arith) (suc i) (omega arith))
+                  ∙ ap (at (turn 1 o)) (from-back n 1 (suc i) (omega arith) ∙ omega arith)
+              | same d ↦
+                  ap (λ (j : ℕ). at o (movedFrom 0 (n - 1) j)) d
+                  ∙ ap (at o) (on-put 0 (n - 1) (omega arith))
+                  ∙ sym (turned-entry perm 1 (omega arith) 0 (omega arith))
+                  ∙ ap (at (turn 1 o)) (from-front n 1 0 (omega arith) ∙ omega arith)
+              | more l ↦ absurd (omega arith)
+            ]
+
+    -- u stood behind the vertex at place q: the list stays
+    behind-stays : (q : ℕ) → place o u ≡ suc q → Stays (at o q)
+    behind-stays q e =
+        ap (λ (xs : List ℕ). crossings n xs adj)
+        (moved-as q (omega (arith, place-below perm u h)) (λ d. omega arith) o perm
+        (λ i b. ap (at o) (ap (λ (p : ℕ). movedFrom p q i) e ∙ stays-behind q i)))
+
+    -- behind the last of the others clockwise
+    pub last-stays : crossings n (movedAfter u (at (clockwiseFrom u o) (n - 2)) o) adj ≡ crossings n o adj
+    last-stays = from (place o u) refl
+      where
+        from : (p : ℕ) → place o u ≡ p → Stays (at (clockwiseFrom u o) (n - 2))
+        from zero e =
+            ap (λ (v : ℕ). crossings n (movedAfter u v o) adj) (clockwise-behind perm u h (n - 2) (omega arith) ∙ ap (at o) (omega arith))
+            ∙ first-stays e
+        from (suc q) e =
+            ap (λ (v : ℕ). crossings n (movedAfter u v o) adj)
+            (ap (at (clockwiseFrom u o)) (omega (arith, place-below perm u h)) ∙ clockwise-before perm u h q (omega arith))
+            ∙ behind-stays q e
+
+    -- the last candidate has the crossings of the present order
+    pub last-candidate : (cs : List (List ℕ)) (c : List ℕ) → candidates u o ≡ cs ++ (c ∷ []) → crossings n c adj ≡ crossings n o adj
+    unfolding candidates
+    last-candidate cs c e =
+        ap (λ (xs : List ℕ). crossings n xs adj)
+        (sym (getD-at cs c [] (movedAfter u 0 o) (n - 2) many)
+        ∙ ap (λ (xs : List (List ℕ)). getD xs (n - 2) (movedAfter u 0 o)) (sym e)
+        ∙ List·getD-map (λ v. movedAfter u v o) (clockwiseFrom u o) (n - 2) 0)
+        ∙ last-stays
+      where
+        many : length cs ≡ n - 2
+        many =
+            omega (
+              arith,
+              sym (length-append cs (c ∷ [])) ∙ sym (ap length e) ∙ length-map (clockwiseFrom u o) (λ v. movedAfter u v o),
+              clockwise-length perm u h,
+            )
