@@ -3,12 +3,15 @@ use Prim.Native.Nat.{ℕ, _+_, _*_, _≤_, _<_}
 use native.Mathlib.Nat.{add-zero}
 use native.Mathlib.Omega.{arith}
 use mathlib.Core.Path.{_≡_, refl, sym, ap, _∙_, subst}
-use mathlib.Core.Bool.{Bool, true, false, false≢true}
+use mathlib.Core.Bool.{Bool, true, false, cond, false≢true}
 use mathlib.Core.List.{List, [], _∷_, _++_, map, flatMap}
-use lib.ListN.{length}
+use lib.ListN.{length, length-append}
 use lib.Dec.{T, eqb}
 use borrow.Author.Tests.{eqb-true}
 use Rattle.model.specs.declared.Layout.{Layout}
+use Rattle.model.specs.declared.Added.{Added}
+use Rattle.model.specs.declared.Changed.{Changed}
+use Rattle.model.specs.declared.Appended.{Appended}
 use Rattle.model.specs.declared.Sifted.{Sifted}
 use Rattle.model.specs.declared.Rounded.{Rounded}
 use Rattle.model.specs.declared.Converged.{Converged}
@@ -17,17 +20,26 @@ use Rattle.model.specs.declared.Call.the-variants as call
 use Rattle.model.specs.Lists.{one, upto, All, none, also}
 use Rattle.model.specs.Layouts.{crossingsOf, valid}
 use Rattle.model.specs.Sifting.{sifted, siftOf, siftRound, roundOf, roundsUpTo, settleOf}
-use Rattle.model.specs.Histories.{Sift, Round, Follow, ended, next, siftOn, roundOn, answerOf, butLast, sifting, siftCalled, roundsOfCall, siftsOfRound, roundsFrom, roundsDue, saysConverged, BestPlace, LocalMinimum}
+use Rattle.model.specs.Histories.{Start, empty, read, Step, Sift, Round, Follow, ended, next, outcome, answerOf, accepted, roundsOfStep, siftsOfStep, butLast, sifting, siftCalled, roundsOfCall, siftsOfRound, roundsFrom, roundsDue, saysConverged, BestPlace, LocalMinimum}
 use Rattle.laws.specs.Indicators.{T-true}
-use Rattle.laws.specs.ListSums.{all-mono}
+use Rattle.laws.specs.ListSums.{all-mono, all-append, all-flatMap}
 use Rattle.laws.specs.LocalSearch.{follow-flat}
-use Rattle.laws.specs.SiftingRounds.{ProperSift, ProperRound, proper-sift, proper-round, settling, rounds-follow, rounds-moved, rounds-spent, settled-minimum}
-use Rattle.laws.specs.SiftingCalls.{sift-passed, sift-accepted, round-passed, round-accepted, settle-passed, settle-accepted}
+use Rattle.laws.specs.SiftingRounds.{ProperSift, ProperRound, proper-sift, proper-round, round-size, round-length, settling, rounds-follow, rounds-moved, rounds-spent, settled-minimum}
+use Rattle.laws.specs.SiftingCalls.{sift-passed, sift-accepted, sift-refused, sift-keeps}
+use Rattle.laws.specs.SiftingCalls.{round-passed, round-accepted, round-refused, round-keeps}
+use Rattle.laws.specs.SiftingCalls.{settle-passed, settle-accepted, settle-refused, settle-keeps}
+use Rattle.laws.specs.Moving.{Keeps, move-refused, move-keeps}
+use Rattle.laws.specs.EditCalls.{add-refused, add-keeps, link-refused, link-keeps, unlink-refused, unlink-keeps}
+use Rattle.laws.specs.AppendLaws.{lay-refused, lay-keeps}
+use Rattle.laws.specs.Sizes.{Sized, empty-sized, read-sized, add-sized, link-sized, unlink-sized, move-sized, lay-sized, sift-sized, round-sized, settle-sized}
+use Rattle.laws.specs.ChartLaws.{empty-valid, empty-count, read-valid}
 
 -- what an accepted call gives
 pub record CallFacts (l : Layout) (c : Call) : Type 0 where
   pub sift : All ProperSift (siftCalled l c)
   pub rounds : All ProperRound (roundsOfCall l c)
+  pub reached : Layout
+  pub follow : Follow (λ (r : Round Layout). r .before) (λ r. r .after) l (roundsOfCall l c) reached
   pub number : length (roundsOfCall l c) ≡ roundsDue c (answerOf l c)
   pub moved : All (λ (r : Round Layout). 0 < r .moved) (butLast (roundsOfCall l c))
   pub minimum : T (saysConverged c (answerOf l c)) → LocalMinimum (answerOf l c .layout)
@@ -46,6 +58,8 @@ module _ (l : Layout) (u : ℕ) where
       record {
         sift = also (proper-sift l (p .0) u (p .1)) none;
         rounds = none;
+        reached = l;
+        follow = ended;
         number = refl;
         moved = none;
         minimum = λ f. absurd f;
@@ -64,6 +78,8 @@ module _ (l : Layout) where
       record {
         sift = none;
         rounds = also proper none;
+        reached = siftRound l .layout;
+        follow = next ended;
         number = refl;
         moved = none;
         minimum = λ f. absurd f;
@@ -93,6 +109,8 @@ module _ (l : Layout) (limit : ℕ) where
       record {
         sift = none;
         rounds = s .proper;
+        reached = roundsUpTo limit l .layout;
+        follow = rounds-follow limit l (p .0);
         number = rw same (sym (s .number));
         moved = rounds-moved limit l (p .0);
         minimum = rw same (λ f. settled-minimum limit l (p .0) (one-true (roundsUpTo limit l .converged) f));
@@ -111,6 +129,8 @@ no-sifts l c called run due says sifts =
     record {
       sift = subst (All ProperSift) (sym called) none;
       rounds = subst (All ProperRound) (sym run) none;
+      reached = l;
+      follow = subst (λ (rs : List (Round Layout)). Follow (λ (r : Round Layout). r .before) (λ r. r .after) l rs l) (sym run) ended;
       number = ap length run ∙ sym due;
       moved = subst (λ (rs : List (Round Layout)). All (λ (r : Round Layout). 0 < r .moved) (butLast rs)) (sym run) none;
       minimum = λ f. absurd (subst T says f);
@@ -129,3 +149,90 @@ call-facts l (call.AddEdge a b) e = no-sifts l (call.AddEdge a b) refl refl refl
 call-facts l (call.RemoveEdge a b) e = no-sifts l (call.RemoveEdge a b) refl refl refl refl refl
 call-facts l (call.MoveAfter a b) e = no-sifts l (call.MoveAfter a b) refl refl refl refl refl
 call-facts l (call.GreedyAppend s) e = no-sifts l (call.GreedyAppend s) refl refl refl refl refl
+
+-- ---- the sifts and rounds of a step
+
+abbrev pub stepOn : Layout → Call → Step
+stepOn l c = record { before = l; call = c; answer = answerOf l c }
+
+-- of a refused call there are none
+module _ (l : Layout) (c : Call) where
+  pub step-sifts : All ProperSift (siftsOfStep (stepOn l c))
+  unfolding siftsOfStep roundsOfStep accepted flatMap
+  step-sifts = by-test (eqb (answerOf l c .refusal) 0) refl
+    where
+      by-test : (b : Bool) → eqb (answerOf l c .refusal) 0 ≡ b
+          → All ProperSift (cond b (siftCalled l c) [] ++ flatMap siftsOfRound (cond b (roundsOfCall l c) []))
+      by-test true e =
+          let facts = call-facts l c (eqb-true (answerOf l c .refusal) 0 e) in
+          all-append (facts .sift) (all-flatMap siftsOfRound (facts .rounds) (λ r p. p .sifts))
+      by-test false e = none
+
+  pub step-rounds : All ProperRound (roundsOfStep (stepOn l c))
+  unfolding roundsOfStep accepted
+  step-rounds = by-test (eqb (answerOf l c .refusal) 0) refl
+    where
+      by-test : (b : Bool) → eqb (answerOf l c .refusal) 0 ≡ b → All ProperRound (cond b (roundsOfCall l c) [])
+      by-test true e = call-facts l c (eqb-true (answerOf l c .refusal) 0 e) .rounds
+      by-test false e = none
+
+-- rounds that follow one another have n sifts each
+pub rounds-sifts : {l m : Layout} {rs : List (Round Layout)} → Follow (λ (r : Round Layout). r .before) (λ r. r .after) l rs m → All ProperRound rs
+    → length (flatMap siftsOfRound rs) ≡ length rs * (l .n)
+unfolding flatMap siftsOfRound
+rounds-sifts ended none = omega arith
+rounds-sifts (next {x = r} {xs = rs} q) (also p ps) =
+    length-append (siftsOfRound r) (flatMap siftsOfRound rs)
+    ∙ rw (rounds-sifts q ps, round-size p, round-length p) (omega arith)
+
+-- ---- every call, refused or accepted, keeps what the layouts of a list have
+
+-- a valid layout with all its places and its true count
+pub record Right (l : Layout) : Type 0 where
+  pub is-valid : T (valid l)
+  pub sized : Sized l
+  pub counted : l .count ≡ crossingsOf l
+
+right-kept : {l m : Layout} → Right l → Keeps l m → Sized m → Right m
+right-kept r k s = let v = k (r .is-valid) in record { is-valid = v .0; sized = s; counted = v .1 (r .counted) }
+
+pub call-keeps : (l : Layout) (c : Call) → Right l → Right (answerOf l c .layout)
+unfolding answerOf
+call-keeps l call.AddVertex r = right-kept r (add-keeps l (r .sized)) (add-sized l (r .sized))
+call-keeps l (call.AddEdge a b) r = right-kept r (link-keeps l a b (r .sized)) (link-sized l a b (r .sized))
+call-keeps l (call.RemoveEdge a b) r = right-kept r (unlink-keeps l a b (r .sized)) (unlink-sized l a b (r .sized))
+call-keeps l (call.MoveAfter a b) r = right-kept r (move-keeps l a b) (move-sized l (r .sized) a b)
+call-keeps l (call.GreedyAppend s) r = right-kept r (lay-keeps l s) (lay-sized l (r .sized) s)
+call-keeps l (call.Sift u) r = right-kept r (sift-keeps l u) (sift-sized l (r .sized) u)
+call-keeps l call.SiftingRound r = right-kept r (round-keeps l) (round-sized l (r .sized))
+call-keeps l (call.Converge limit) r = right-kept r (settle-keeps l limit) (settle-sized l (r .sized) limit)
+
+pub start-right : {l : Layout} → Start l → Right l
+start-right empty = record { is-valid = empty-valid; sized = empty-sized; counted = empty-count }
+start-right (read s e) = record { is-valid = read-valid s e .0; sized = read-sized s; counted = read-valid s e .1 }
+
+-- ---- a refused call answers its refusal code and gives the layout back
+
+pub call-refused : (l : Layout) (c : Call) → (answerOf l c .refusal ≡ 0 → ⊥) → answerOf l c ≡ outcome (answerOf l c .refusal) l 0 0 0
+unfolding answerOf one
+call-refused l call.AddVertex d = ap (λ (a : Added). outcome (a .refusal) (a .layout) (a .vertex) 0 0) (add-refused l d)
+call-refused l (call.AddEdge a b) d = ap (λ (c : Changed). outcome (c .refusal) (c .layout) 0 0 0) (link-refused l a b d)
+call-refused l (call.RemoveEdge a b) d = ap (λ (c : Changed). outcome (c .refusal) (c .layout) 0 0 0) (unlink-refused l a b d)
+call-refused l (call.MoveAfter a b) d = ap (λ (c : Changed). outcome (c .refusal) (c .layout) 0 0 0) (move-refused l a b d)
+call-refused l (call.GreedyAppend s) d = ap (λ (a : Appended). outcome (a .refusal) (a .layout) (a .tally) 0 0) (lay-refused l s d)
+call-refused l (call.Sift u) d = ap (λ (s : Sifted). outcome (s .refusal) (s .layout) (s .reduction) 0 0) (sift-refused l u d)
+call-refused l call.SiftingRound d = ap (λ (r : Rounded). outcome (r .refusal) (r .layout) (r .reduction) (r .moved) 0) (round-refused l d)
+call-refused l (call.Converge limit) d =
+    ap (λ (c : Converged). outcome (c .refusal) (c .layout) (c .reduction) (c .rounds) (one (c .converged))) (settle-refused l limit d)
+
+-- so it does not say converged
+pub refused-says-nothing : (r : ℕ) (l : Layout) (c : Call) → saysConverged c (outcome r l 0 0 0) ≡ false
+unfolding saysConverged
+refused-says-nothing r l call.AddVertex = refl
+refused-says-nothing r l (call.AddEdge a b) = refl
+refused-says-nothing r l (call.RemoveEdge a b) = refl
+refused-says-nothing r l (call.MoveAfter a b) = refl
+refused-says-nothing r l (call.GreedyAppend s) = refl
+refused-says-nothing r l (call.Sift u) = refl
+refused-says-nothing r l call.SiftingRound = refl
+refused-says-nothing r l (call.Converge limit) = refl

@@ -5,7 +5,7 @@ use native.Mathlib.Omega.{arith}
 use mathlib.Core.Path.{_≡_, refl, sym, ap, ap₂, _∙_, subst}
 use mathlib.Core.Bool.{Bool, true, false}
 use mathlib.Core.List.{List, [], _∷_, map}
-use lib.ListN.{length}
+use lib.ListN.{length, length-map}
 use lib.Dec.{T, eqb}
 use borrow.Author.Tests.{eqb-true, eqb-false}
 use Rattle.model.specs.declared.Layout.{Layout}
@@ -19,10 +19,10 @@ use Rattle.model.specs.Edits.{movedAfter, moveOf}
 use Rattle.model.specs.Sifting.{clockwiseFrom, candidates, least, leastCrossings, sifted, reduction, moves, siftAll, siftRound, afterRound, stopped, roundsUpTo}
 use Rattle.model.specs.Histories.{Follow, ended, next, Sift, Round, siftOn, roundOn, siftsFrom, siftsOfRound, roundsFrom, butLast, BestPlace, LocalMinimum}
 use Rattle.laws.specs.Indicators.{one-eq}
-use Rattle.laws.specs.ListSums.{All, none, also, all-mono, all-map, all-upto}
+use Rattle.laws.specs.ListSums.{All, none, also, all-mono, all-map, all-upto, length-upto}
 use Rattle.laws.specs.Permutations.{occurrences-cons}
 use Rattle.laws.specs.Validity.{sound}
-use Rattle.laws.specs.LocalSearch.{NoneBelow, Best, Minimum, Sifts, sift-best, Rounds, round-lowers, Settles, spent, last, further, settles-follow, settles-moved, settles-limit, settles-minimum}
+use Rattle.laws.specs.LocalSearch.{NoneBelow, Best, Minimum, Sifts, sift-best, chain-size, Rounds, round-lowers, Settles, spent, last, further, settles-follow, settles-moved, settles-limit, settles-minimum}
 use Rattle.laws.specs.Moving.{move-accepted, move-crossings}
 use Rattle.laws.specs.Sifting.{clockwise-once, clockwise-others, sift-least, sift-moved, Improved, improved-refl, improved-trans, sifted-order, sifted-crossings, sifted-improved, sifted-reduction, sifted-stays, sifted-still, sifted-less}
 
@@ -133,10 +133,11 @@ module _ (l : Layout) (t : T (valid l)) (u : ℕ) (h : u < l .n) where
         still-cost = sifted-still l t u h;
       }
 
-  -- the vertex that was sifted stands best
-  pub sifted-best : BestPlace (sifted l u) u
-  unfolding sifted reordered changed
-  sifted-best = best-place (sifted l u) (sifted-improved l t u h .valid-after) u h (sift-best vertices crossingsOf Valid candidateLayouts proper-sift)
+-- the vertex that was sifted stands at a best place
+pub best-sifted : {x : Sift Layout} → ProperSift x → (x .vertex < x .after .n) × BestPlace (x .after) (x .vertex)
+best-sifted {x} p =
+    let below : x .vertex < x .after .n = rw (p .same-size) (p .vertex-below) in
+    (below, best-place (x .after) (p .valid-after) (x .vertex) below (sift-best vertices crossingsOf Valid candidateLayouts p))
 
 -- ---- the sifts of a round
 
@@ -207,6 +208,18 @@ module _ (l : Layout) (t : T (valid l)) where
         vertices = sifts-vertices (upto (l .n)) l;
         counted = sifts-counted (upto (l .n)) l;
       }
+
+module _ {r : Round Layout} (p : ProperRound r) where
+  -- no round raises the crossings
+  pub round-no-more : crossingsOf (r .after) ≤ crossingsOf (r .before)
+  round-no-more = omega (arith, round-lowers vertices crossingsOf Valid candidateLayouts p)
+
+  -- it keeps the vertices, and sifts as many
+  pub round-size : r .after .n ≡ r .before .n
+  round-size = chain-size vertices crossingsOf Valid candidateLayouts (p .chain) (p .sifts)
+
+  pub round-length : length (siftsOfRound r) ≡ r .before .n
+  round-length = sym (length-map (siftsOfRound r) (λ (x : Sift Layout). x .vertex)) ∙ ap length (p .vertices) ∙ length-upto (r .before .n)
 
 -- ---- rounds until one moves no vertex
 
