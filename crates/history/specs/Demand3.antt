@@ -13,13 +13,15 @@ use Rattle.model.specs.declared.Call.the-variants as call
 use Rattle.model.specs.Lists.{upto, All, none, also}
 use Rattle.model.specs.Layouts.{vertexOrder, crossingsOf, eachOnce, valid}
 use Rattle.model.specs.Histories.{Start, Step, afterStep, steps, played, Follow, ended, next, Sift, Round, outcome, answerOf, accepted}
-use Rattle.model.specs.Histories.{siftCalled, roundsOfCall, siftsOfRound, roundsOfStep, siftsOfStep, roundsIn, siftsIn, sifting, roundsDue, saysConverged}
+use Rattle.model.specs.Histories.{siftCalled, roundsOfCall, siftsOfRound, roundsOfStep, siftsOfStep, roundsIn, siftsIn, sifting, roundsDue}
+use Rattle.model.specs.Histories.{saysConverged}
 use Rattle.model.specs.Histories.{butLast, BestPlace, LocalMinimum}
 use Rattle.laws.specs.Indicators.{T-true}
 use Rattle.laws.specs.ListSums.{all-mono, all-flatMap}
 use Rattle.laws.specs.Validity.{sound, permutation-eachOnce}
 use Rattle.laws.specs.SiftingRounds.{ProperSift, ProperRound, best-sifted, round-no-more}
-use Rattle.history.specs.StepLaws.{Right, start-right, call-keeps, call-refused, CallFacts, call-facts, stepOn, step-sifts, step-rounds, rounds-sifts, refused-says-nothing}
+use Rattle.history.specs.StepLaws.{Right, start-right, call-keeps, call-refused, CallFacts, call-facts, stepOn, step-sifts, step-rounds}
+use Rattle.history.specs.StepLaws.{rounds-sifts, refused-says-nothing}
 
 -- ---- what is said of a step and of a round
 
@@ -154,7 +156,8 @@ unfolding siftsIn roundsIn
 demand-3 {start} s calls =
     let r = start-right s in
     let end = end-right r calls in
-    let rounds : All ProperRound (flatMap roundsOfStep (steps start calls)) = all-flatMap roundsOfStep (all-steps (λ x. All ProperRound (roundsOfStep x)) (λ l c q. step-rounds l c) r calls) (λ x p. p) in
+    let proper : All ProperRound (flatMap roundsOfStep (steps start calls)) =
+    all-flatMap roundsOfStep (all-steps (λ x. All ProperRound (roundsOfStep x)) (λ l c q. step-rounds l c) r calls) (λ x p. p) in
     record {
       called = steps-called start calls;
       defined = all-steps Defined (λ l c q. is-defined l c) r calls;
@@ -166,10 +169,10 @@ demand-3 {start} s calls =
           all-mono
           (all-flatMap siftsOfStep (all-steps (λ x. All ProperSift (siftsOfStep x)) (λ l c q. step-sifts l c) r calls) (λ x p. p))
           (λ x p. best-sifted p);
-      no-round-raised = all-mono rounds (λ x p. round-no-more p);
+      no-round-raised = all-mono proper (λ x p. round-no-more p);
       converged-is-minimum = all-steps (λ x. T (saysConverged (x .call) (x .answer)) → LocalMinimum (afterStep x)) (λ l c q. is-minimum l c) r calls;
       limit-reached = all-steps (λ x. T (accepted x) → (limit : ℕ) → LimitReached x limit) (λ l c q. reaches-limit l c) r calls;
       went-on-after-a-move = all-steps (λ x. All (λ (y : Round Layout). 0 < y .moved) (butLast (roundsOfStep x))) (λ l c q. goes-on l c) r calls;
       complete = all-steps (λ x. T (accepted x) → Complete x) (λ l c q. is-complete l c) r calls;
-      whole-rounds = all-mono rounds (λ x p. record { each-vertex = p .vertices; leads = p .chain });
+      whole-rounds = all-mono proper (λ x p. record { each-vertex = p .vertices; leads = p .chain });
     }

@@ -20,18 +20,22 @@ use Rattle.model.specs.declared.Call.the-variants as call
 use Rattle.model.specs.Lists.{one, upto, All, none, also}
 use Rattle.model.specs.Layouts.{crossingsOf, valid}
 use Rattle.model.specs.Sifting.{sifted, siftOf, siftRound, roundOf, roundsUpTo, settleOf}
-use Rattle.model.specs.Histories.{Start, empty, read, Step, Sift, Round, Follow, ended, next, outcome, answerOf, accepted, roundsOfStep, siftsOfStep, butLast, sifting, siftCalled, roundsOfCall, siftsOfRound, roundsFrom, roundsDue, saysConverged, BestPlace, LocalMinimum}
+use Rattle.model.specs.Histories.{Start, empty, read, Step, Sift, Round, Follow, ended, next, outcome, answerOf, accepted, roundsOfStep, siftsOfStep}
+use Rattle.model.specs.Histories.{butLast, sifting, siftCalled, roundsOfCall, siftsOfRound, roundsFrom, roundsDue, saysConverged, BestPlace}
+use Rattle.model.specs.Histories.{LocalMinimum}
 use Rattle.laws.specs.Indicators.{T-true}
 use Rattle.laws.specs.ListSums.{all-mono, all-append, all-flatMap}
 use Rattle.laws.specs.LocalSearch.{follow-flat}
-use Rattle.laws.specs.SiftingRounds.{ProperSift, ProperRound, proper-sift, proper-round, round-size, round-length, settling, rounds-follow, rounds-moved, rounds-spent, settled-minimum}
+use Rattle.laws.specs.SiftingRounds.{ProperSift, ProperRound, proper-sift, proper-round, round-size, round-length, settling, rounds-follow}
+use Rattle.laws.specs.SiftingRounds.{rounds-moved, rounds-spent, settled-minimum}
 use Rattle.laws.specs.SiftingCalls.{sift-passed, sift-accepted, sift-refused, sift-keeps}
 use Rattle.laws.specs.SiftingCalls.{round-passed, round-accepted, round-refused, round-keeps}
 use Rattle.laws.specs.SiftingCalls.{settle-passed, settle-accepted, settle-refused, settle-keeps}
 use Rattle.laws.specs.Moving.{Keeps, move-refused, move-keeps}
 use Rattle.laws.specs.EditCalls.{add-refused, add-keeps, link-refused, link-keeps, unlink-refused, unlink-keeps}
 use Rattle.laws.specs.AppendLaws.{lay-refused, lay-keeps}
-use Rattle.laws.specs.Sizes.{Sized, empty-sized, read-sized, add-sized, link-sized, unlink-sized, move-sized, lay-sized, sift-sized, round-sized, settle-sized}
+use Rattle.laws.specs.Sizes.{Sized, empty-sized, read-sized, add-sized, link-sized, unlink-sized, move-sized, lay-sized, sift-sized, round-sized}
+use Rattle.laws.specs.Sizes.{settle-sized}
 use Rattle.laws.specs.ChartLaws.{empty-valid, empty-count, read-valid}
 
 -- what an accepted call gives
@@ -84,7 +88,9 @@ module _ (l : Layout) where
         moved = none;
         minimum = λ f. absurd f;
         spent = λ limit d. let z : _≡_ {A = ℕ} 0 1 = cc in absurd (omega arith);
-        lead = λ f. rw (round-accepted l t) (follow-flat {from = λ (r : Round Layout). r .before} {to = λ r. r .after} siftsOfRound (next ended) (also (proper .chain) none));
+        lead = λ f.
+            rw (round-accepted l t)
+            (follow-flat {from = λ (r : Round Layout). r .before} {to = λ r. r .after} siftsOfRound (next ended) (also (proper .chain) none));
       }
 
 -- ---- settle

@@ -20,7 +20,9 @@ use Rattle.laws.specs.ListSums.{All, all-mono, all-map, all-places}
 use Rattle.laws.specs.Permutations.{at, occurrences-append, Permutation, place-below, occurs-at, none-beyond}
 use Rattle.laws.specs.Validity.{sound}
 use Rattle.laws.specs.LocalSearch.{least-default, chosen-stays, chosen-goes, chosen-has, chosen-least}
-use Rattle.laws.specs.Moving.{at-right, rest-occurrences, moved-permutation, moved-again, reordered-order, reordered-crossings, reordered-length, reordered-valid, carried-right, carried-carried, carried-lt, carried-same, crossings-fit, CountRight}
+use Rattle.laws.specs.Moving.{at-right, rest-occurrences, moved-permutation, moved-again, reordered-order, reordered-crossings}
+use Rattle.laws.specs.Moving.{reordered-length, reordered-valid, carried-right, carried-carried, carried-lt, carried-same, crossings-fit}
+use Rattle.laws.specs.Moving.{CountRight}
 
 -- a property of whatever occurs is one of each entry
 all-occurring : {P : ℕ → Type 0} (xs : List ℕ) → ((v : ℕ) → 0 < occurrences v xs → P v) → All P xs

@@ -12,7 +12,8 @@ use Rattle.model.specs.declared.Converged.{Converged}
 use Rattle.model.specs.Lists.{upto}
 use Rattle.model.specs.Layouts.{valid}
 use Rattle.model.specs.Checks.{refusal, isValid, isVertex, limitFits}
-use Rattle.model.specs.Sifting.{sifted, siftChecks, siftAnswer, siftRefused, siftOf, siftAll, siftRound, roundRefused, roundOf, roundsUpTo, settleChecks, settleRefused, settleOf}
+use Rattle.model.specs.Sifting.{sifted, siftChecks, siftAnswer, siftRefused, siftOf, siftAll, siftRound, roundRefused, roundOf, roundsUpTo}
+use Rattle.model.specs.Sifting.{settleChecks, settleRefused, settleOf}
 use Rattle.laws.specs.Indicators.{and-intro, both-left, both-right}
 use Rattle.laws.specs.ListSums.{none, also}
 use Rattle.laws.specs.Refusals.{passed, valid-passed, vertex-passed, all-passed, when-accepted, when-refused, checked-number, checked-either}

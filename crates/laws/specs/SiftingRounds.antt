@@ -16,15 +16,19 @@ use Rattle.model.specs.Lists.{one, upto, sumOver, occurrences}
 use Rattle.model.specs.Crossings.{crossings}
 use Rattle.model.specs.Layouts.{vertexOrder, crossingsOf, valid, changed, reordered}
 use Rattle.model.specs.Edits.{movedAfter, moveOf}
-use Rattle.model.specs.Sifting.{clockwiseFrom, candidates, least, leastCrossings, sifted, reduction, moves, siftAll, siftRound, afterRound, stopped, roundsUpTo}
-use Rattle.model.specs.Histories.{Follow, ended, next, Sift, Round, siftOn, roundOn, siftsFrom, siftsOfRound, roundsFrom, butLast, BestPlace, LocalMinimum}
+use Rattle.model.specs.Sifting.{clockwiseFrom, candidates, least, leastCrossings, sifted, reduction, moves, siftAll, siftRound, afterRound, stopped}
+use Rattle.model.specs.Sifting.{roundsUpTo}
+use Rattle.model.specs.Histories.{Follow, ended, next, Sift, Round, siftOn, roundOn, siftsFrom, siftsOfRound, roundsFrom, butLast, BestPlace}
+use Rattle.model.specs.Histories.{LocalMinimum}
 use Rattle.laws.specs.Indicators.{one-eq}
 use Rattle.laws.specs.ListSums.{All, none, also, all-mono, all-map, all-upto, length-upto}
 use Rattle.laws.specs.Permutations.{occurrences-cons}
 use Rattle.laws.specs.Validity.{sound}
-use Rattle.laws.specs.LocalSearch.{NoneBelow, Best, Minimum, Sifts, sift-best, chain-size, Rounds, round-lowers, Settles, spent, last, further, settles-follow, settles-moved, settles-limit, settles-minimum}
+use Rattle.laws.specs.LocalSearch.{NoneBelow, Best, Minimum, Sifts, sift-best, chain-size, Rounds, round-lowers, Settles, spent, last, further}
+use Rattle.laws.specs.LocalSearch.{settles-follow, settles-moved, settles-limit, settles-minimum}
 use Rattle.laws.specs.Moving.{move-accepted, move-crossings}
-use Rattle.laws.specs.Sifting.{clockwise-once, clockwise-others, sift-least, sift-moved, Improved, improved-refl, improved-trans, sifted-order, sifted-crossings, sifted-improved, sifted-reduction, sifted-stays, sifted-still, sifted-less}
+use Rattle.laws.specs.Sifting.{clockwise-once, clockwise-others, sift-least, sift-moved, Improved, improved-refl, improved-trans, sifted-order}
+use Rattle.laws.specs.Sifting.{sifted-crossings, sifted-improved, sifted-reduction, sifted-stays, sifted-still, sifted-less}
 
 -- ---- the candidates of a vertex, as layouts
 
