@@ -7,7 +7,7 @@ use lib.Dec.{T}
 use Rattle.model.specs.declared.Converged.{Converged}
 use Rattle.model.specs.Checks.{refusal, isValid, limitFits}
 use Rattle.model.specs.Layouts.{valid}
-use Rattle.model.specs.Sifting.{settleChecks, settleOf, roundsUpTo}
+use Rattle.model.specs.Sifting.{settleChecks, settleRefused, settleOf, roundsUpTo}
 use Rattle.laws.specs.Refusals.{passed, when-accepted, when-refused}
 use Rattle.sifting.proofs.convergence.converge.Statement.{statement}
 use Rattle.sifting.proofs.convergence.converge.Tie as tie
@@ -26,7 +26,7 @@ returns c =
     let limit = c .before .before .args .limit in
     sym
     (when-refused (settleChecks l limit) (roundsUpTo limit l)
-    (λ r. record { refusal = r; layout = l; reduction = 0; rounds = 0; converged = false }) (c .before .limit-refusal .ensures) (c .if1 .taken))
+    (settleRefused l) (c .before .limit-refusal .ensures) (c .if1 .taken))
 
 run-rounds-requires : tie.Need-run-rounds-requires
 unfolding settleChecks isValid
@@ -39,7 +39,7 @@ returns-2 c =
     let limit = c .before .before .before .args .limit in
     c .run-rounds .ensures
     ∙ sym (when-accepted (settleChecks l limit) (roundsUpTo limit l)
-    (λ r. record { refusal = r; layout = l; reduction = 0; rounds = 0; converged = false }) (accepted (c .before)))
+    (settleRefused l) (accepted (c .before)))
 
 pub converge-spec : {M : Type 1} → statement M
 converge-spec = tie.close (tie.spec limit-refusal-requires returns run-rounds-requires returns-2)

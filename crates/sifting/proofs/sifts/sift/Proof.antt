@@ -5,7 +5,7 @@ use Prim.Native.Nat.{_<_}
 use lib.Dec.{T}
 use Rattle.model.specs.declared.Sifted.{Sifted}
 use Rattle.model.specs.Layouts.{valid}
-use Rattle.model.specs.Sifting.{sifted, reduction, siftOf, siftChecks}
+use Rattle.model.specs.Sifting.{siftChecks, siftAnswer, siftRefused, siftOf}
 use Rattle.laws.specs.Refusals.{when-refused, vertex-passed}
 use Rattle.laws.specs.SiftingCalls.{sift-accepted}
 use Rattle.sifting.proofs.sifts.sift.Statement.{statement}
@@ -24,8 +24,7 @@ returns c =
     let l = c .before .before .args .l in
     let u = c .before .before .args .u in
     sym
-    (when-refused (siftChecks l u) (record { refusal = 0; layout = sifted l u; reduction = reduction l (sifted l u) })
-    (λ r. record { refusal = r; layout = l; reduction = 0 }) (c .before .vertex-refusal .ensures) (c .if1 .taken))
+    (when-refused (siftChecks l u) (siftAnswer l u) (siftRefused l) (c .before .vertex-refusal .ensures) (c .if1 .taken))
 
 sift-vertex-requires : tie.Need-sift-vertex-requires
 sift-vertex-requires c κs = checks c
