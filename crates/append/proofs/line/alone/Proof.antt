@@ -1,0 +1,19 @@
+use borrow.Author.Needs.{needs}
+use native.Mathlib.Omega.{arith}
+use mathlib.Core.Path.{refl}
+use Rattle.append.specs.Lines.{entries, Centred}
+use Rattle.append.proofs.line.alone.Statement.{statement}
+use Rattle.append.proofs.line.alone.Tie as tie
+
+cast-places : tie.Need-cast-places
+cast-places c = search needs
+
+array-write-places : tie.Need-array-write-places
+array-write-places c = search needs
+
+returns : tie.Need-returns
+unfolding entries
+returns c = (record { room = refl; left = omega arith; right = omega arith; few = omega arith }, refl)
+
+pub alone-spec : {M : Type 1} → statement M
+alone-spec = tie.close (tie.spec cast-places array-write-places returns)

@@ -1,0 +1,7 @@
+// Greedy append (document 01: lay). One file for each subject.
+mod appending;
+mod choice;
+mod ends;
+mod line;
+
+pub use appending::greedy_append;
