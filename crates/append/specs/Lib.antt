@@ -3,3 +3,5 @@ pub mod Lines
 pub mod Masks
 pub mod Ends
 pub mod Choices
+pub mod Steps
+pub mod Calls

@@ -3,5 +3,6 @@ mod appending;
 mod choice;
 mod ends;
 mod line;
+mod steps;
 
 pub use appending::greedy_append;

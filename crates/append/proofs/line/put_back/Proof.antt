@@ -1,5 +1,6 @@
 use borrow.Author.Needs.{needs}
-use Rattle.append.specs.Lines.{atBack, back-centred, back-entries}
+use mathlib.Core.Path.{refl}
+use Rattle.append.specs.Lines.{atBack}
 use Rattle.append.proofs.line.put_back.Statement.{statement}
 use Rattle.append.proofs.line.put_back.Tie as tie
 
@@ -17,9 +18,7 @@ add-t9 c = search needs
 
 returns : tie.Need-returns
 unfolding atBack
-returns c =
-    let start = c .before .before .before in
-    (back-centred (start .pre .0) (start .pre .1) (start .args .v), back-entries (start .pre .0) (start .pre .1) (start .args .v))
+returns c = refl
 
 pub put-back-spec : {M : Type 1} → statement M
 put-back-spec = tie.close (tie.spec add-end cast-places array-write-places add-t9 returns)

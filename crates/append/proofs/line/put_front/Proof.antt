@@ -1,5 +1,6 @@
 use borrow.Author.Needs.{needs}
-use Rattle.append.specs.Lines.{atFront, front-centred, front-entries}
+use mathlib.Core.Path.{refl}
+use Rattle.append.specs.Lines.{atFront}
 use Rattle.append.proofs.line.put_front.Statement.{statement}
 use Rattle.append.proofs.line.put_front.Tie as tie
 
@@ -17,9 +18,7 @@ add-t9 c = search needs
 
 returns : tie.Need-returns
 unfolding atFront
-returns c =
-    let start = c .before .before .before in
-    (front-centred (start .pre .0) (start .pre .1) (start .args .v), front-entries (start .pre .0) (start .pre .1) (start .args .v))
+returns c = refl
 
 pub put-front-spec : {M : Type 1} → statement M
 put-front-spec = tie.close (tie.spec sub-first cast-places array-write-places add-t9 returns)
