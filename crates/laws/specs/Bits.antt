@@ -4,8 +4,8 @@ use native.Mathlib.Nat.{zero-mul, one-mul, pow-suc, pow-succ', div-one, mod-lt, 
 use native.Mathlib.Omega.{arith}
 use mathlib.Core.Path.{_≡_, refl, sym, ap, ap₂, _∙_, subst}
 use lib.Arith.{lt-one, digits-div, digits-mod}
-use lib.Pow.{pow-mono, shr-lt, shl-exact}
-use lib.Bits.{bitAnd, bitOr, and-shr, and-mod, and-high, and-le-l, or-add-and}
+use lib.Pow.{pow-mono, pow-lt, shr-lt, shl-exact}
+use lib.Bits.{bitAnd, bitOr, and-shr, and-mod, and-high, and-le-l, or-add-and, or-lt}
 use lib.Count.{ones, ones-step}
 use lib.Dec.{lit<, ltb}
 use mathlib.Core.Bool.{Bool, cond}
@@ -164,6 +164,14 @@ or-power w i = omega (arith, or-add-and w (2 ^ i), and-power w i, bit-le w i)
 pub sub-power : (w i : ℕ) → w - bitAnd w (2 ^ i) ≡ withoutBit w i
 unfolding withoutBit
 sub-power w i = ap (λ (x : ℕ). w - x) (and-power w i)
+
+-- a word of k bits stays one
+pub set-lt : (k w i : ℕ) → w < 2 ^ k → i < k → withBit w i < 2 ^ k
+set-lt k w i h l = rw (← (or-power w i)) (or-lt k w (2 ^ i) h (pow-lt l))
+
+pub clear-lt : (k w i : ℕ) → w < 2 ^ k → i < k → withoutBit w i < 2 ^ k
+unfolding withoutBit
+clear-lt k w i h l = omega arith
 
 -- a one shifted to a place of a 64-bit word
 pub shifted-one : (i : ℕ) → i < 64 → (1 * 2 ^ i) % 2 ^ 64 ≡ 2 ^ i

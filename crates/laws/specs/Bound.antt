@@ -38,7 +38,10 @@ unfoldable pub quadruples : ℕ → ℕ
 quadruples n = pairSum n (λ j k. j * (n - suc k))
 
 -- "Most possible: 635,376, for 64 devices with all links."
-pub quadruples-most : quadruples 64 ≡ 635376
+abbrev pub mostCrossings : ℕ
+mostCrossings = 635376
+
+pub quadruples-most : quadruples 64 ≡ mostCrossings
 unfolding quadruples pairSum sum one
 quadruples-most = refl
 
@@ -74,14 +77,14 @@ crossingSum-mono n v w h =
     (sum-mono n (λ i. one (ltb i j) * v i k) (λ i. one (ltb i j) * w i k) (λ i a. guarded i j (v i k) (w i k) (λ l. h i k (omega arith) kn)))
     (sum-mono n (λ l. one (ltb k l) * v j l) (λ l. one (ltb k l) * w j l) (λ l b. guarded k l (v j l) (w j l) (λ m. h j l (omega arith) b)))))
 
--- "Most possible: 635,376": with weights of at most c, c times c times as many
-pub crossingSum-bound : (n c : ℕ) (w : ℕ → ℕ → ℕ) → n ≤ 64 → ((i j : ℕ) → i < j → j < n → w i j ≤ c) → crossingSum n w ≤ c * c * 635376
+-- with weights of at most c, at most c times c times as many
+pub crossingSum-bound : (n c : ℕ) (w : ℕ → ℕ → ℕ) → n ≤ 64 → ((i j : ℕ) → i < j → j < n → w i j ≤ c) → crossingSum n w ≤ c * c * mostCrossings
 crossingSum-bound n c w h le =
     le-trans (crossingSum-mono n w (λ i j. c) le)
     (rw (complete-sum n c, ← quadruples-most) (mul-le-mul-left (c * c) (quadruples-mono n 64 h)))
 
 -- and 64 vertices that are all joined reach it
-pub crossingSum-complete : (c : ℕ) (w : ℕ → ℕ → ℕ) → ((i j : ℕ) → i < j → j < 64 → w i j ≡ c) → crossingSum 64 w ≡ c * c * 635376
+pub crossingSum-complete : (c : ℕ) (w : ℕ → ℕ → ℕ) → ((i j : ℕ) → i < j → j < 64 → w i j ≡ c) → crossingSum 64 w ≡ c * c * mostCrossings
 crossingSum-complete c w h =
     le-antisymm (crossingSum-mono 64 w (λ i j. c) (λ i j l b. le-of-eq (h i j l b))) (crossingSum-mono 64 (λ i j. c) w (λ i j l b. le-of-eq (sym (h i j l b))))
     ∙ complete-sum 64 c

@@ -1,20 +1,22 @@
 -- What reading a chart gives: a valid layout with its true crossings, whatever the sequence in which the edges are written.
 use Prim.Native.Nat.{ℕ}
+use native.Mathlib.Decide.{ℕ-discrete}
 use mathlib.Core.Path.{_≡_, refl, sym, ap, ap₂, _∙_, subst}
 use mathlib.Core.Bool.{Bool, true, _&&_, _||_}
-use mathlib.Core.List.{List, [], _∷_}
+use mathlib.Core.List.{List, [], _∷_, flatMap}
 use lib.ListN.{length}
 use lib.Dec.{T, eqb, leb, lit<}
 use borrow.Author.Tests.{leb-true, eqb-true}
 use Rattle.model.specs.declared.Edge.{Edge}
 use Rattle.model.specs.declared.ChartRead.{ChartRead}
 use Rattle.model.specs.declared.Layout.{Layout}
-use Rattle.model.specs.Lists.{one, any}
-use Rattle.model.specs.Layouts.{eachOnce, crossingsOf, valid}
+use Rattle.model.specs.Lists.{one, upto, every, any, keep, sumPairs}
+use Rattle.model.specs.Crossings.{edges, crossings}
+use Rattle.model.specs.Layouts.{emptyLayout, vertexOrder, crossingsOf, eachOnce, zeroFrom, symmetric, loopless, bitsBelow, valid}
 use Rattle.model.specs.Checks.{refusal}
 use Rattle.model.specs.Charts.{bodyOf, chartSize, chartEdges, chartOrder, sameEdge, joins, chartChecks, sizeChecks, endChecks, repeatChecks, placeChecks, chartLayout, readOf}
 use Rattle.laws.specs.ListSums.{All, none, also}
-use Rattle.laws.specs.Refusals.{Numbered, all-pass, when-accepted, checked-number}
+use Rattle.laws.specs.Refusals.{Numbered, all-pass, when-accepted, when-refused, checked-number}
 use Rattle.laws.specs.Indicators.{both-left, both-right, eqb-swap}
 use Rattle.laws.specs.ChartEdges.{edge}
 use Rattle.laws.specs.ChartWords.{adjacencyOf, adjacency-length, adjacency-bit, adjacency-lt, adjacency-ext}
@@ -22,15 +24,16 @@ use Rattle.laws.specs.ChartReading.{layoutFrom, Accepted, valid-read, co
 
 -- ---- an accepted chart
 
--- no question has a number to give
-accepted-checks : (s : List ℕ) → readOf s .refusal ≡ 0 → refusal (chartChecks s) ≡ 0
-unfolding readOf refusedRead
-accepted-checks s e =
-    sym (checked-number (chartChecks s) (record { refusal = 0; layout = chartLayout s }) refusedRead (λ (r : ChartRead). r .refusal) refl (λ r. refl)) ∙ e
+abbrev pub readAnswer : List ℕ → ChartRead
+readAnswer s = record { refusal = 0; layout = chartLayout s }
 
-read-is : (s : List ℕ) → readOf s .refusal ≡ 0 → readOf s ≡ record { refusal = 0; layout = chartLayout s }
+read-number : (s : List ℕ) → readOf s .refusal ≡ refusal (chartChecks s)
 unfolding readOf refusedRead
-read-is s e = when-accepted (chartChecks s) (record { refusal = 0; layout = chartLayout s }) refusedRead (accepted-checks s e)
+read-number s = checked-number (chartChecks s) (readAnswer s) refusedRead (λ (r : ChartRead). r .refusal) refl (λ r. refl)
+
+read-is : (s : List ℕ) → readOf s .refusal ≡ 0 → readOf s ≡ readAnswer s
+unfolding readOf refusedRead
+read-is s e = when-accepted (chartChecks s) (readAnswer s) refusedRead (sym (read-number s) ∙ e)
 
 numbered : (s : List ℕ) → Numbered (chartChecks s)
 unfolding chartChecks sizeChecks endChecks repeatChecks placeChecks
@@ -38,7 +41,7 @@ numbered s = also (lit< tt) (also (lit< tt) (also (lit< tt) (also (lit< tt) (als
 
 pub accepted : (s : List ℕ) → readOf s .refusal ≡ 0 → Accepted (chartSize s) (bodyOf s 1) (bodyOf s 2)
 unfolding chartChecks sizeChecks endChecks repeatChecks placeChecks chartEdges chartOrder chartSize
-accepted s e = from (all-pass (numbered s) (accepted-checks s e))
+accepted s e = from (all-pass (numbered s) (sym (read-number s) ∙ e))
   where
     from : All (λ c. c .passes ≡ true) (chartChecks s) → Accepted (chartSize s) (bodyOf s 1) (bodyOf s 2)
     from (also _ (also _ (also _ (also size (also _ (also ends (also _ (also places none)))))))) =
@@ -58,6 +61,30 @@ pub read-valid : (s : List ℕ) → readOf s .refusal ≡ 0 → T (valid (readOf
 read-valid s e =
     subst (λ (l : Layout). T (valid l) × (l .count ≡ crossingsOf l)) (sym (ap (λ (r : ChartRead). r .layout) (read-is s e) ∙ layout-is s))
     (valid-read (accepted s e), count-true (accepted s e))
+
+-- ---- a refused chart gives the empty layout, which is valid with its true crossings too
+
+pub empty-valid : T (valid emptyLayout)
+unfolding valid emptyLayout vertexOrder eachOnce zeroFrom symmetric loopless bitsBelow every keep upto
+empty-valid = tt
+
+pub empty-count : emptyLayout .count ≡ crossingsOf emptyLayout
+unfolding emptyLayout crossingsOf vertexOrder crossings edges sumPairs upto flatMap
+empty-count = refl
+
+pub read-refused : (s : List ℕ) → (readOf s .refusal ≡ 0 → ⊥) → readOf s ≡ refusedRead (readOf s .refusal)
+unfolding readOf refusedRead
+read-refused s d = when-refused (chartChecks s) (readAnswer s) refusedRead (read-number s) d
+
+-- so reading gives such a layout in any case
+pub read-right : (s : List ℕ) → T (valid (readOf s .layout)) × (readOf s .layout .count ≡ crossingsOf (readOf s .layout))
+unfolding refusedRead
+read-right s =
+    elim (ℕ-discrete (readOf s .refusal) 0) [
+      | yes e ↦ read-valid s e
+      | no d ↦
+          subst (λ (r : ChartRead). T (valid (r .layout)) × (r .layout .count ≡ crossingsOf (r .layout))) (sym (read-refused s d)) (empty-valid, empty-count)
+    ]
 
 -- ---- the same edges, in another sequence or with ends exchanged
 
@@ -84,4 +111,6 @@ same-layouts s t sizes orders words = rw (sizes, orders, words)
 pub same-charts : (s t : List ℕ) → readOf s .refusal ≡ 0 → readOf t .refusal ≡ 0 → chartSize s ≡ chartSize t → chartOrder s ≡ chartOrder t
     → ((e : Edge) → any (sameEdge e) (chartEdges s) ≡ any (sameEdge e) (chartEdges t)) → readOf s ≡ readOf t
 same-charts s t p q sizes orders edges =
-    read-is s p ∙ ap (λ (l : Layout). record { refusal = 0; layout = l }) (same-layouts s t sizes orders (same-words (chartEdges s) (chartEdges t) edges)) ∙ sym (read-is t q)
+    read-is s p
+    ∙ ap (λ (l : Layout). record { refusal = 0; layout = l }) (same-layouts s t sizes orders (same-words (chartEdges s) (chartEdges t) edges))
+    ∙ sym (read-is t q)

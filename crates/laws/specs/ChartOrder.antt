@@ -22,13 +22,13 @@ use Rattle.model.specs.Charts.{asked, answer, placeChecks}
 use Rattle.laws.specs.Indicators.{less, same, more, order, one-le, one-true}
 use Rattle.laws.specs.Sums.{sum, sum-const, sum-mono}
 use Rattle.laws.specs.Permutations.{at, Permutation, member-occurs, occurrences-total, none-beyond}
-use Rattle.laws.specs.Bits.{set-same, set-other, bit-beyond}
+use Rattle.laws.specs.Bits.{set-same, set-other, bit-beyond, set-lt}
 use Rattle.laws.specs.MaskCount.{bit-full}
 use Rattle.laws.specs.Validity.{each-once}
 use Rattle.laws.specs.ListSums.{all-mono, all-upto}
 use Rattle.laws.specs.Every.{every-all}
 use Rattle.laws.specs.ChartLists.{any-new, any-old}
-use Rattle.laws.specs.ChartWords.{wordOf, wordOf-lt, wordOf-bit, wordOf-ext, set-lt}
+use Rattle.laws.specs.ChartWords.{wordOf, wordOf-lt, wordOf-bit, wordOf-ext}
 
 -- ---- the entries as bits of a word
 

@@ -1,33 +1,32 @@
 -- Reading a chart: the passes together, and what an accepted chart gives.
-use Prim.Native.Nat.{ℕ, zero, suc, _^_, _≤_, _<_}
+use Prim.Native.Nat.{ℕ, zero, suc, _≤_, _<_}
 use native.Mathlib.Nat.{le-of-eq, lt-of-lt-of-le, not-suc-le-zero}
 use native.Mathlib.Omega.{arith}
 use mathlib.Core.Path.{_≡_, refl, sym, ap, _∙_}
-use mathlib.Core.Bool.{Bool, true, false, Bool·beq, not, cond, true≢false, false≢true}
+use mathlib.Core.Bool.{Bool, true, false, cond, true≢false, false≢true}
 use mathlib.Core.List.{List, [], _∷_, _++_}
 use lib.ListN.{length, getD, take, drop, List·getD-eq-default}
 use lib.Seq.{ext-getD, getD-take, length-take-le}
 use lib.Dec.{T, eqb, leb, lit<}
 use lib.Arith.{lt-one}
-use borrow.Author.Tests.{le-leb, leb-true, lt-ltb, eqb-true}
+use borrow.Author.Tests.{leb-true, eqb-true}
 use Rattle.model.specs.declared.ChartRead.{ChartRead}
 use Rattle.model.specs.declared.Layout.{Layout}
-use Rattle.model.specs.Lists.{every, any}
+use Rattle.model.specs.Lists.{one, every, any}
 use Rattle.model.specs.Crossings.{linked, crossings}
-use Rattle.model.specs.Layouts.{emptyLayout, vertexOrder, crossingsOf, eachOnce, zeroFrom, symmetric, loopless, bitsBelow, valid}
+use Rattle.model.specs.Layouts.{emptyLayout, vertexOrder, crossingsOf, eachOnce, valid}
 use Rattle.model.specs.Checks.{Check, refusal, byRefusal, checked}
 use Rattle.model.specs.Charts.{bodyOf, chartSize, chartEdges, chartOrder, edgesIn, edgeWithin, joins, chartChecks, chartLayout, readOf}
 use Rattle.model.specs.Charts.{Answer, accept, refuse, answer, divisionAnswer, bodiesAnswer, sizeChecks, sizeAnswer, endChecks, repeatChecks, placeChecks}
-use Rattle.laws.specs.ListSums.{All, none, also, all-mono, all-upto}
+use Rattle.laws.specs.ListSums.{All, none, also}
 use Rattle.laws.specs.Permutations.{Permutation}
 use Rattle.laws.specs.Pairs.{Symmetric}
 use Rattle.laws.specs.EdgeCounts.{weight}
 use Rattle.laws.specs.MaskCount.{countOn}
-use Rattle.laws.specs.Validity.{each-once, symmetric-weight, zero-from}
-use Rattle.laws.specs.Indicators.{T-true, beq-self, both-left, both-right}
+use Rattle.laws.specs.Validity.{each-once, sound-valid}
+use Rattle.laws.specs.Indicators.{both-left, both-right}
 use Rattle.laws.specs.Recount.{counted, counted-crossings}
 use Rattle.laws.specs.Refusals.{Numbered, all-pass}
-use Rattle.laws.specs.Every.{every-all}
 use Rattle.laws.specs.ChartEdges.{Ends, joins-none, joins-swap}
 use Rattle.laws.specs.ChartWords.{wordOf-below, adjacencyOf, adjacency-at, adjacency-linked}
 use Rattle.laws.specs.ChartOrder.{padded, padded-length, padded-at}
@@ -94,28 +93,13 @@ module _ {n : ℕ} {links o : List ℕ} (a : Accepted n links o) where
   unfolding adj
   linked-joins u v h l = adjacency-linked (edgesIn links) u v (lt-of-lt-of-le h (a .few)) (lt-of-lt-of-le l (a .few))
 
-  is-symmetric : symmetric n adj ≡ true
-  unfolding symmetric
-  is-symmetric =
-      every-all
-      (all-mono (all-upto n)
-      (λ u h. every-all (all-mono (all-upto n) (λ v l. same-test (linked adj u v) (linked adj v u) (both u v h l)))))
-    where
-      both : (u v : ℕ) → u < n → v < n → linked adj u v ≡ linked adj v u
-      both u v h l = linked-joins u v h l ∙ joins-swap u v (edgesIn links) ∙ sym (linked-joins v u l h)
-
-      same-test : (x y : Bool) → x ≡ y → Bool·beq x y ≡ true
-      same-test x y e = ap (Bool·beq x) (sym e) ∙ T-true (Bool·beq x x) (beq-self x)
-
-  is-loopless : loopless n adj ≡ true
-  unfolding loopless
-  is-loopless =
-      every-all
-      (all-mono (all-upto n)
-      (λ v h. ap not (linked-joins v v h h ∙ none-outside v v (λ e. e .differ refl))))
-
   symmetry : Symmetric n (weight adj)
-  symmetry = symmetric-weight n adj (rw is-symmetric tt) (rw is-loopless tt)
+  unfolding one
+  symmetry =
+      record {
+        swap = λ u v h l. ap one (linked-joins u v h l ∙ joins-swap u v (edgesIn links) ∙ sym (linked-joins v u l h));
+        diagonal = λ v h. ap one (linked-joins v v h h ∙ none-outside v v (λ e. e .differ refl));
+      }
 
   -- the first n places of the array
   front : take n (padded o) ≡ o
@@ -139,34 +123,26 @@ module _ {n : ℕ} {links o : List ℕ} (a : Accepted n links o) where
   unfolding layoutFrom crossingsOf vertexOrder
   count-true = ap (λ (x : List ℕ). crossings n x (adjacencyOf (edgesIn links))) (sym front)
 
-  -- ---- the layout is valid
-
-  bits-below : bitsBelow n adj ≡ true
-  unfolding bitsBelow adj
-  bits-below =
-      every-all
-      (all-mono (all-upto 64)
-      (λ u h.
-      lt-ltb (getD adj u 0) (2 ^ n)
-      (rw (adjacency-at (edgesIn links) u h)
-      (wordOf-below (λ v. any (joins u v) (edgesIn links)) n 64 (a .few) (λ v l. none-outside u v (λ e. omega (arith, e .second)))))))
-
-  zero-words : zeroFrom n adj ≡ true
-  unfolding adj
-  zero-words =
-      T-true (zeroFrom n adj)
-      (zero-from n adj
-      (λ u l h.
-      adjacency-at (edgesIn links) u h
-      ∙ lt-one (wordOf-below (λ v. any (joins u v) (edgesIn links)) 0 64 (omega arith) (λ v b. none-outside u v (λ e. omega (arith, e .first))))))
-
-  zero-places : zeroFrom n (padded o) ≡ true
-  zero-places =
-      T-true (zeroFrom n (padded o)) (zero-from n (padded o) (λ i l h. padded-at o i h ∙ List·getD-eq-default o 0 (omega (arith, a .long))))
-
+  -- the layout is valid
   pub valid-read : T (valid (layoutFrom n links o))
-  unfolding valid layoutFrom vertexOrder adj
-  valid-read = rw (le-leb n 64 (a .few), front, a .each, zero-places, is-symmetric, is-loopless, bits-below, zero-words) tt
+  unfolding layoutFrom vertexOrder adj
+  valid-read =
+      sound-valid (layoutFrom n links o)
+      (record {
+        small = a .few;
+        permutation = rw front permutation;
+        places = λ i l h. padded-at o i h ∙ List·getD-eq-default o 0 (omega (arith, a .long));
+        symmetry = symmetry;
+        bits = λ u h.
+            rw (adjacency-at (edgesIn links) u h)
+            (wordOf-below (joined u) n 64 (a .few) (λ v l. none-outside u v (λ e. omega (arith, e .second))));
+        unused = λ u l h.
+            adjacency-at (edgesIn links) u h
+            ∙ lt-one (wordOf-below (joined u) 0 64 (omega arith) (λ v b. none-outside u v (λ e. omega (arith, e .first))));
+      })
+    where
+      joined : ℕ → ℕ → Bool
+      joined u v = any (joins u v) (edgesIn links)
 
 -- ---- the passes together
 

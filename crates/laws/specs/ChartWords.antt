@@ -9,8 +9,7 @@ use mathlib.Core.List.{List, [], _∷_, _++_, map, append-assoc, append-nil}
 use lib.ListN.{length, getD, drop, replicate, length-set, length-map}
 use lib.Seq.{ext-getD}
 use lib.Dec.{eqb}
-use lib.Pow.{pow-mono, pow-lt}
-use lib.Bits.{or-lt}
+use lib.Pow.{pow-mono}
 use Rattle.model.specs.declared.Edge.{Edge}
 use Rattle.model.specs.declared.Asked.the-variants as asks
 use Rattle.model.specs.Lists.{one, upto, every, any, sumOver, noRepeats}
@@ -21,8 +20,8 @@ use Rattle.model.specs.Charts.{edgesIn, edgeWithin, joins, sameEdge, wordIn, as
 use Rattle.laws.specs.Indicators.{less, same, more, order}
 use Rattle.laws.specs.Sums.{sum}
 use Rattle.laws.specs.ListSums.{length-upto, map-upto-at, sumOver-upto}
-use Rattle.laws.specs.Bits.{bit-beyond, bits-ext, set-same, set-other, or-power}
-use Rattle.laws.specs.EdgeEdits.{both, set-changes, word-first, word-second, word-other, joined-to, joined-back, bits-kept}
+use Rattle.laws.specs.Bits.{bit-beyond, bits-ext, set-same, set-other}
+use Rattle.laws.specs.EdgeEdits.{both, set-changes, words-lt, joined-to, joined-back, bits-kept}
 use Rattle.laws.specs.ChartLists.{any-new, any-old, noRepeats-last, noRepeats-more}
 use Rattle.laws.specs.ChartEdges.{edge, edge-swap, same-edge, other-edge, Ends, edge-ends, edges-next, edges-last, EndsUpTo, ends-start, ends-next, ends-known}
 
@@ -81,9 +80,6 @@ wordOf-below p n k h none =
 -- two words with the same bits
 pub wordOf-ext : (w : ℕ) (p : ℕ → Bool) (k : ℕ) → w < 2 ^ k → ((v : ℕ) → v < k → bit w v ≡ one (p v)) → w ≡ wordOf p k
 wordOf-ext w p k h e = bits-ext k w (wordOf p k) h (wordOf-lt p k) (λ v l. e v l ∙ sym (wordOf-bit p k v l))
-
-pub set-lt : (k w i : ℕ) → w < 2 ^ k → i < k → withBit w i < 2 ^ k
-set-lt k w i h l = rw (← (or-power w i)) (or-lt k w (2 ^ i) h (pow-lt l))
 
 -- ---- the words of some edges
 
@@ -174,18 +170,8 @@ module _ (es : List Edge) (a b : ℕ) (first : a < 64) (second : b < 64) (differ
   small : (u : ℕ) → u < 64 → getD joined u 0 < 2 ^ 64
   unfolding joined
   small u hu =
-      elim (ℕ-discrete u b) [
-        | yes e ↦
-            rw (e, word-second withBit (adjacencyOf es) a b in-first in-second differ)
-            (set-lt 64 (getD (adjacencyOf es) b 0) a (adjacency-lt es b second) first)
-        | no d ↦
-            elim (ℕ-discrete u a) [
-              | yes e ↦
-                  rw (e, word-first withBit (adjacencyOf es) a b in-first in-second differ)
-                  (set-lt 64 (getD (adjacencyOf es) a 0) b (adjacency-lt es a first) second)
-              | no f ↦ rw (word-other withBit (adjacencyOf es) a b in-first in-second differ u f d) (adjacency-lt es u hu)
-            ]
-      ]
+      words-lt withBit (adjacencyOf es) a b in-first in-second differ 1 set-changes 64 first second
+      (λ w l. adjacency-lt es w (rw (adjacency-length es) at l)) u (rw (adjacency-length es) hu)
 
   -- both bits set
   pub edge-joined : atBothEnds withBit (adjacencyOf es) a b ≡ adjacencyOf (es ++ (edge a b ∷ []))

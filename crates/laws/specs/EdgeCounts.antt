@@ -23,7 +23,7 @@ use Rattle.laws.specs.Counting.{crossedTwice, crossingSum, placed, twice
 abbrev pub weight : List ℕ → ℕ → ℕ → ℕ
 weight adj u v = one (linked adj u v)
 
-abbrev edge : ℕ → ℕ → Edge
+abbrev pub edge : ℕ → ℕ → Edge
 edge a b = record { low = a; high = b }
 
 -- a sum over the edges is a sum over the pairs of vertices, by weight

@@ -1,36 +1,40 @@
 -- Adding and removing an edge: the words of both ends change, and the edges stay symmetric.
-use Prim.Native.Nat.{ℕ, _<_}
+use Prim.Native.Nat.{ℕ, _^_, _<_}
 use native.Mathlib.Decide.{ℕ-discrete}
 use native.Mathlib.Omega.{arith}
 use mathlib.Core.Path.{_≡_, sym, ap, _∙_}
 use mathlib.Core.List.{List}
 use lib.ListN.{length, getD, set, length-set}
 use lib.Seq.{getD-set-same, getD-set-other}
+use lib.Dec.{T}
 use Rattle.model.specs.Crossings.{bit}
 use Rattle.model.specs.declared.Layout.{Layout}
+use Rattle.model.specs.Layouts.{vertexOrder, valid, changed}
 use Rattle.model.specs.Edits.{withBit, withoutBit, atBothEnds, withEdges}
 use Rattle.laws.specs.Recount.{drawn, recounted, recounted-changed}
 use Rattle.laws.specs.Refusals.{Pair, within-capacity}
 use Rattle.laws.specs.Pairs.{Symmetric}
-use Rattle.laws.specs.Bits.{set-same, set-other, clear-same, clear-other}
+use Rattle.laws.specs.Bits.{set-same, set-other, set-lt, clear-same, clear-other, clear-lt}
 use Rattle.laws.specs.EdgeCounts.{weight}
 use Rattle.laws.specs.MaskCount.{weight-bit}
+use Rattle.laws.specs.Validity.{sound, sound-valid}
 
 pub both : {A B : Type 0} → Dec A → Dec B → Dec (A × B)
 both (yes a) (yes b) = yes (a, b)
 both (yes a) (no b) = no (λ p. b (p .1))
 both (no a) b = no (λ p. a (p .0))
 
--- a change of one bit of a word: to x, and no other bit
+-- a change of one bit of a word: to x, and no other bit; a word of k bits stays one
 pub record ChangesOne (f : ℕ → ℕ → ℕ) (x : ℕ) : Type 0 where
   pub here : (w i : ℕ) → bit (f w i) i ≡ x
   pub elsewhere : (w i j : ℕ) → (j ≡ i → ⊥) → bit (f w i) j ≡ bit w j
+  pub within : (k w i : ℕ) → w < 2 ^ k → i < k → f w i < 2 ^ k
 
 pub set-changes : ChangesOne withBit 1
-set-changes = record { here = set-same; elsewhere = set-other }
+set-changes = record { here = set-same; elsewhere = set-other; within = set-lt }
 
 pub clear-changes : ChangesOne withoutBit 0
-clear-changes = record { here = clear-same; elsewhere = clear-other }
+clear-changes = record { here = clear-same; elsewhere = clear-other; within = clear-lt }
 
 module _ (f : ℕ → ℕ → ℕ) (adj : List ℕ) (a b : ℕ) (first : a < length adj) (second : b < length adj) (different : a ≡ b → ⊥) where
   -- the words, one by one
@@ -52,6 +56,19 @@ module _ (f : ℕ → ℕ → ℕ) (adj : List ℕ) (a b : ℕ) (first : a < len
       ∙ getD-set-other adj a u (f (getD adj a 0) b) 0 da
 
   module _ (x : ℕ) (change : ChangesOne f x) where
+    -- words of k bits
+    pub words-lt : (k : ℕ) → a < k → b < k → ((u : ℕ) → u < length adj → getD adj u 0 < 2 ^ k)
+        → (u : ℕ) → u < length adj → getD (atBothEnds f adj a b) u 0 < 2 ^ k
+    words-lt k ak bk small u h =
+        elim (ℕ-discrete u a) [
+          | yes e ↦ rw (e, word-first) (change .within k (getD adj a 0) b (small a first) bk)
+          | no da ↦
+              elim (ℕ-discrete u b) [
+                | yes e ↦ rw (e, word-second) (change .within k (getD adj b 0) a (small b second) ak)
+                | no db ↦ rw (word-other u da db) (small u h)
+              ]
+        ]
+
     -- the two ends are joined with weight x
     pub joined-to : bit (getD (atBothEnds f adj a b) a 0) b ≡ x
     joined-to = ap (λ (w : ℕ). bit w b) word-first ∙ change .here (getD adj a 0) b
@@ -90,18 +107,44 @@ module _ (f : ℕ → ℕ → ℕ) (adj : List ℕ) (a b : ℕ) (first : a < len
                   ]
             ]
 
--- the layout of an accepted link or unlink, by the counter
-pub edges-recounted : {l : Layout} {a b : ℕ} (f : ℕ → ℕ → ℕ) (x : ℕ) → ChangesOne f x → Pair l a b → length (l .adjacency) ≡ 64 → {words : List ℕ}
-    → words ≡ atBothEnds f (l .adjacency) a b → recounted l (l .n) (l .order) words ≡ withEdges l (atBothEnds f (l .adjacency) a b)
-unfolding withEdges
-edges-recounted {l} {a} {b} f x change p size e =
-    ap (recounted l (l .n) (l .order)) e
-    ∙ recounted-changed l (l .n) (l .order) (atBothEnds f (l .adjacency) a b) (p .is-valid)
-    (let d = drawn l (p .is-valid) in
-    let places = within-capacity p in
-    record {
-      small = d .small;
-      permutation = d .permutation;
-      symmetry =
-          still-symmetric f (l .adjacency) a b (omega arith) (omega arith) (p .different) x change (l .n) (d .symmetry);
-    })
+-- the layout of an accepted link or unlink
+module _ {l : Layout} {a b : ℕ} (f : ℕ → ℕ → ℕ) (x : ℕ) (change : ChangesOne f x) (p : Pair l a b) (size : length (l .adjacency) ≡ 64) where
+  first-word : a < length (l .adjacency)
+  first-word = rw size (within-capacity p .0)
+
+  second-word : b < length (l .adjacency)
+  second-word = rw size (within-capacity p .1)
+
+  edges-symmetric : Symmetric (l .n) (weight (atBothEnds f (l .adjacency) a b))
+  edges-symmetric =
+      still-symmetric f (l .adjacency) a b first-word second-word (p .different) x change (l .n) (sound l (p .is-valid) .symmetry)
+
+  -- is valid
+  pub edges-valid : T (valid (withEdges l (atBothEnds f (l .adjacency) a b)))
+  unfolding withEdges changed vertexOrder
+  edges-valid =
+      let s = sound l (p .is-valid) in
+      sound-valid (withEdges l (atBothEnds f (l .adjacency) a b))
+      (record {
+        small = s .small;
+        permutation = s .permutation;
+        places = s .places;
+        symmetry = edges-symmetric;
+        bits = λ v h.
+            words-lt f (l .adjacency) a b first-word second-word (p .different) x change (l .n) (p .first) (p .second)
+            (λ u k. s .bits u (rw size at k)) v (rw size h);
+        unused = λ v h k.
+            word-other f (l .adjacency) a b first-word second-word (p .different) v
+            (λ e. omega (arith, p .first)) (λ e. omega (arith, p .second))
+            ∙ s .unused v h k;
+      })
+
+  -- by the counter
+  pub edges-recounted : {words : List ℕ} → words ≡ atBothEnds f (l .adjacency) a b
+      → recounted l (l .n) (l .order) words ≡ withEdges l (atBothEnds f (l .adjacency) a b)
+  unfolding withEdges
+  edges-recounted e =
+      ap (recounted l (l .n) (l .order)) e
+      ∙ recounted-changed l (l .n) (l .order) (atBothEnds f (l .adjacency) a b) (p .is-valid)
+      (let d = drawn l (p .is-valid) in
+      record { small = d .small; permutation = d .permutation; symmetry = edges-symmetric })

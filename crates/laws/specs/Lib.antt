@@ -10,6 +10,7 @@ pub mod Counting
 pub mod EdgeCounts
 pub mod Bound
 pub mod Validity
+pub mod Complete
 pub mod Bits
 pub mod MaskCount
 pub mod Recount
@@ -39,3 +40,6 @@ pub mod ChartWords
 pub mod ChartOrder
 pub mod ChartReading
 pub mod ChartLaws
+pub mod Turning
+pub mod Sizes
+pub mod EditCalls

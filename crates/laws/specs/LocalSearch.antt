@@ -5,7 +5,7 @@ use native.Mathlib.Nat.{le-refl, le-trans, le-of-eq, le-antisymm, min-le-left, m
 use native.Mathlib.Omega.{arith}
 use mathlib.Core.Path.{_≡_, refl, sym, ap, _∙_, subst}
 use mathlib.Core.Bool.{Bool, true, false, cond, _||_, true≢false, false≢true}
-use mathlib.Core.List.{List, [], _∷_, map}
+use mathlib.Core.List.{List, [], _∷_, _++_, map, flatMap}
 use lib.ListN.{length}
 use lib.Dec.{T, eqb, ltb, eqb→eq}
 use borrow.Author.Tests.{eq-eqb, lt-ltb, ltb-true, ltb-false}
@@ -254,3 +254,17 @@ module _ {S : Type 0} (size cost : S → ℕ) (Valid : S → Type 0) (candidates
   settles-minimum sifts spent none e = absurd (false≢true e)
   settles-minimum sifts (last z) (also p ps) e = round-minimum p z
   settles-minimum sifts (further m q) (also p ps) e = settles-minimum sifts q ps e
+
+-- ---- things that follow one another
+
+module _ {A S : Type 0} {start end : A → S} where
+  pub follow-append : {s t u : S} {xs ys : List A} → Follow start end s xs t → Follow start end t ys u → Follow start end s (xs ++ ys) u
+  follow-append ended q = q
+  follow-append (next p) q = next (follow-append p q)
+
+  -- where each of them is itself a run of others, these follow one another
+  pub follow-flat : {B : Type 0} {from to : B → S} {s t : S} {rs : List B} (parts : B → List A) → Follow from to s rs t
+      → All (λ r. Follow start end (from r) (parts r) (to r)) rs → Follow start end s (flatMap parts rs) t
+  unfolding flatMap
+  follow-flat parts ended none = ended
+  follow-flat parts (next r) (also p ps) = follow-append p (follow-flat parts r ps)

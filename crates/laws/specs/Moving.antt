@@ -1,27 +1,26 @@
 -- Moving a vertex behind another, in a list that holds each vertex once.
 use Prim.Native.Nat.{ℕ, suc, _+_, _-_, _≤_, _<_}
 use native.Mathlib.Nat.{add-sub-of-le, not-suc-le-zero}
-use native.Mathlib.Decide.{ℕ-discrete}
 use native.Mathlib.Omega.{arith}
 use mathlib.Core.Path.{_≡_, refl, sym, ap, _∙_, subst}
 use mathlib.Core.Bool.{Bool, true, false, not, cond}
 use mathlib.Core.List.{List, [], _∷_, _++_}
 use lib.ListN.{length, take, drop, length-append, length-drop, take-append-drop, List·getD-append}
-use lib.Seq.{length-take-le, getD-take, getD-drop, getD-at, getD-append-add, take-at}
-use lib.Dec.{T, not-T, eqb, leb, ltb, lt→ltb, eqb→eq}
+use lib.Seq.{length-front, length-take-le, getD-take, getD-drop, getD-at, getD-append-add, take-at}
+use lib.Dec.{T, eqb, leb, ltb}
 use borrow.Author.Tests.{eq-eqb, ne-eqb, lt-ltb, le-ltb, le-leb, lt-leb}
 use Rattle.model.specs.declared.Layout.{Layout}
 use Rattle.model.specs.declared.Changed.{Changed}
 use Rattle.model.specs.Lists.{one, keep, sumOver, occurrences, place}
 use Rattle.model.specs.Crossings.{crossings}
-use Rattle.model.specs.Layouts.{vertexOrder, crossingsOf, eachOnce, zeroFrom, valid, modulus, carried, changed, reordered}
-use Rattle.model.specs.Checks.{refusal, isValid, isVertex, differ}
-use Rattle.model.specs.Edits.{changedOr, insertAfter, movedAfter, moveChecks, moveOf}
-use Rattle.laws.specs.Indicators.{less, same, more, order, one-ne, T-true, bool-ext}
-use Rattle.laws.specs.ListSums.{none, also}
+use Rattle.model.specs.Layouts.{vertexOrder, crossingsOf, valid, modulus, carried, changed, reordered}
+use Rattle.model.specs.Checks.{refusal}
+use Rattle.model.specs.Edits.{changedTo, changeRefused, insertAfter, movedAfter, moveChecks, moveOf}
+use Rattle.laws.specs.Indicators.{less, same, more, order, one-ne}
 use Rattle.laws.specs.Permutations.{at, occurrences-cons, occurrences-append, occurrences-split, Permutation, place-lt, place-at, at-of-place, place-below}
-use Rattle.laws.specs.Refusals.{Pair, pair-passed, all-passed, when-accepted, when-refused, checked-number}
-use Rattle.laws.specs.Validity.{permutation-eachOnce, zero-from, zero-from-at, sound, crossings-bound}
+use Rattle.laws.specs.Refusals.{Pair, pair-passed, passed-pair}
+use Rattle.laws.specs.Refusals.{changed-number, changed-accepted, changed-refused, changed-either}
+use Rattle.laws.specs.Validity.{sound, sound-valid, crossings-bound}
 
 -- a list without the vertex a
 abbrev pub without : ℕ → List ℕ → List ℕ
@@ -323,12 +322,6 @@ module _ {n : ℕ} {o : List ℕ} (perm : Permutation n o) (a : ℕ) (ha : a < n
 
 -- ---- a valid layout with another order
 
--- whether the unused places are 0 asks only for these places
-zeroFrom-ext : (n : ℕ) (xs ys : List ℕ) → ((i : ℕ) → n ≤ i → at xs i ≡ at ys i) → zeroFrom n xs ≡ zeroFrom n ys
-zeroFrom-ext n xs ys h =
-    bool-ext (zeroFrom n xs) (zeroFrom n ys) (λ t. zero-from n ys (λ i b l. sym (h i b) ∙ zero-from-at n xs t i b l))
-    (λ t. zero-from n xs (λ i b l. h i b ∙ zero-from-at n ys t i b l))
-
 module _ (l : Layout) (o : List ℕ) where
   pub reordered-order : length o ≡ l .n → vertexOrder (reordered l o) ≡ o
   unfolding reordered changed vertexOrder
@@ -339,23 +332,30 @@ module _ (l : Layout) (o : List ℕ) where
   reordered-crossings e = ap (λ (x : List ℕ). crossings (l .n) x (l .adjacency)) (reordered-order e)
 
   pub reordered-valid : T (valid l) → Permutation (l .n) o → T (valid (reordered l o))
-  unfolding reordered changed valid
-  reordered-valid t perm = rw (once, unused) t
+  unfolding reordered changed
+  reordered-valid t perm =
+      let s = sound l t in
+      sound-valid (reordered l o)
+      (record {
+        small = s .small;
+        permutation = rw (reordered-order (perm .size)) perm;
+        places = λ i h b. unused i h ∙ s .places i h b;
+        symmetry = s .symmetry;
+        bits = s .bits;
+        unused = s .unused;
+      })
     where
-      once : eachOnce (l .n) (vertexOrder (reordered l o)) ≡ eachOnce (l .n) (vertexOrder l)
-      once =
-          ap (eachOnce (l .n)) (reordered-order (perm .size))
-          ∙ T-true (eachOnce (l .n) o) (permutation-eachOnce perm)
-          ∙ sym (T-true (eachOnce (l .n) (vertexOrder l)) (permutation-eachOnce (sound l t .permutation)))
-
-      unused : zeroFrom (l .n) (o ++ drop (l .n) (l .order)) ≡ zeroFrom (l .n) (l .order)
-      unused =
-          zeroFrom-ext (l .n) (o ++ drop (l .n) (l .order)) (l .order)
-          (λ i h.
+      unused : (i : ℕ) → l .n ≤ i → at (o ++ drop (l .n) (l .order)) i ≡ at (l .order) i
+      unused i h =
           ap (at (o ++ drop (l .n) (l .order))) (sym (add-sub-of-le h))
           ∙ at-right o (drop (l .n) (l .order)) (l .n) (i - l .n) (perm .size)
           ∙ getD-drop (l .n) (l .order) (i - l .n) 0
-          ∙ ap (at (l .order)) (add-sub-of-le h))
+          ∙ ap (at (l .order)) (add-sub-of-le h)
+
+-- with as many places
+pub reordered-length : (l : Layout) (o : List ℕ) → T (valid l) → Permutation (l .n) o → length (reordered l o .order) ≡ length (l .order)
+unfolding reordered changed vertexOrder
+reordered-length l o t perm = length-front (l .order) o (l .n) (perm .size ∙ sym (sound l t .permutation .size))
 
 -- ---- the carried count
 
@@ -418,39 +418,33 @@ reordered-present l h = λ i. record { n = l .n; order = parts i; adjacency = l 
 -- ---- the call move
 
 module _ (l : Layout) (a b : ℕ) where
+  abbrev pub movedLayout : Layout
+  movedLayout = reordered l (movedAfter a b (vertexOrder l))
+
   move-number : moveOf l a b .refusal ≡ refusal (moveChecks l a b)
-  unfolding moveOf changedOr
-  move-number =
-      checked-number (moveChecks l a b)
-      (record { refusal = 0; layout = reordered l (movedAfter a b (vertexOrder l)) }) (λ r. record { refusal = r; layout = l })
-      (λ (c : Changed). c .refusal) refl (λ r. refl)
+  unfolding moveOf
+  move-number = changed-number l (moveChecks l a b) movedLayout
 
   -- what an accepted move may count on
   pub move-passed : moveOf l a b .refusal ≡ 0 → Pair l a b
   move-passed e = pair-passed l a b (sym move-number ∙ e)
 
   -- and a move that may count on it is accepted
-  pub move-accepted : T (valid l) → a < l .n → b < l .n → (a ≡ b → ⊥)
-      → moveOf l a b ≡ record { refusal = 0; layout = reordered l (movedAfter a b (vertexOrder l)) }
-  unfolding moveOf changedOr moveChecks isValid isVertex differ
+  pub move-accepted : T (valid l) → a < l .n → b < l .n → (a ≡ b → ⊥) → moveOf l a b ≡ changedTo movedLayout
+  unfolding moveOf
   move-accepted t h k d =
-      when-accepted (moveChecks l a b)
-      (record { refusal = 0; layout = reordered l (movedAfter a b (vertexOrder l)) }) (λ r. record { refusal = r; layout = l })
-      (all-passed (also t (also (lt→ltb a (l .n) h) (also (lt→ltb b (l .n) k) (also (not-T (eqb a b) (λ e. d (eqb→eq a b e))) none)))))
+      sym (changed-accepted l (moveChecks l a b) movedLayout (passed-pair l a b (record { is-valid = t; first = h; second = k; different = d })) refl)
 
-  pub move-refused : (moveOf l a b .refusal ≡ 0 → ⊥) → moveOf l a b ≡ record { refusal = moveOf l a b .refusal; layout = l }
-  unfolding moveOf changedOr
-  move-refused d =
-      when-refused (moveChecks l a b)
-      (record { refusal = 0; layout = reordered l (movedAfter a b (vertexOrder l)) }) (λ r. record { refusal = r; layout = l })
-      move-number d
+  pub move-refused : (moveOf l a b .refusal ≡ 0 → ⊥) → moveOf l a b ≡ changeRefused l (moveOf l a b .refusal)
+  unfolding moveOf
+  move-refused d = sym (changed-refused l (moveChecks l a b) movedLayout move-number d)
 
 -- the layout that an accepted move gives
 module _ (l : Layout) (t : T (valid l)) (a : ℕ) (h : a < l .n) (b : ℕ) (k : b < l .n) (d : a ≡ b → ⊥) where
-  pub move-layout : moveOf l a b .layout ≡ reordered l (movedAfter a b (vertexOrder l))
+  pub move-layout : moveOf l a b .layout ≡ movedLayout l a b
   move-layout = ap (λ (c : Changed). c .layout) (move-accepted l a b t h k d)
 
-  pub move-valid : T (valid (reordered l (movedAfter a b (vertexOrder l))))
+  pub move-valid : T (valid (movedLayout l a b))
   move-valid = reordered-valid l (movedAfter a b (vertexOrder l)) t (moved-permutation (sound l t .permutation) a h b k d)
 
   pub move-crossings : crossingsOf (moveOf l a b .layout) ≡ crossings (l .n) (movedAfter a b (vertexOrder l)) (l .adjacency)
@@ -459,14 +453,11 @@ module _ (l : Layout) (t : T (valid l)) (a : ℕ) (h : a < l .n) (b : ℕ) (k : 
       ∙ reordered-crossings l (movedAfter a b (vertexOrder l)) (moved-permutation (sound l t .permutation) a h b k d .size)
 
 pub move-keeps : (l : Layout) (a b : ℕ) → Keeps l (moveOf l a b .layout)
-unfolding reordered
+unfolding moveOf reordered
 move-keeps l a b =
-    elim (ℕ-discrete (moveOf l a b .refusal) 0) [
-      | yes e ↦ accepted (move-passed l a b e)
-      | no d ↦ same-keeps (ap (λ (c : Changed). c .layout) (move-refused l a b d))
-    ]
-  where
-    accepted : Pair l a b → Keeps l (moveOf l a b .layout)
-    accepted p =
-        rw (move-layout l (p .is-valid) a (p .first) b (p .second) (p .different))
-        (changed-keeps l (l .n) (movedAfter a b (vertexOrder l) ++ drop (l .n) (l .order)) (l .adjacency) (move-valid l (p .is-valid) a (p .first) b (p .second) (p .different)))
+    changed-either l (moveChecks l a b) (movedLayout l a b) (Keeps l)
+    (λ e.
+    (let p = pair-passed l a b e in
+    changed-keeps l (l .n) (movedAfter a b (vertexOrder l) ++ drop (l .n) (l .order)) (l .adjacency)
+    (move-valid l (p .is-valid) a (p .first) b (p .second) (p .different))))
+    (same-keeps refl)

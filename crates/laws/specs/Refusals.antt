@@ -5,13 +5,14 @@ use native.Mathlib.Decide.{ℕ-discrete}
 use mathlib.Core.Path.{_≡_, refl, sym, ap, _∙_, subst}
 use mathlib.Core.Bool.{Bool, true, false, not, cond}
 use mathlib.Core.List.{List, [], _∷_, _++_}
-use lib.Dec.{T, eqb}
+use lib.Dec.{T, not-T, eqb, eqb→eq, lt→ltb}
 use borrow.Author.Tests.{ltb-true, eqb-false, not-true}
 use Rattle.model.specs.declared.Layout.{Layout}
+use Rattle.model.specs.declared.Changed.{Changed}
 use Rattle.model.specs.Crossings.{linked}
 use Rattle.model.specs.Layouts.{valid}
 use Rattle.model.specs.Checks.{Check, refusal, byRefusal, checked, isValid, isVertex, differ, isUnlinked, isLinked}
-use Rattle.model.specs.Edits.{changedOr, moveChecks, linkChecks, unlinkChecks}
+use Rattle.model.specs.Edits.{changedTo, changeRefused, changedOr, moveChecks, linkChecks, unlinkChecks}
 use Rattle.laws.specs.Indicators.{T-true}
 use Rattle.laws.specs.ListSums.{All, none, also}
 use Rattle.laws.specs.Validity.{sound}
@@ -93,6 +94,15 @@ module _ {A : Type 0} (cs : List Check) (accepted : A) (refused : ℕ → A) whe
       from zero = z
       from (suc r) = s (suc r)
 
+  -- what holds of the answer of an accepted call and of each refusal holds of the answer
+  pub checked-either : (P : A → Type 0) → (refusal cs ≡ 0 → P accepted) → ((r : ℕ) → P (refused r)) → P (checked cs accepted refused)
+  unfolding checked byRefusal
+  checked-either P a r = from (refusal cs) refl
+    where
+      from : (k : ℕ) → refusal cs ≡ k → P (byRefusal k accepted refused)
+      from zero e = a e
+      from (suc k) e = r (suc k)
+
 -- ---- calls on a layout
 
 pub valid-passed : (l : Layout) (cs : List Check) → refusal (isValid l ∷ cs) ≡ 0 → T (valid l) × (refusal cs ≡ 0)
@@ -133,6 +143,13 @@ pair-passed l a b e =
       different = eqb-false a b (not-true (eqb a b) (p₄ .passes));
     }
 
+pub passed-pair : (l : Layout) (a b : ℕ) → Pair l a b → refusal (moveChecks l a b) ≡ 0
+unfolding moveChecks isValid isVertex differ
+passed-pair l a b p =
+    all-passed
+    (also (p .is-valid)
+    (also (lt→ltb a (l .n) (p .first)) (also (lt→ltb b (l .n) (p .second)) (also (not-T (eqb a b) (λ e. p .different (eqb→eq a b e))) none))))
+
 -- the last check of link and of unlink behind those
 module _ (l : Layout) (a b : ℕ) where
   pub link-last : refusal (moveChecks l a b) ≡ 0 → refusal (linkChecks l a b) ≡ cond (not (linked (l .adjacency) a b)) 0 14
@@ -168,13 +185,21 @@ within-capacity {l} {a} {b} p =
 
 -- ---- answers that hold a layout and a refusal code
 
+-- an accepted call, and a refused one
 module _ (l : Layout) (cs : List Check) (next : Layout) where
-  pub changed-refused : {r : ℕ} → r ≡ refusal cs → (r ≡ 0 → ⊥) → record { refusal = r; layout = l } ≡ changedOr l cs next
+  pub changed-number : changedOr l cs next .refusal ≡ refusal cs
   unfolding changedOr
-  changed-refused e n = sym (when-refused cs (record { refusal = 0; layout = next }) (λ r. record { refusal = r; layout = l }) e n)
+  changed-number = checked-number cs (changedTo next) (changeRefused l) (λ (c : Changed). c .refusal) refl (λ r. refl)
 
-  pub changed-accepted : {m : Layout} → refusal cs ≡ 0 → m ≡ next → record { refusal = 0; layout = m } ≡ changedOr l cs next
+  pub changed-refused : {r : ℕ} → r ≡ refusal cs → (r ≡ 0 → ⊥) → changeRefused l r ≡ changedOr l cs next
   unfolding changedOr
-  changed-accepted z e =
-      ap (λ (k : Layout). record { refusal = 0; layout = k }) e
-      ∙ sym (when-accepted cs (record { refusal = 0; layout = next }) (λ r. record { refusal = r; layout = l }) z)
+  changed-refused e n = sym (when-refused cs (changedTo next) (changeRefused l) e n)
+
+  pub changed-accepted : {m : Layout} → refusal cs ≡ 0 → m ≡ next → changedTo m ≡ changedOr l cs next
+  unfolding changedOr
+  changed-accepted z e = ap changedTo e ∙ sym (when-accepted cs (changedTo next) (changeRefused l) z)
+
+  -- what holds of the layout before and, where no check fails, of the next holds of the layout that is answered
+  pub changed-either : (P : Layout → Type 0) → (refusal cs ≡ 0 → P next) → P l → P (changedOr l cs next .layout)
+  unfolding changedOr
+  changed-either P a r = checked-either cs (changedTo next) (changeRefused l) (λ (c : Changed). P (c .layout)) a (λ k. r)

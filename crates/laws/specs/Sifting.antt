@@ -20,7 +20,7 @@ use Rattle.laws.specs.ListSums.{All, all-mono, all-map, all-places}
 use Rattle.laws.specs.Permutations.{at, occurrences-append, Permutation, place-below, occurs-at, none-beyond}
 use Rattle.laws.specs.Validity.{sound}
 use Rattle.laws.specs.LocalSearch.{least-default, chosen-stays, chosen-goes, chosen-has, chosen-least}
-use Rattle.laws.specs.Moving.{at-right, rest-occurrences, moved-permutation, moved-again, reordered-order, reordered-crossings, reordered-valid, carried-right, carried-carried, carried-lt, carried-same, crossings-fit, CountRight}
+use Rattle.laws.specs.Moving.{at-right, rest-occurrences, moved-permutation, moved-again, reordered-order, reordered-crossings, reordered-length, reordered-valid, carried-right, carried-carried, carried-lt, carried-same, crossings-fit, CountRight}
 
 -- a property of whatever occurs is one of each entry
 all-occurring : {P : ℕ → Type 0} (xs : List ℕ) → ((v : ℕ) → 0 < occurrences v xs → P v) → All P xs
@@ -133,6 +133,7 @@ pub record Improved (l m : Layout) : Type 0 where
   pub valid-after : T (valid m)
   pub same-n : m .n ≡ l .n
   pub same-adjacency : m .adjacency ≡ l .adjacency
+  pub same-places : length (m .order) ≡ length (l .order)
   pub no-more : crossingsOf m ≤ crossingsOf l
   pub count-carried : l .count < modulus → m .count ≡ carried (l .count) (crossingsOf l) (crossingsOf m)
 
@@ -142,6 +143,7 @@ improved-refl l t =
       valid-after = t;
       same-n = refl;
       same-adjacency = refl;
+      same-places = refl;
       no-more = le-refl (crossingsOf l);
       count-carried = λ h. sym (carried-same (l .count) (crossingsOf l) h);
     }
@@ -152,6 +154,7 @@ improved-trans {l} {m} {k} p q =
       valid-after = q .valid-after;
       same-n = q .same-n ∙ p .same-n;
       same-adjacency = q .same-adjacency ∙ p .same-adjacency;
+      same-places = q .same-places ∙ p .same-places;
       no-more = le-trans (q .no-more) (p .no-more);
       count-carried = λ h.
           q .count-carried (rw (p .count-carried h) (carried-lt (l .count) (crossingsOf l) (crossingsOf m)))
@@ -175,6 +178,7 @@ module _ (l : Layout) (t : T (valid l)) (o : List ℕ) (perm : Permutation (l .n
         valid-after = reordered-valid l o t perm;
         same-n = refl;
         same-adjacency = refl;
+        same-places = reordered-length l o t perm;
         no-more = le-trans (le-of-eq (reordered-crossings l o (perm .size))) h;
         count-carried = λ k. refl;
       }

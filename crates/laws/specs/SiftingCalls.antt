@@ -1,9 +1,8 @@
 -- The calls sift, round and settle: what an accepted one may count on and gives, and that a refused one changes nothing.
 use Prim.Native.Nat.{ℕ, _≤_, _<_}
 use native.Mathlib.Omega.{arith}
-use mathlib.Core.Path.{_≡_, refl, sym, ap, _∙_}
+use mathlib.Core.Path.{_≡_, refl, sym, _∙_}
 use mathlib.Core.List.{List, [], _∷_}
-use native.Mathlib.Decide.{ℕ-discrete}
 use lib.Dec.{T, leb, le→leb, lt→ltb}
 use borrow.Author.Tests.{leb-true}
 use Rattle.model.specs.declared.Layout.{Layout}
@@ -13,10 +12,10 @@ use Rattle.model.specs.declared.Converged.{Converged}
 use Rattle.model.specs.Lists.{upto}
 use Rattle.model.specs.Layouts.{valid}
 use Rattle.model.specs.Checks.{refusal, isValid, isVertex, limitFits}
-use Rattle.model.specs.Sifting.{siftChecks, siftAnswer, siftRefused, siftOf, siftAll, siftRound, roundRefused, roundOf, roundsUpTo, settleChecks, settleRefused, settleOf}
+use Rattle.model.specs.Sifting.{sifted, siftChecks, siftAnswer, siftRefused, siftOf, siftAll, siftRound, roundRefused, roundOf, roundsUpTo, settleChecks, settleRefused, settleOf}
 use Rattle.laws.specs.Indicators.{and-intro, both-left, both-right}
 use Rattle.laws.specs.ListSums.{none, also}
-use Rattle.laws.specs.Refusals.{passed, valid-passed, vertex-passed, all-passed, when-accepted, when-refused, checked-number}
+use Rattle.laws.specs.Refusals.{passed, valid-passed, vertex-passed, all-passed, when-accepted, when-refused, checked-number, checked-either}
 use Rattle.laws.specs.Moving.{Keeps, same-keeps}
 use Rattle.laws.specs.Sifting.{Improved, improved-count, sifted-improved}
 use Rattle.laws.specs.SiftingRounds.{round-reduced, settling, rounds-refusal}
@@ -43,12 +42,15 @@ module _ (l : Layout) (u : ℕ) where
   unfolding siftOf
   sift-refused d = when-refused (siftChecks l u) (siftAnswer l u) (siftRefused l) sift-number d
 
+  -- what holds of the layout before, and of the layout that an accepted sift gives, holds of the layout that is answered
+  pub sift-either : (P : Layout → Type 0) → (T (valid l) → u < l .n → P (sifted l u)) → P l → P (siftOf l u .layout)
+  unfolding siftOf siftChecks
+  sift-either P a r =
+      checked-either (siftChecks l u) (siftAnswer l u) (siftRefused l) (λ (s : Sifted). P (s .layout))
+      (λ e. (let passed = vertex-passed l u e in a (passed .0) (passed .1))) (λ k. r)
+
   pub sift-keeps : Keeps l (siftOf l u .layout)
-  sift-keeps =
-      elim (ℕ-discrete (siftOf l u .refusal) 0) [
-        | yes e ↦ let p = sift-passed e in rw (sift-accepted (p .0) (p .1)) (improved-keeps (sifted-improved l (p .0) u (p .1)))
-        | no d ↦ same-keeps (ap (λ (s : Sifted). s .layout) (sift-refused d))
-      ]
+  sift-keeps = sift-either (Keeps l) (λ t h. improved-keeps (sifted-improved l t u h)) (same-keeps refl)
 
 -- ---- round
 
@@ -74,12 +76,13 @@ module _ (l : Layout) where
   unfolding roundOf
   round-refused d = when-refused (isValid l ∷ []) (siftRound l) (roundRefused l) round-number d
 
+  pub round-either : (P : Layout → Type 0) → (T (valid l) → P (siftRound l .layout)) → P l → P (roundOf l .layout)
+  unfolding roundOf
+  round-either P a r =
+      checked-either (isValid l ∷ []) (siftRound l) (roundRefused l) (λ (s : Rounded). P (s .layout)) (λ e. a (valid-passed l [] e .0)) (λ k. r)
+
   pub round-keeps : Keeps l (roundOf l .layout)
-  round-keeps =
-      elim (ℕ-discrete (roundOf l .refusal) 0) [
-        | yes e ↦ let t = round-passed e in rw (round-accepted t) (improved-keeps (round-reduced l t .improved))
-        | no d ↦ same-keeps (ap (λ (r : Rounded). r .layout) (round-refused d))
-      ]
+  round-keeps = round-either (Keeps l) (λ t. improved-keeps (round-reduced l t .improved)) (same-keeps refl)
 
 -- ---- settle
 
@@ -106,9 +109,11 @@ module _ (l : Layout) (limit : ℕ) where
   unfolding settleOf
   settle-refused d = when-refused (settleChecks l limit) (roundsUpTo limit l) (settleRefused l) settle-number d
 
+  pub settle-either : (P : Layout → Type 0) → (T (valid l) → P (roundsUpTo limit l .layout)) → P l → P (settleOf l limit .layout)
+  unfolding settleOf settleChecks
+  settle-either P a r =
+      checked-either (settleChecks l limit) (roundsUpTo limit l) (settleRefused l) (λ (s : Converged). P (s .layout))
+      (λ e. a (valid-passed l (limitFits limit ∷ []) e .0)) (λ k. r)
+
   pub settle-keeps : Keeps l (settleOf l limit .layout)
-  settle-keeps =
-      elim (ℕ-discrete (settleOf l limit .refusal) 0) [
-        | yes e ↦ let p = settle-passed e in rw (settle-accepted (p .0) (p .1) (p .2)) (improved-keeps (settling limit l (p .0) .improved))
-        | no d ↦ same-keeps (ap (λ (c : Converged). c .layout) (settle-refused d))
-      ]
+  settle-keeps = settle-either (Keeps l) (λ t. improved-keeps (settling limit l t .improved)) (same-keeps refl)

@@ -17,6 +17,7 @@ use Rattle.model.specs.Crossings.{crossings}
 use Rattle.model.specs.Layouts.{vertexOrder, valid, crossingsOf}
 use Rattle.model.specs.Sifting.{leastCrossings, siftedOrder, sifted, reduction, moves, noSifts, afterSift, siftAll, siftRound, afterRound, stopped, roundsUpTo}
 use Rattle.laws.specs.ListSums.{all-upto, all-mono}
+use Rattle.laws.specs.Bound.{mostCrossings}
 use Rattle.laws.specs.Validity.{sound, crossings-bound}
 use Rattle.laws.specs.Recount.{recounted}
 use Rattle.laws.specs.MovedPlaces.{reordered-recounted}
@@ -205,6 +206,6 @@ module _ {l : Layout} {limit : ℕ} {m : Layout} {saved run : ℕ} (s : Settling
       ∙ ap₂ (λ (x y : ℕ). record { refusal = 0; layout = m; reduction = x; rounds = y; converged = false }) (add-zero saved) (add-zero run))
 
   -- the numbers stay small
-  pub settling-bounds : {r : Rounded} → T (valid l) → r ≡ siftRound m → (saved + r .reduction ≤ 635376)
+  pub settling-bounds : {r : Rounded} → T (valid l) → r ≡ siftRound m → saved + r .reduction ≤ mostCrossings
   settling-bounds {r} t e =
       omega (arith, crossings-bound l t, s .exact, round-reduced m (s .is-valid) .exact, ap (λ (x : Rounded). x .reduction) e)

@@ -5,7 +5,7 @@ use native.Mathlib.Omega.{arith}
 use mathlib.Core.Path.{_≡_, refl, sym, ap, ap₂, _∙_, subst}
 use mathlib.Core.Bool.{Bool, true, false}
 use mathlib.Core.List.{List, [], _∷_, map}
-use lib.ListN.{length}
+use lib.ListN.{length, length-map}
 use lib.Dec.{T, eqb}
 use borrow.Author.Tests.{eqb-true, eqb-false}
 use Rattle.model.specs.declared.Layout.{Layout}
@@ -17,12 +17,12 @@ use Rattle.model.specs.Crossings.{crossings}
 use Rattle.model.specs.Layouts.{vertexOrder, crossingsOf, valid, changed, reordered}
 use Rattle.model.specs.Edits.{movedAfter, moveOf}
 use Rattle.model.specs.Sifting.{clockwiseFrom, candidates, least, leastCrossings, sifted, reduction, moves, siftAll, siftRound, afterRound, stopped, roundsUpTo}
-use Rattle.model.specs.Histories.{Follow, ended, next, Sift, Round, siftOn, roundOn, siftsFrom, siftsOfRound, roundsFrom, BestPlace, LocalMinimum}
+use Rattle.model.specs.Histories.{Follow, ended, next, Sift, Round, siftOn, roundOn, siftsFrom, siftsOfRound, roundsFrom, butLast, BestPlace, LocalMinimum}
 use Rattle.laws.specs.Indicators.{one-eq}
-use Rattle.laws.specs.ListSums.{All, none, also, all-mono, all-map, all-upto}
+use Rattle.laws.specs.ListSums.{All, none, also, all-mono, all-map, all-upto, length-upto}
 use Rattle.laws.specs.Permutations.{occurrences-cons}
 use Rattle.laws.specs.Validity.{sound}
-use Rattle.laws.specs.LocalSearch.{NoneBelow, Best, Minimum, Sifts, sift-best, Rounds, round-lowers, Settles, spent, last, further, settles-minimum}
+use Rattle.laws.specs.LocalSearch.{NoneBelow, Best, Minimum, Sifts, sift-best, chain-size, Rounds, round-lowers, Settles, spent, last, further, settles-follow, settles-moved, settles-limit, settles-minimum}
 use Rattle.laws.specs.Moving.{move-accepted, move-crossings}
 use Rattle.laws.specs.Sifting.{clockwise-once, clockwise-others, sift-least, sift-moved, Improved, improved-refl, improved-trans, sifted-order, sifted-crossings, sifted-improved, sifted-reduction, sifted-stays, sifted-still, sifted-less}
 
@@ -133,10 +133,11 @@ module _ (l : Layout) (t : T (valid l)) (u : ℕ) (h : u < l .n) where
         still-cost = sifted-still l t u h;
       }
 
-  -- the vertex that was sifted stands best
-  pub sifted-best : BestPlace (sifted l u) u
-  unfolding sifted reordered changed
-  sifted-best = best-place (sifted l u) (sifted-improved l t u h .valid-after) u h (sift-best vertices crossingsOf Valid candidateLayouts proper-sift)
+-- the vertex that was sifted stands at a best place
+pub best-sifted : {x : Sift Layout} → ProperSift x → (x .vertex < x .after .n) × BestPlace (x .after) (x .vertex)
+best-sifted {x} p =
+    let below : x .vertex < x .after .n = rw (p .same-size) (p .vertex-below) in
+    (below, best-place (x .after) (p .valid-after) (x .vertex) below (sift-best vertices crossingsOf Valid candidateLayouts p))
 
 -- ---- the sifts of a round
 
@@ -208,6 +209,18 @@ module _ (l : Layout) (t : T (valid l)) where
         counted = sifts-counted (upto (l .n)) l;
       }
 
+module _ {r : Round Layout} (p : ProperRound r) where
+  -- no round raises the crossings
+  pub round-no-more : crossingsOf (r .after) ≤ crossingsOf (r .before)
+  round-no-more = omega (arith, round-lowers vertices crossingsOf Valid candidateLayouts p)
+
+  -- it keeps the vertices, and sifts as many
+  pub round-size : r .after .n ≡ r .before .n
+  round-size = chain-size vertices crossingsOf Valid candidateLayouts (p .chain) (p .sifts)
+
+  pub round-length : length (siftsOfRound r) ≡ r .before .n
+  round-length = sym (length-map (siftsOfRound r) (λ (x : Sift Layout). x .vertex)) ∙ ap length (p .vertices) ∙ length-upto (r .before .n)
+
 -- ---- rounds until one moves no vertex
 
 -- rounds are not refused
@@ -264,9 +277,25 @@ unfolding roundsUpTo afterRound
 rounds-run zero l h = absurd (not-suc-le-zero h)
 rounds-run (suc limit) l h = suc-le-suc zero-le
 
--- settled: no vertex has a better place
-pub settled-minimum : (limit : ℕ) (l : Layout) → T (valid l) → roundsUpTo limit l .converged ≡ true → LocalMinimum (roundsUpTo limit l .layout)
-settled-minimum limit l t e =
-    let s = settling limit l t in
-    local-minimum (roundsUpTo limit l .layout) (s .improved .valid-after)
-    (settles-minimum vertices crossingsOf Valid candidateLayouts siftsOfRound (s .settles) (s .proper) e)
+module _ (limit : ℕ) (l : Layout) (t : T (valid l)) where
+  -- the rounds follow one another, and every one but the last moved a vertex
+  pub rounds-follow : Follow (λ (r : Round Layout). r .before) (λ r. r .after) l (roundsFrom limit l) (roundsUpTo limit l .layout)
+  rounds-follow = settles-follow vertices crossingsOf Valid candidateLayouts (settling limit l t .settles)
+
+  pub rounds-moved : All (λ (r : Round Layout). 0 < r .moved) (butLast (roundsFrom limit l))
+  rounds-moved = settles-moved vertices crossingsOf Valid candidateLayouts (settling limit l t .settles)
+
+  -- not settled: as many as the limit were run, and each moved a vertex
+  pub rounds-spent : roundsUpTo limit l .converged ≡ false
+      → (roundsUpTo limit l .rounds ≡ limit) × All (λ (r : Round Layout). 0 < r .moved) (roundsFrom limit l)
+  rounds-spent e =
+      let s = settling limit l t in
+      let all = settles-limit vertices crossingsOf Valid candidateLayouts (s .settles) e in
+      (s .number ∙ all .0, all .1)
+
+  -- settled: no vertex has a better place
+  pub settled-minimum : roundsUpTo limit l .converged ≡ true → LocalMinimum (roundsUpTo limit l .layout)
+  settled-minimum e =
+      let s = settling limit l t in
+      local-minimum (roundsUpTo limit l .layout) (s .improved .valid-after)
+      (settles-minimum vertices crossingsOf Valid candidateLayouts siftsOfRound (s .settles) (s .proper) e)

@@ -10,7 +10,7 @@ use mathlib.Core.List.{List}
 use lib.ListN.{length, getD, take, length-take}
 use lib.Seq.{getD-take}
 use borrow.Author.Tests.{le-leb, lt-leb, eq-eqb, ne-eqb, eqb-true}
-use lib.Dec.{T, eqb, leb, ltb, leb→le, ltb→lt, eqb→eq}
+use lib.Dec.{T, eqb, leb, ltb, leb→le, ltb→lt, lt→ltb, eqb→eq}
 use Rattle.model.specs.declared.Layout.{Layout}
 use Rattle.model.specs.Lists.{one, upto, every, occurrences}
 use Rattle.model.specs.Crossings.{bit, linked}
@@ -25,7 +25,7 @@ use Rattle.laws.specs.Permutations.{at, Permutation, at-lt, occurrences-
 use Rattle.laws.specs.Pairs.{pairSum, Symmetric}
 use Rattle.laws.specs.Counting.{crossingSum, placed, crossingSum-counted}
 use Rattle.laws.specs.EdgeCounts.{weight, crossings-sum}
-use Rattle.laws.specs.Bound.{sum-more, crossingSum-bound}
+use Rattle.laws.specs.Bound.{sum-more, mostCrossings, crossingSum-bound}
 
 -- a bit that is not 1 is 0
 pub not-one-bit : (b : ℕ) → b < 2 → eqb b 1 ≡ false → b ≡ 0
@@ -78,6 +78,30 @@ symmetric-weight n adj s d =
       diagonal = λ v a. not-one (linked adj v v) (every-upto (λ x. not (linked adj x x)) n d v a);
     }
 
+-- a test is its number
+one-same : (a b : Bool) → one a ≡ one b → T (Bool·beq a b)
+unfolding one
+one-same true true e = tt
+one-same true false e = absurd (omega arith)
+one-same false true e = absurd (omega arith)
+one-same false false e = tt
+
+not-zero : (b : Bool) → one b ≡ 0 → T (not b)
+unfolding one
+not-zero true e = absurd (omega arith)
+not-zero false e = tt
+
+module _ (n : ℕ) (adj : List ℕ) (s : Symmetric n (weight adj)) where
+  weight-symmetric : T (symmetric n adj)
+  unfolding symmetric
+  weight-symmetric =
+      upto-every (λ u. every (λ v. Bool·beq (linked adj u v) (linked adj v u)) (upto n)) n
+      (λ u a. upto-every (λ v. Bool·beq (linked adj u v) (linked adj v u)) n (λ v b. one-same (linked adj u v) (linked adj v u) (s .swap u v a b)))
+
+  weight-loopless : T (loopless n adj)
+  unfolding loopless
+  weight-loopless = upto-every (λ v. not (linked adj v v)) n (λ v a. not-zero (linked adj v v) (s .diagonal v a))
+
 -- the places from n on, one by one
 zero-from-upto : (n : ℕ) (xs : List ℕ) → zeroFrom n xs ≡ every (λ i. cond (leb n i) (eqb (getD xs i 0) 0) true) (upto capacity)
 unfolding zeroFrom
@@ -105,6 +129,7 @@ zero-from-fails n xs i b l d =
 pub record Sound (l : Layout) : Type 0 where
   pub small : l .n ≤ capacity
   pub permutation : Permutation (l .n) (vertexOrder l)
+  pub places : (i : ℕ) → l .n ≤ i → i < capacity → getD (l .order) i 0 ≡ 0
   pub symmetry : Symmetric (l .n) (weight (l .adjacency))
   pub bits : (v : ℕ) → v < capacity → getD (l .adjacency) v 0 < 2 ^ l .n
   pub unused : (v : ℕ) → l .n ≤ v → v < capacity → getD (l .adjacency) v 0 ≡ 0
@@ -118,11 +143,28 @@ sound l t =
           each-once (l .n) (take (l .n) (l .order))
           (le-trans (le-of-eq (length-take (l .n) (l .order))) (min-le-left (l .n) (length (l .order))))
           (search (and-left, and-right) depth 7);
+      places = zero-from-at (l .n) (l .order) (search (and-left, and-right) depth 7);
       symmetry =
           symmetric-weight (l .n) (l .adjacency) (search (and-left, and-right) depth 7) (search (and-left, and-right) depth 7);
       bits = λ v b. ltb→lt (getD (l .adjacency) v 0) (2 ^ l .n) (every-upto (λ v. ltb (getD (l .adjacency) v 0) (2 ^ l .n)) capacity (search (and-left, and-right) depth 7) v b);
       unused = zero-from-at (l .n) (l .adjacency) (search (and-left, and-right) depth 7);
     }
+
+-- and a layout with all that is valid
+pub sound-valid : (l : Layout) → Sound l → T (valid l)
+unfolding valid bitsBelow
+sound-valid l s =
+    rw (
+      le-leb (l .n) capacity (s .small),
+      T-true (eachOnce (l .n) (vertexOrder l)) (permutation-eachOnce (s .permutation)),
+      T-true (zeroFrom (l .n) (l .order)) (zero-from (l .n) (l .order) (s .places)),
+      T-true (symmetric (l .n) (l .adjacency)) (weight-symmetric (l .n) (l .adjacency) (s .symmetry)),
+      T-true (loopless (l .n) (l .adjacency)) (weight-loopless (l .n) (l .adjacency) (s .symmetry)),
+      T-true (bitsBelow (l .n) (l .adjacency))
+          (upto-every (λ v. ltb (getD (l .adjacency) v 0) (2 ^ l .n)) capacity (λ v b. lt→ltb (getD (l .adjacency) v 0) (2 ^ l .n) (s .bits v b))),
+      T-true (zeroFrom (l .n) (l .adjacency)) (zero-from (l .n) (l .adjacency) (s .unused)),
+    )
+    tt
 
 -- ---- the crossings of a valid layout
 
@@ -143,7 +185,7 @@ module _ (l : Layout) (t : T (valid l)) where
   crossings-counted = crossings-rising ∙ crossingSum-counted (l .n) (placeWeight l)
 
   -- "Most possible: 635,376"
-  pub crossings-bound : crossingsOf l ≤ 635376
+  pub crossings-bound : crossingsOf l ≤ mostCrossings
   crossings-bound =
       le-trans (le-of-eq crossings-rising)
       (crossingSum-bound (l .n) 1 (placeWeight l) (sound l t .small)

@@ -1,16 +1,18 @@
 -- Adding a vertex: the order holds one more, and it has no edges.
 use Prim.Native.Nat.{ℕ, suc, _+_, _<_}
+use native.Mathlib.Nat.{lt-of-lt-of-le}
 use native.Mathlib.Decide.{ℕ-discrete}
 use native.Mathlib.Numerals.{add-one}
 use native.Mathlib.Omega.{arith}
 use mathlib.Core.Path.{_≡_, sym, ap, _∙_}
 use mathlib.Core.List.{List, [], _∷_, _++_}
-use lib.ListN.{length, getD, set, length-append}
+use lib.ListN.{length, getD, take, set, length-append}
 use lib.Dec.{T, eqb}
-use lib.Seq.{take-suc-set}
+use lib.Seq.{take-suc-set, getD-set-other}
+use lib.Pow.{pow-mono}
 use Rattle.model.specs.declared.Layout.{Layout}
 use Rattle.model.specs.Lists.{one, occurrences}
-use Rattle.model.specs.Layouts.{vertexOrder, valid}
+use Rattle.model.specs.Layouts.{vertexOrder, valid, changed}
 use Rattle.model.specs.Edits.{added}
 use Rattle.laws.specs.Indicators.{less, same, more, order, one-eq, one-ne}
 use Rattle.laws.specs.Permutations.{occurrences-nil, occurrences-cons, occurrences-append, Permutation, none-beyond}
@@ -18,7 +20,7 @@ use Rattle.laws.specs.Pairs.{Symmetric}
 use Rattle.laws.specs.Bits.{bit-beyond}
 use Rattle.laws.specs.EdgeCounts.{weight}
 use Rattle.laws.specs.MaskCount.{weight-bit}
-use Rattle.laws.specs.Validity.{sound}
+use Rattle.laws.specs.Validity.{sound, sound-valid}
 use Rattle.laws.specs.Recount.{recounted, recounted-changed}
 
 -- one more vertex at the end
@@ -61,15 +63,30 @@ module _ (l : Layout) (t : T (valid l)) (room : l .n < 64) where
             elim (ℕ-discrete v (l .n)) [ yes e ↦ rw e (no-edge-from (l .n)) | no d ↦ sound l t .symmetry .diagonal v (omega arith) ];
       }
 
-  -- the layout with the vertex added, by the counter
-  pub added-recounted : length (l .order) ≡ 64 → {places : List ℕ} → places ≡ set (l .order) (l .n) (l .n)
-      → recounted l (l .n + 1) places (l .adjacency) ≡ added l
-  unfolding added vertexOrder
-  added-recounted size e =
-      rw (e, add-one (l .n))
-      (recounted-changed l (suc (l .n)) (set (l .order) (l .n) (l .n)) (l .adjacency) t
-      (record {
-        small = room;
-        permutation = rw (take-suc-set (l .order) (l .n) (l .n) (omega arith)) (permutation-more (sound l t .permutation));
-        symmetry = symmetric-more;
-      }))
+  module _ (size : length (l .order) ≡ 64) where
+    permutation-added : Permutation (suc (l .n)) (take (suc (l .n)) (set (l .order) (l .n) (l .n)))
+    unfolding vertexOrder
+    permutation-added = rw (take-suc-set (l .order) (l .n) (l .n) (omega arith)) (permutation-more (sound l t .permutation))
+
+    -- the layout with the vertex added is valid
+    pub added-valid : T (valid (added l))
+    unfolding added changed vertexOrder
+    added-valid =
+        let s = sound l t in
+        sound-valid (added l)
+        (record {
+          small = room;
+          permutation = permutation-added;
+          places = λ i h b. getD-set-other (l .order) (l .n) i (l .n) 0 (λ e. omega arith) ∙ s .places i (omega arith) b;
+          symmetry = symmetric-more;
+          bits = λ v b. lt-of-lt-of-le (s .bits v b) (pow-mono (omega arith));
+          unused = λ v h b. s .unused v (omega arith) b;
+        })
+
+    -- by the counter
+    pub added-recounted : {places : List ℕ} → places ≡ set (l .order) (l .n) (l .n) → recounted l (l .n + 1) places (l .adjacency) ≡ added l
+    unfolding added
+    added-recounted e =
+        rw (e, add-one (l .n))
+        (recounted-changed l (suc (l .n)) (set (l .order) (l .n) (l .n)) (l .adjacency) t
+        (record { small = room; permutation = permutation-added; symmetry = symmetric-more }))
