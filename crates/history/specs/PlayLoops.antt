@@ -104,7 +104,9 @@ module _ {start : Layout} {numbers table : List ℕ} {i : ℕ} {now : Layout} {a
         reached = e ∙ ap (λ (l : Layout). played l one) (p .reached) ∙ sym (played-append start earlier one) ∙ ap (played start) (sym more);
         answered =
             subst (λ (t : List ℕ). Written table 0 t then (4 * (i + 1)))
-            (ap (λ (l : Layout). answersOf start earlier ++ answersOf l one) (p .reached) ∙ sym (answers-append start earlier one) ∙ ap (answersOf start) (sym more))
+            (ap (λ (l : Layout). answersOf start earlier ++ answersOf l one) (p .reached)
+            ∙ sym (answers-append start earlier one)
+            ∙ ap (answersOf start) (sym more))
             (written-step (p .answered) (answersOf now one) fits w place);
       }
 

@@ -1,6 +1,6 @@
-use Prim.Native.Nat.{_+_, _*_, _-_, _≤_}
+use Prim.Native.Nat.{_-_}
 use native.Mathlib.Omega.{arith}
-use mathlib.Core.Path.{_≡_, sym, ap, _∙_}
+use mathlib.Core.Path.{_≡_}
 use lib.ListN.{length}
 use Rattle.laws.specs.Writing.{written-size}
 use Rattle.history.specs.CallLists.{calls-fit}
@@ -19,16 +19,18 @@ entry c = c .before .before .before
 
 -- the table keeps its length
 same-size : (c : tie.At-loop Inv-loop μ-loop) → length (c .loop .answers) ≡ length (entry c .args .answers .now)
-same-size c = let start = entry c in written-size (c .loop .inv .answered) (omega (arith, c .loop .inv .inside, start .pre))
+same-size c = written-size (c .loop .inv .answered) (omega (arith, c .loop .inv .inside, entry c .pre))
 
 loop-holds : tie.Need-loop-holds Inv-loop μ-loop
-loop-holds c = let a = c .before .before .args in played-start (a .l) (a .calls .now) (a .answers .now)
+loop-holds c = played-start _ _ _
 
 play-next-requires : tie.Need-play-next-requires Inv-loop μ-loop
 play-next-requires c κs =
     let turn = c .before in
-    let start = entry (turn .before) in
-    (omega (arith, calls-fit (start .args .calls .now), start .pre, turn .loop-test .taken), omega (arith, same-size (turn .before), start .pre, turn .loop-test .taken))
+    let start = entry (turn .before) in (
+      omega (arith, calls-fit (start .args .calls .now), start .pre, turn .loop-test .taken),
+      omega (arith, same-size (turn .before), start .pre, turn .loop-test .taken),
+    )
 
 add-i : tie.Need-add-i Inv-loop μ-loop
 add-i c = omega arith
@@ -41,16 +43,15 @@ loop-again c =
     let called = c .before .before in
     let turn = called .before .before in
     let start = entry (turn .before) in
-    played-next (turn .before .loop .inv) (omega (arith, start .pre, turn .loop-test .taken)) (omega (arith, start .pre, turn .loop-test .taken))
-    (called .play-next .ensures .0) (called .play-next .ensures .1)
+    let inside = turn .loop-test .taken in
+    let done = called .play-next .ensures in
+    played-next (turn .before .loop .inv) (omega (arith, start .pre, inside)) (omega (arith, start .pre, inside)) (done .0) (done .1)
 
 same-length : tie.Need-same-length Inv-loop μ-loop
 same-length c = same-size (c .before)
 
 returns : tie.Need-returns Inv-loop μ-loop
-returns c =
-    let start = entry (c .before) in
-    played-all (c .before .loop .inv) (start .pre .0) (c .loop-test .left)
+returns c = played-all (c .before .loop .inv) (entry (c .before) .pre .0) (c .loop-test .left)
 
 pub play-all-spec : {M : Type 1} → statement M
 play-all-spec =

@@ -1,12 +1,8 @@
+use borrow.Author.Needs.{needs}
 use mathlib.Core.Path.{sym, _∙_}
 use Rattle.history.specs.PlayLoops.{there-played, there-ended}
-use borrow.Author.Needs.{needs}
 use Rattle.history.proofs.playing.play_next.Statement.{statement}
 use Rattle.history.proofs.playing.play_next.Tie as tie
-
--- the start, from where the call has been read
-abbrev entry : tie.After-call-at → tie.Start
-entry c = c .before .before .before
 
 call-at-requires : tie.Need-call-at-requires
 call-at-requires c κs = search needs
@@ -18,10 +14,7 @@ enum-told : tie.Need-enum-told
 enum-told c = search needs
 
 returns : tie.Need-returns
-returns c =
-    let called = c .before .before in
-    let a = entry called .args in
-    there-ended (a .calls .now) (a .i) (a .l) (a .answers .now) (sym (called .call-at .ensures) ∙ c .enum-told .given .1)
+returns c = there-ended _ _ _ _ (sym (c .before .before .call-at .ensures) ∙ c .enum-told .given .1)
 
 step-requires : tie.Need-step-requires
 step-requires c κs = search needs
@@ -40,9 +33,7 @@ returns-2 c =
     let answered = c .before .before .before in
     let stepped = answered .before .before in
     let found = stepped .before .before in
-    let called = found .before .before in
-    let a = entry called .args in
-    there-played (a .calls .now) (a .i) (a .l) (a .answers .now) (sym (called .call-at .ensures) ∙ found .c .given .1) (stepped .step .ensures) (answered .put-answer .ensures)
+    there-played _ _ _ _ (sym (found .before .before .call-at .ensures) ∙ found .c .given .1) (stepped .step .ensures) (answered .put-answer .ensures)
 
 pub play-next-spec : {M : Type 1} → statement M
 play-next-spec =

@@ -45,7 +45,7 @@ same-length : tie.Need-same-length
 same-length c = search needs
 
 returns : tie.Need-returns
-returns c = let start = c .before in answer-written (start .args .a) (start .args .table .now) (start .args .at) (start .pre)
+returns c = answer-written _ _ _ (c .before .pre)
 
 pub put-answer-spec : {M : Type 1} → statement M
 put-answer-spec =
