@@ -1,0 +1,43 @@
+use borrow.Author.Needs.{needs}
+use Prim.Native.Nat.{_<_}
+use mathlib.Core.Path.{_≡_, sym, _∙_}
+use lib.Dec.{T}
+use Rattle.model.specs.declared.Appended.{Appended}
+use Rattle.model.specs.Checks.{refusal}
+use Rattle.model.specs.Layouts.{valid}
+use Rattle.model.specs.GreedyAppend.{layChecks, layOf}
+use Rattle.laws.specs.Refusals.{when-accepted, when-refused, vertex-passed}
+use Rattle.append.specs.Calls.{laidOf}
+use Rattle.append.proofs.appending.greedy_append.Statement.{statement}
+use Rattle.append.proofs.appending.greedy_append.Tie as tie
+
+-- every check has passed
+accepted : (c : tie.Else1) → let s = c .before .before .args in refusal (layChecks (s .l) (s .s)) ≡ 0
+unfolding layChecks
+accepted c = sym (c .before .vertex-refusal .ensures) ∙ c .if1 .left
+
+vertex-refusal-requires : tie.Need-vertex-refusal-requires
+vertex-refusal-requires c κs = search needs
+
+returns : tie.Need-returns
+unfolding layOf layChecks laidOf
+returns c =
+    let s = c .before .before .args in
+    sym
+    (when-refused (layChecks (s .l) (s .s)) (laidOf (s .l) (s .s)) (λ r. record { refusal = r; layout = s .l; tally = 0 })
+    (c .before .vertex-refusal .ensures) (c .if1 .taken))
+
+append-from-requires : tie.Need-append-from-requires
+unfolding layChecks
+append-from-requires c κs = let s = c .before .before .args in vertex-passed (s .l) (s .s) (accepted c)
+
+returns-2 : tie.Need-returns-2
+unfolding layOf laidOf
+returns-2 c =
+    let s = c .before .before .before .args in
+    c .append-from .ensures
+    ∙ sym (when-accepted (layChecks (s .l) (s .s)) (laidOf (s .l) (s .s)) (λ r. record { refusal = r; layout = s .l; tally = 0 }) (accepted (c .before)))
+
+pub greedy-append-spec : {M : Type 1} → statement M
+greedy-append-spec =
+    tie.close (tie.spec vertex-refusal-requires returns append-from-requires returns-2)

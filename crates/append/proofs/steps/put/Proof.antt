@@ -1,0 +1,41 @@
+use borrow.Author.Needs.{needs}
+use native.Mathlib.Omega.{arith}
+use mathlib.Core.Path.{_≡_, ap}
+use borrow.Author.Tests.{lt-ltb, le-ltb}
+use Prim.Native.Nat.{_+_}
+use Rattle.append.specs.declared.line.Line.{Line}
+use Rattle.append.specs.Steps.{putOf}
+use Rattle.append.proofs.steps.put.Statement.{statement}
+use Rattle.append.proofs.steps.put.Tie as tie
+
+put-front-requires : tie.Need-put-front-requires
+put-front-requires c κs = search needs
+
+add-t7 : tie.Need-add-t7
+add-t7 c = search needs
+
+returns : tie.Need-returns
+unfolding putOf
+returns c =
+    let put = c .before .before in
+    let s = put .before .before .before .args in
+    rw (lt-ltb (s .ends .front) (s .ends .back) (omega (arith, put .before .if1 .taken)))
+    (ap (λ (l : Line). record { line = l; placed = s .placed; tally = s .s .tally + s .ends .front }) (put .put-front .ensures))
+
+put-back-requires : tie.Need-put-back-requires
+put-back-requires c κs = search needs
+
+add-t9 : tie.Need-add-t9
+add-t9 c = search needs
+
+returns-2 : tie.Need-returns-2
+unfolding putOf
+returns-2 c =
+    let put = c .before .before in
+    let s = put .before .before .before .args in
+    rw (le-ltb (s .ends .front) (s .ends .back) (omega (arith, put .before .if1 .left)))
+    (ap (λ (l : Line). record { line = l; placed = s .placed; tally = s .s .tally + s .ends .back }) (put .put-back .ensures))
+
+pub put-spec : {M : Type 1} → statement M
+put-spec =
+    tie.close (tie.spec put-front-requires add-t7 returns put-back-requires add-t9 returns-2)

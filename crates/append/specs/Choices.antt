@@ -1,0 +1,139 @@
+-- The next vertex, found by going through all vertices with counts under the set of the placed ones and under its complement.
+use Prim.Native.Nat.{ℕ, zero, suc, _+_, _*_, _-_, _^_, _≤_, _<_}
+use native.Mathlib.Nat.{le-antisymm, le-refl, le-of-lt, le-of-eq, le-trans}
+use native.Mathlib.Numerals.{add-one}
+use native.Mathlib.Omega.{arith}
+use mathlib.Core.Path.{_≡_, refl, sym, ap, ap₂, _∙_}
+use mathlib.Core.Bool.{Bool, true, false, not, cond, _&&_, _||_}
+use mathlib.Core.List.{List, [], _∷_, _++_}
+use lib.ListN.{getD}
+use lib.Dec.{eqb, ltb}
+use borrow.Author.Tests.{lt-ltb}
+use Rattle.model.specs.Lists.{upto, keep, member}
+use Rattle.model.specs.Crossings.{bit}
+use Rattle.model.specs.GreedyAppend.{unplaced, degreeIn, preferred, bestOf, nextVertex}
+use Rattle.laws.specs.Bits.{maskedOnes, maskedOnes-le}
+use Rattle.laws.specs.AppendOrder.{Placed}
+use Rattle.append.specs.declared.choice.Choice.{Choice}
+use Rattle.append.specs.Masks.{complement, Held, Words, placed-test, inside-count, outside-count}
+
+-- a comes before b
+unfoldable pub comesBefore : Choice → Choice → Bool
+comesBefore a b = ltb (b .placed) (a .placed) || eqb (a .placed) (b .placed) && ltb (a .unplaced) (b .unplaced)
+
+unfoldable pub preferredOf : Choice → Choice → Choice
+preferredOf best other = cond (comesBefore other best) other best
+
+unfoldable pub candidate : ℕ → ℕ → ℕ → Choice
+candidate v word placed = record { vertex = v; placed = maskedOnes word placed; unplaced = maskedOnes word (complement placed) }
+
+unfoldable pub consideredOf : Choice → ℕ → ℕ → ℕ → Choice
+consideredOf best v word placed = cond (eqb (bit placed v) 1) best (preferredOf best (candidate v word placed))
+
+-- every candidate is preferred to none
+unfoldable pub noChoice : Choice
+noChoice = record { vertex = 0; placed = 0; unplaced = 65 }
+
+-- the best of the vertices below k
+unfoldable pub bestBelow : List ℕ → ℕ → ℕ → Choice
+bestBelow adj placed zero = noChoice
+bestBelow adj placed (suc k) = consideredOf (bestBelow adj placed k) k (getD adj k 0) placed
+
+-- ---- the loop over the vertices
+
+pub record BestUpTo (n : ℕ) (adj : List ℕ) (placed : ℕ) (best : Choice) (k : ℕ) : Type 0 where
+  pub inside : k ≤ n
+  pub found : best ≡ bestBelow adj placed k
+
+module _ {n : ℕ} {adj : List ℕ} {placed : ℕ} where
+  pub best-start : BestUpTo n adj placed (record { vertex = 0; placed = 0; unplaced = 65 }) 0
+  unfolding bestBelow noChoice
+  best-start = record { inside = omega arith; found = refl }
+
+  pub best-more : {best next : Choice} {k : ℕ} → BestUpTo n adj placed best k → k < n → next ≡ consideredOf best k (getD adj k 0) placed
+      → BestUpTo n adj placed next (k + 1)
+  unfolding bestBelow
+  best-more {best} {next} {k} b h e =
+      rw (add-one k) (record { inside = h; found = e ∙ ap (λ (c : Choice). consideredOf c k (getD adj k 0) placed) (b .found) })
+
+  pub best-end : {best : Choice} {k : ℕ} → BestUpTo n adj placed best k → n ≤ k → best ≡ bestBelow adj placed n
+  best-end {best} {k} b h = b .found ∙ ap (bestBelow adj placed) (le-antisymm (b .inside) h)
+
+-- ---- the next vertex
+
+keep-snoc : (p : ℕ → Bool) (xs : List ℕ) (x : ℕ) → keep p (xs ++ (x ∷ [])) ≡ cond (p x) (keep p xs ++ (x ∷ [])) (keep p xs)
+unfolding keep
+keep-snoc p [] x = refl
+keep-snoc p (y ∷ xs) x = ap (λ (ys : List ℕ). cond (p y) (y ∷ ys) ys) (keep-snoc p xs x) ∙ by-tests (p y) (p x)
+  where
+    by-tests : (a b : Bool)
+        → cond a (y ∷ cond b (keep p xs ++ (x ∷ [])) (keep p xs)) (cond b (keep p xs ++ (x ∷ [])) (keep p xs))
+        ≡ cond b (cond a (y ∷ keep p xs) (keep p xs) ++ (x ∷ [])) (cond a (y ∷ keep p xs) (keep p xs))
+    by-tests true true = refl
+    by-tests true false = refl
+    by-tests false true = refl
+    by-tests false false = refl
+
+module _ (n : ℕ) (adj xs : List ℕ) where
+  -- a vertex with the counts of the definition
+  counts : ℕ → Choice
+  counts v = record { vertex = v; placed = degreeIn adj v xs; unplaced = degreeIn adj v (unplaced n xs) }
+
+  choiceOf : List ℕ → Choice
+  choiceOf [] = noChoice
+  choiceOf (v ∷ vs) = counts (bestOf n adj xs v vs)
+
+  choice-vertex : (vs : List ℕ) → choiceOf vs .vertex ≡ nextVertex n adj xs vs
+  unfolding choiceOf counts noChoice nextVertex
+  choice-vertex [] = refl
+  choice-vertex (v ∷ vs) = refl
+
+  bestOf-snoc : (b : ℕ) (vs : List ℕ) (v : ℕ)
+      → bestOf n adj xs b (vs ++ (v ∷ [])) ≡ cond (preferred n adj xs v (bestOf n adj xs b vs)) v (bestOf n adj xs b vs)
+  unfolding bestOf
+  bestOf-snoc b [] v = refl
+  bestOf-snoc b (u ∷ vs) v = bestOf-snoc (cond (preferred n adj xs u b) u b) vs v
+
+  choice-snoc : (vs : List ℕ) (k : ℕ) → degreeIn adj k (unplaced n xs) ≤ 64 → preferredOf (choiceOf vs) (counts k) ≡ choiceOf (vs ++ (k ∷ []))
+  unfolding preferredOf comesBefore choiceOf counts noChoice bestOf preferred
+  choice-snoc [] k h = ap (λ (b : Bool). cond b (counts k) noChoice) (first (degreeIn adj k xs))
+    where
+      first : (d : ℕ) → (ltb 0 d || eqb d 0 && ltb (degreeIn adj k (unplaced n xs)) 65) ≡ true
+      first zero = lt-ltb (degreeIn adj k (unplaced n xs)) 65 (omega arith)
+      first (suc d) =
+          ap (λ (b : Bool). b || eqb (suc d) 0 && ltb (degreeIn adj k (unplaced n xs)) 65) (lt-ltb 0 (suc d) (omega arith))
+  choice-snoc (v ∷ vs) k h =
+      by-test (preferred n adj xs k (bestOf n adj xs v vs)) ∙ ap counts (sym (bestOf-snoc v vs k))
+    where
+      by-test : (b : Bool) → cond b (counts k) (counts (bestOf n adj xs v vs)) ≡ counts (cond b k (bestOf n adj xs v vs))
+      by-test true = refl
+      by-test false = refl
+
+module _ {n : ℕ} {adj : List ℕ} (w : Words n adj) {xs : List ℕ} (p : Placed n xs) {m : ℕ} (h : Held m xs) where
+  candidate-counts : (v : ℕ) → v < n → candidate v (getD adj v 0) m ≡ counts n adj xs v
+  unfolding candidate counts
+  candidate-counts v l =
+      ap₂ (λ (a b : ℕ). record { vertex = v; placed = a; unplaced = b }) (inside-count w p h v) (outside-count w p h v l)
+
+  best-choice : (k : ℕ) → k ≤ n → bestBelow adj m k ≡ choiceOf n adj xs (keep (λ v. not (member v xs)) (upto k))
+  unfolding bestBelow choiceOf upto keep consideredOf
+  best-choice zero l = refl
+  best-choice (suc k) l =
+      ap (λ (c : Choice). consideredOf c k (getD adj k 0) m) (best-choice k (le-of-lt l))
+      ∙ ap₂ (λ (t : Bool) (c : Choice). cond t so-far (preferredOf so-far c)) (placed-test w p h k l) (candidate-counts k l)
+      ∙ by-test (member k xs)
+      ∙ ap (choiceOf n adj xs) (sym (keep-snoc (λ v. not (member v xs)) (upto k) k))
+    where
+      free : List ℕ
+      free = keep (λ v. not (member v xs)) (upto k)
+
+      so-far : Choice
+      so-far = choiceOf n adj xs free
+
+      by-test : (b : Bool) → cond b so-far (preferredOf so-far (counts n adj xs k)) ≡ choiceOf n adj xs (cond (not b) (free ++ (k ∷ [])) free)
+      by-test true = refl
+      by-test false = choice-snoc n adj xs free k (le-trans (le-of-eq (sym (outside-count w p h k l))) (maskedOnes-le (getD adj k 0) (complement m)))
+
+  pub best-next : bestBelow adj m n .vertex ≡ nextVertex n adj xs (unplaced n xs)
+  unfolding unplaced
+  best-next = ap (λ (c : Choice). c .vertex) (best-choice n (le-refl n)) ∙ choice-vertex n adj xs (unplaced n xs)

@@ -1,0 +1,7 @@
+-- The loops and steps of greedy append: what they go through, and that it is what the definition says.
+pub mod Lines
+pub mod Masks
+pub mod Ends
+pub mod Choices
+pub mod Steps
+pub mod Calls

@@ -1,0 +1,44 @@
+// The call (document 01: lay).
+ghost use mathlib.Core.Path.{_≡_};
+ghost use Prim.Native.Nat.{_<_};
+ghost use lib.Dec.{T};
+ghost use Rattle.model.specs.Layouts.{valid};
+ghost use Rattle.model.specs.GreedyAppend.{layOf};
+ghost use Rattle.append.specs.Calls.{laidOf};
+use super::line::written;
+use super::steps::place_all;
+use layout::recounted;
+use layout::vertex_refusal;
+use model::Appended;
+use model::Layout;
+
+pub fn greedy_append(l: Layout, s: usize) -> Appended
+    ensures { λ r. ⌜ r ≡ layOf l s ⌝ }
+{
+    let refusal = vertex_refusal(l, s);
+    if refusal != 0 {
+        return Appended {
+            refusal,
+            layout: l,
+            tally: 0,
+        };
+    }
+    append_from(l, s)
+}
+
+// A call whose checks have passed.
+fn append_from(l: Layout, s: usize) -> Appended
+    requires { ⌜ T (valid l) × (s < l .n) ⌝ }
+    ensures { λ r. ⌜ r ≡ laidOf l s ⌝ }
+{
+    let n = l.n;
+    let before = l.order;
+    let adjacency = l.adjacency;
+    let done = place_all(n, &adjacency, s);
+    let order = written(done.line, before);
+    Appended {
+        refusal: 0,
+        layout: recounted(l, n, order, adjacency),
+        tally: done.tally,
+    }
+}

@@ -1,0 +1,59 @@
+// The crossings that the next vertex makes at either end.
+ghost use mathlib.Core.Path.{_≡_};
+ghost use Prim.Native.Nat.{_≤_, _<_};
+ghost use lib.ListN.{length};
+ghost use lib.Dec.{eqb};
+ghost use Rattle.model.specs.Lists.{one};
+ghost use Rattle.model.specs.Crossings.{bit};
+ghost use Rattle.laws.specs.ListSums.{All};
+ghost use Rattle.append.specs.Ends.{passedOf, endsOf, Small};
+
+// The crossings of a closing edge with an open one: at the front, where the open one starts before
+// the other, and at the back; and how many closing and open edges were met.
+pub struct Ends {
+    pub front: u32,
+    pub back: u32,
+    pub closing: u32,
+    pub opening: u32,
+}
+
+// Goes once through the placed vertices. word is the adjacency word of the vertex to be placed, and
+// others holds the unplaced vertices without it.
+pub(crate) fn end_crossings(placed: &[u8], adjacency: &[u64; 64], word: u64, others: u64) -> Ends
+    requires { ⌜ All (λ p. p < 64) (now placed) × (length (now placed) ≤ 64) ⌝ }
+    ensures { λ r. ⌜ r ≡ endsOf (now (adjacency .entry)) word others (now (placed .entry)) ⌝ }
+{
+    let mut met = Ends {
+        front: 0,
+        back: 0,
+        closing: 0,
+        opening: 0,
+    };
+    let mut i = 0;
+    while i < placed.len() {
+        let p = placed[i] as usize;
+        met = passed(met, closing_at(word, p), words::count(adjacency[p], others));
+        i += 1;
+    }
+    met
+}
+
+// One more placed vertex, with its closing and its open edges.
+fn passed(met: Ends, closing: u32, opening: u32) -> Ends
+    requires { ⌜ Small met 64 × (closing ≤ 1) × (opening ≤ 64) ⌝ }
+    ensures { λ r. ⌜ r ≡ passedOf met closing opening ⌝ }
+{
+    Ends {
+        front: met.front + closing * met.opening,
+        back: met.back + met.closing * opening,
+        closing: met.closing + closing,
+        opening: met.opening + opening,
+    }
+}
+
+// 1 if the word has an edge to p.
+fn closing_at(word: u64, p: usize) -> u32
+    ensures { λ r. ⌜ r ≡ one (eqb (bit word p) 1) ⌝ }
+{
+    if words::is_set(word, p) { 1 } else { 0 }
+}

@@ -1,0 +1,8 @@
+// Greedy append (document 01: lay). One file for each subject.
+mod appending;
+mod choice;
+mod ends;
+mod line;
+mod steps;
+
+pub use appending::greedy_append;
