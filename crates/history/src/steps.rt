@@ -2,18 +2,17 @@
 ghost use mathlib.Core.Path.{_≡_};
 ghost use Rattle.model.specs.Sifting.{settleOf};
 ghost use Rattle.model.specs.Histories.{answerOf};
-ghost use Rattle.model.specs.GreedyAppend.{layOf};
 use super::outcomes::of_added;
 use super::outcomes::of_appended;
 use super::outcomes::of_changed;
 use super::outcomes::of_converged;
 use super::outcomes::of_rounded;
 use super::outcomes::of_sifted;
+use append::greedy_append;
 use layout::add_edge;
 use layout::add_vertex;
 use layout::move_after;
 use layout::remove_edge;
-use model::Appended;
 use model::Call;
 use model::Converged;
 use model::Layout;
@@ -45,14 +44,4 @@ fn converge_within(l: Layout, limit: usize) -> Converged
         return converge(l, 1001);
     }
     converge(l, limit as u32)
-}
-
-fn greedy_append(l: Layout, s: usize) -> Appended
-    ensures { λ r. ⌜ r ≡ layOf l s ⌝ }
-{
-    Appended {
-        refusal: 11,
-        layout: l,
-        tally: 0,
-    }
 }
