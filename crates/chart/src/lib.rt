@@ -82,12 +82,7 @@ fn refused(code: u8) -> ChartRead
 {
     ChartRead {
         refusal: code,
-        layout: Layout {
-            n: 0,
-            order: [0u8; 64],
-            adjacency: [0u64; 64],
-            count: 0,
-        },
+        layout: layout::empty(),
     }
 }
 

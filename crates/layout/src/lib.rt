@@ -8,6 +8,7 @@ mod edges;
 mod moves;
 mod reading;
 mod recount;
+mod start;
 mod validity;
 mod vertices;
 
@@ -22,5 +23,6 @@ pub use moves::place_of;
 pub use reading::count;
 pub use reading::order;
 pub use recount::recounted;
+pub use start::empty;
 pub use validity::is_valid;
 pub use vertices::add_vertex;

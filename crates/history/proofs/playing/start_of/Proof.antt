@@ -1,0 +1,38 @@
+use mathlib.Core.Path.{sym, ap, _∙_}
+use Rattle.model.specs.declared.Layout.{Layout}
+use Rattle.model.specs.declared.Origin.{Origin}
+use Rattle.model.specs.Playing.{startOf}
+use borrow.Author.Needs.{needs}
+use Rattle.history.proofs.playing.start_of.Statement.{statement}
+use Rattle.history.proofs.playing.start_of.Tie as tie
+
+enum-told : tie.Need-enum-told
+enum-told c = search needs
+
+empty-requires : tie.Need-empty-requires
+empty-requires c κs = search needs
+
+enum-told-2 : tie.Need-enum-told-2
+enum-told-2 c = search needs
+
+read-requires : tie.Need-read-requires
+read-requires c κs = search needs
+
+returns : tie.Need-returns
+unfolding startOf
+returns c =
+    let told = c .before in
+    let chart = told .before .before .before .args .chart .now in
+    ap (λ (l : Layout). record { refusal = 0; layout = l }) (c .empty .ensures)
+    ∙ ap (λ (o : Origin). startOf o chart) (sym (told .enum-told .given .1))
+
+returns-2 : tie.Need-returns-2
+unfolding startOf
+returns-2 c =
+    let told = c .before in
+    let chart = told .before .before .before .args .chart .now in
+    c .read .ensures ∙ ap (λ (o : Origin). startOf o chart) (sym (told .enum-told2 .given .1))
+
+pub start-of-spec : {M : Type 1} → statement M
+start-of-spec =
+    tie.close (tie.spec enum-told empty-requires enum-told-2 read-requires returns returns-2)

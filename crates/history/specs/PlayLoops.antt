@@ -1,0 +1,121 @@
+-- Calls played one after the other, and their answers in the table.
+use Prim.Native.Nat.{ℕ, zero, suc, _+_, _*_, _≤_, _<_}
+use native.Mathlib.Omega.{arith}
+use mathlib.Core.Path.{_≡_, refl, sym, ap, ap₂, _∙_, subst}
+use mathlib.Core.List.{List, [], _∷_, _++_, flatMap, append-assoc}
+use lib.ListN.{length, take, drop, set, length-append}
+use lib.Seq.{take-all}
+use Rattle.model.specs.declared.Layout.{Layout}
+use Rattle.model.specs.declared.Outcome.{Outcome}
+use Rattle.model.specs.declared.Call.{Call}
+use Rattle.model.specs.Histories.{Step, answerOf, steps, played}
+use Rattle.model.specs.declared.Decoded.the-variants as decoded
+use Rattle.model.specs.Playing.{firstCall, callsOf, answerNumbers, answersOf}
+use Rattle.laws.specs.Writing.{written, Written, written-none, written-nothing, written-byte, written-step, written-size, written-whole}
+use Rattle.history.specs.CallLists.{callThere, there-next, there-end, next-call, there-size}
+
+-- ---- one answer
+
+-- one number more
+number-written : {start : List ℕ} {base : ℕ} {s bytes : List ℕ} {at : ℕ} → Written start base s bytes at → (x : ℕ) {place : ℕ} → place ≡ at → at < length start
+    → Written start base (s ++ (x ∷ [])) (set bytes place x) (place + 1)
+number-written {bytes} {at} w x {place} e h =
+    let size = written-size w (omega arith) in
+    written-step w (x ∷ []) (omega arith) (written-byte bytes place x (omega arith) ∙ ap (λ (k : ℕ). written bytes k (x ∷ [])) e) (omega arith)
+
+-- the four of an answer
+pub answer-written : (a : Outcome) (table : List ℕ) (at : ℕ) → at + 4 ≤ length table
+    → set (set (set (set table at (a .refusal)) (at + 1) (a .first)) (at + 2) (a .second)) (at + 3) (a .third) ≡ written table at (answerNumbers a)
+unfolding answerNumbers
+answer-written a table at h =
+    let w₁ = number-written (written-none table at) (a .refusal) refl (omega arith) in
+    let w₂ = number-written w₁ (a .first) refl (omega arith) in
+    let w₃ = number-written w₂ (a .second) {place = at + 2} (omega arith) (omega arith) in
+    let w₄ = number-written w₃ (a .third) {place = at + 3} (omega arith) (omega arith) in
+    w₄ .held
+
+-- ---- calls behind calls
+
+pub played-append : (l : Layout) (xs ys : List Call) → played l (xs ++ ys) ≡ played (played l xs) ys
+unfolding played
+played-append l [] ys = refl
+played-append l (x ∷ xs) ys = played-append (answerOf l x .layout) xs ys
+
+answers-append : (l : Layout) (xs ys : List Call) → answersOf l (xs ++ ys) ≡ answersOf l xs ++ answersOf (played l xs) ys
+unfolding answersOf steps played flatMap
+answers-append l [] ys = refl
+answers-append l (x ∷ xs) ys =
+    ap (λ (t : List ℕ). answerNumbers (answerOf l x) ++ t) (answers-append (answerOf l x .layout) xs ys)
+    ∙ sym (append-assoc (answerNumbers (answerOf l x)) (answersOf (answerOf l x .layout) xs) (answersOf (played (answerOf l x .layout) xs) ys))
+
+answers-length : (l : Layout) (cs : List Call) → length (answersOf l cs) ≡ 4 * length cs
+unfolding answersOf steps flatMap answerNumbers
+answers-length l [] = refl
+answers-length l (c ∷ cs) = let rest = answers-length (answerOf l c .layout) cs in omega arith
+
+-- ---- the call at a place
+
+module _ (s : List ℕ) (i : ℕ) (l : Layout) (table : List ℕ) where
+  -- played, and its answer written
+  pub there-played : {c : Call} → firstCall (drop (3 * i) s) ≡ decoded.Next c → {a : Outcome} → a ≡ answerOf l c
+      → {after : List ℕ} → after ≡ written table (4 * i) (answerNumbers a)
+      → (a .layout ≡ played l (callThere s i)) × (after ≡ written table (4 * i) (answersOf l (callThere s i)))
+  unfolding played answersOf steps flatMap answerNumbers
+  there-played {c} e {a} q w =
+      let one = there-next s i e in (
+        ap (λ (x : Outcome). x .layout) q ∙ ap (played l) (sym one),
+        w ∙ ap (λ (x : Outcome). written table (4 * i) (answerNumbers x)) q ∙ ap (λ (cs : List Call). written table (4 * i) (answersOf l cs)) (sym one),
+      )
+
+  -- none there
+  pub there-ended : firstCall (drop (3 * i) s) ≡ decoded.End
+      → (l ≡ played l (callThere s i)) × (table ≡ written table (4 * i) (answersOf l (callThere s i)))
+  unfolding played answersOf steps flatMap
+  there-ended e =
+      let none = there-end s i e in (
+        ap (played l) (sym none),
+        sym (written-nothing table (4 * i)) ∙ ap (λ (cs : List Call). written table (4 * i) (answersOf l cs)) (sym none),
+      )
+
+-- ---- the loop
+
+-- the first i of the calls that the numbers are have been played, and their answers stand at the front of the table
+pub record PlayedUpTo (start : Layout) (numbers table : List ℕ) (i : ℕ) (now : Layout) (after : List ℕ) : Type 0 where
+  pub inside : i ≤ length (callsOf numbers)
+  pub reached : now ≡ played start (take i (callsOf numbers))
+  pub answered : Written table 0 (answersOf start (take i (callsOf numbers))) after (4 * i)
+
+pub played-start : (start : Layout) (numbers table : List ℕ) → PlayedUpTo start numbers table 0 start table
+unfolding played answersOf steps flatMap
+played-start start numbers table = record { inside = omega arith; reached = refl; answered = written-none table 0 }
+
+module _ {start : Layout} {numbers table : List ℕ} {i : ℕ} {now : Layout} {after : List ℕ} (p : PlayedUpTo start numbers table i now after) where
+  pub played-next : {next : Layout} {then : List ℕ} → i < length (callsOf numbers) → 4 * i ≤ length table
+      → next ≡ played now (callThere numbers i)
+      → then ≡ written after (4 * i) (answersOf now (callThere numbers i))
+      → PlayedUpTo start numbers table (i + 1) next then
+  played-next {next} {then} h fits e w =
+      let earlier = take i (callsOf numbers) in
+      let one = callThere numbers i in
+      let more = next-call numbers i h in
+      let place : 4 * (i + 1) ≡ 4 * i + length (answersOf now one) = omega (arith, answers-length now one, there-size numbers h) in
+      record {
+        inside = omega arith;
+        reached = e ∙ ap (λ (l : Layout). played l one) (p .reached) ∙ sym (played-append start earlier one) ∙ ap (played start) (sym more);
+        answered =
+            subst (λ (t : List ℕ). Written table 0 t then (4 * (i + 1)))
+            (ap (λ (l : Layout). answersOf start earlier ++ answersOf l one) (p .reached)
+            ∙ sym (answers-append start earlier one)
+            ∙ ap (answersOf start) (sym more))
+            (written-step (p .answered) (answersOf now one) fits w place);
+      }
+
+  pub played-all : {count : ℕ} → count ≡ length (callsOf numbers) → count ≤ i
+      → (now ≡ played start (callsOf numbers)) × (after ≡ answersOf start (callsOf numbers) ++ drop (4 * count) table)
+  played-all {count} k h =
+      let all = take-all i (callsOf numbers) (omega arith) in
+      let whole = written-whole (p .answered) in
+      let place : length (answersOf start (take i (callsOf numbers))) ≡ 4 * count = omega (arith, whole .1, p .inside) in (
+        p .reached ∙ ap (played start) all,
+        whole .0 ∙ ap₂ (λ (t : List ℕ) (j : ℕ). t ++ drop j table) (ap (answersOf start) all) place,
+      )

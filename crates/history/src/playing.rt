@@ -1,0 +1,90 @@
+// A list of calls played from the empty layout or from a chart.
+ghost use mathlib.Core.Path.{_≡_};
+ghost use mathlib.Core.List.{_++_};
+ghost use Prim.Native.Nat.{_+_, _*_, _≤_};
+ghost use lib.ListN.{length, drop};
+ghost use Rattle.model.specs.Histories.{played};
+ghost use Rattle.model.specs.Playing.{callsOf, answersOf, startOf, playOf, tableOf};
+ghost use Rattle.laws.specs.Writing.{written};
+ghost use Rattle.history.specs.CallLists.{callThere};
+use super::calls::call_at;
+use super::calls::count_calls;
+use super::steps::step;
+use super::table::put_answer;
+use model::ChartRead;
+use model::Decoded;
+use model::Layout;
+use model::Origin;
+use model::Played;
+
+// Plays the calls, and writes the answer of each into the table. Refused where the chart is, and with
+// 18 where the table is too short for the answers: nothing is then played or written.
+pub fn play(origin: Origin, chart: &[u8], calls: &[u64], answers: &mut [u64]) -> Played
+    ensures returned { λ r. ⌜ r ≡ playOf origin (now (chart .entry)) (now (calls .entry)) (length (now (answers .entry))) ⌝ }
+    ensures table { λ r. ⌜ now (answers .exit) ≡ tableOf origin (now (chart .entry)) (now (calls .entry)) (now (answers .entry)) ⌝ }
+{
+    let start = start_of(origin, chart);
+    let refusal = start.refusal;
+    let layout = start.layout;
+    if refusal != 0 {
+        return Played {
+            refusal,
+            layout,
+            calls: 0,
+        };
+    }
+    let count = count_calls(calls);
+    if answers.len() / 4 < count {
+        return Played {
+            refusal: 18,
+            layout,
+            calls: 0,
+        };
+    }
+    Played {
+        refusal: 0,
+        layout: play_all(layout, calls, count, answers),
+        calls: count,
+    }
+}
+
+fn start_of(origin: Origin, chart: &[u8]) -> ChartRead
+    ensures { λ r. ⌜ r ≡ startOf origin (now (chart .entry)) ⌝ }
+{
+    match origin {
+        Origin::Empty => ChartRead {
+            refusal: 0,
+            layout: layout::empty(),
+        },
+        Origin::Chart => chart::read(chart),
+    }
+}
+
+// The first count calls, which are all.
+fn play_all(l: Layout, calls: &[u64], count: usize, answers: &mut [u64]) -> Layout
+    requires { ⌜ (count ≡ length (callsOf (now calls))) × (4 * count ≤ length (now answers)) ⌝ }
+    ensures { λ r. ⌜ r ≡ played l (callsOf (now (calls .entry))) ⌝ }
+    ensures { λ r. ⌜ now (answers .exit) ≡ answersOf l (callsOf (now (calls .entry))) ++ drop (4 * count) (now (answers .entry)) ⌝ }
+{
+    let mut layout = l;
+    let mut i = 0;
+    while i < count {
+        layout = play_next(layout, calls, i, answers);
+        i += 1;
+    }
+    layout
+}
+
+// Call i, and its answer into the table.
+fn play_next(l: Layout, calls: &[u64], i: usize, answers: &mut [u64]) -> Layout
+    requires { ⌜ (3 * i + 3 ≤ length (now calls)) × (4 * i + 4 ≤ length (now answers)) ⌝ }
+    ensures { λ r. ⌜ r ≡ played l (callThere (now (calls .entry)) i) ⌝ }
+    ensures { λ r. ⌜ now (answers .exit) ≡ written (now (answers .entry)) (4 * i) (answersOf l (callThere (now (calls .entry)) i)) ⌝ }
+{
+    let Decoded::Next(c) = call_at(calls, i) else {
+        return l;
+    };
+    let answer = step(l, c);
+    put_answer(answer, answers, 4 * i);
+    answer.layout
+}
