@@ -1,18 +1,25 @@
 -- What playing a list of calls answers, case by case.
 use Prim.Native.Nat.{ℕ, _*_, _/_, _≤_, _<_}
 use native.Mathlib.Omega.{arith}
-use mathlib.Core.Path.{_≡_, sym, ap₂, _∙_}
-use mathlib.Core.List.{List, [], _∷_, _++_}
+use native.Mathlib.Decide.{ℕ-discrete}
+use mathlib.Core.Path.{_≡_, sym, ap, ap₂, _∙_, subst}
+use mathlib.Core.List.{List, [], _∷_, _++_, flatMap}
 use lib.ListN.{length, drop}
 use borrow.Author.Tests.{le-leb, lt-leb, eq-eqb, ne-eqb}
 use Rattle.model.specs.declared.Layout.{Layout}
 use Rattle.model.specs.declared.ChartRead.{ChartRead}
 use Rattle.model.specs.declared.Played.{Played}
 use Rattle.model.specs.declared.Origin.{Origin}
-use Rattle.model.specs.Checks.{refusal, checked}
-use Rattle.model.specs.Histories.{played}
-use Rattle.model.specs.Playing.{callsOf, answersOf, startOf, playChecks, playOf, tableOf}
+use Rattle.model.specs.declared.Origin.the-variants as origin
+use Rattle.model.specs.declared.Call.{Call}
+use Rattle.model.specs.Checks.{refusal}
+use Rattle.model.specs.Charts.{readOf}
+use Rattle.model.specs.Histories.{Start, empty, read, steps, played}
+use Rattle.model.specs.Playing.{callsOf, answersOf, startOf, playChecks, playedCalls, playOf, tableOf}
 use Rattle.laws.specs.Refusals.{when-accepted, when-refused}
+use Rattle.laws.specs.ChartReading.{refusedRead}
+use Rattle.laws.specs.ChartLaws.{read-refused}
+use Rattle.history.specs.Demand3.{Demand3, demand-3}
 
 -- what comes back and the table are those of the definition
 pub record Answered (from : Origin) (chart numbers table : List ℕ) (r : Played) (after : List ℕ) : Type 0 where
@@ -23,12 +30,22 @@ abbrev pub notPlayed : ℕ → Layout → Played
 notPlayed r l = record { refusal = r; layout = l; calls = 0 }
 
 module _ (from : Origin) (chart numbers table : List ℕ) where
+  -- what comes back and the table, by the calls that are played
+  abbrev ends : ℕ → List Call → Played
+  ends r cs = record { refusal = r; layout = played (startOf from chart .layout) cs; calls = length cs }
+
+  abbrev tableWith : List Call → List ℕ
+  tableWith cs = answersOf (startOf from chart .layout) cs ++ drop (4 * length cs) table
+
+  by-calls : {r : ℕ} {cs : List Call} → r ≡ refusal (playChecks from chart numbers (length table)) → cs ≡ playedCalls from chart numbers (length table)
+      → Answered from chart numbers table (ends r cs) (tableWith cs)
+  unfolding playOf tableOf
+  by-calls e k = record { returned = ap₂ ends e k; table-is = ap tableWith k }
+
   refused : {r : ℕ} → r ≡ refusal (playChecks from chart numbers (length table)) → (r ≡ 0 → ⊥)
       → Answered from chart numbers table (notPlayed r (startOf from chart .layout)) table
-  unfolding playOf tableOf
-  refused e d =
-      let checks = playChecks from chart numbers (length table) in
-      record { returned = sym (when-refused checks _ _ e d); table-is = sym (when-refused checks _ _ e d) }
+  unfolding playedCalls played answersOf steps flatMap
+  refused e d = by-calls e (sym (when-refused (playChecks from chart numbers (length table)) (callsOf numbers) (λ r. []) e d))
 
   no-start : (startOf from chart .refusal ≡ 0 → ⊥) → startOf from chart .refusal ≡ refusal (playChecks from chart numbers (length table))
   unfolding playChecks refusal
@@ -56,11 +73,25 @@ module _ (from : Origin) (chart numbers table : List ℕ) where
         → end ≡ played (start .layout) (callsOf numbers)
         → after ≡ answersOf (start .layout) (callsOf numbers) ++ drop (4 * count) table
         → Answered from chart numbers table (record { refusal = 0; layout = end; calls = count }) after
-    unfolding playOf tableOf
+    unfolding playedCalls
     play-done z {count} k h p w =
-        let checks = playChecks from chart numbers (length table) in
         let fine = passed (rw e at z) (omega arith) in
+        let same = by-calls (sym fine) (sym (when-accepted (playChecks from chart numbers (length table)) (callsOf numbers) (λ r. []) fine)) in
         record {
-          returned = ap₂ (λ (l : Layout) (n : ℕ). record { refusal = 0; layout = l; calls = n }) (rw e at p) k ∙ sym (when-accepted checks _ _ fine);
-          table-is = rw (e, k) at w ∙ sym (when-accepted checks _ _ fine);
+          returned = ap₂ (λ (l : Layout) (n : ℕ). record { refusal = 0; layout = l; calls = n }) (rw e at p) k ∙ same .returned;
+          table-is = rw (e, k) at w ∙ same .table-is;
         }
+
+-- ---- the claim of demand 3 for the calls that are played
+
+start-is : (from : Origin) (chart : List ℕ) → Start (startOf from chart .layout)
+unfolding startOf refusedRead
+start-is origin.Empty chart = empty
+start-is origin.Chart chart =
+    elim (ℕ-discrete (readOf chart .refusal) 0) [
+      | yes e ↦ read chart e
+      | no d ↦ subst (λ (r : ChartRead). Start (r .layout)) (sym (read-refused chart d)) empty
+    ]
+
+pub play-claim : (from : Origin) (chart numbers : List ℕ) (size : ℕ) → Demand3 (startOf from chart .layout) (playedCalls from chart numbers size)
+play-claim from chart numbers size = demand-3 (start-is from chart) (playedCalls from chart numbers size)

@@ -9,18 +9,13 @@ use lib.ListN.{length, length-append}
 use lib.Dec.{T, eqb}
 use borrow.Author.Tests.{eqb-true}
 use Rattle.model.specs.declared.Layout.{Layout}
-use Rattle.model.specs.declared.Added.{Added}
-use Rattle.model.specs.declared.Changed.{Changed}
-use Rattle.model.specs.declared.Appended.{Appended}
-use Rattle.model.specs.declared.Sifted.{Sifted}
-use Rattle.model.specs.declared.Rounded.{Rounded}
 use Rattle.model.specs.declared.Converged.{Converged}
 use Rattle.model.specs.declared.Call.{Call}
 use Rattle.model.specs.declared.Call.the-variants as call
 use Rattle.model.specs.Lists.{one, upto, All, none, also}
 use Rattle.model.specs.Layouts.{crossingsOf, valid}
 use Rattle.model.specs.Sifting.{sifted, siftOf, siftRound, roundOf, roundsUpTo, settleOf}
-use Rattle.model.specs.Histories.{Start, empty, read, Step, Sift, Round, Follow, ended, next, outcome, answerOf, accepted, roundsOfStep, siftsOfStep}
+use Rattle.model.specs.Histories.{Start, empty, read, Step, Sift, Round, Follow, ended, next, outcome, ofAdded, ofChanged, ofAppended, ofSifted, ofRounded, ofConverged, answerOf, accepted, roundsOfStep, siftsOfStep}
 use Rattle.model.specs.Histories.{butLast, sifting, siftCalled, roundsOfCall, siftsOfRound, roundsFrom, roundsDue, saysConverged, BestPlace}
 use Rattle.model.specs.Histories.{LocalMinimum}
 use Rattle.laws.specs.Indicators.{T-true}
@@ -221,15 +216,14 @@ start-right (read s e) = record { is-valid = read-valid s e .0; sized = read-siz
 
 pub call-refused : (l : Layout) (c : Call) → (answerOf l c .refusal ≡ 0 → ⊥) → answerOf l c ≡ outcome (answerOf l c .refusal) l 0 0 0
 unfolding answerOf one
-call-refused l call.AddVertex d = ap (λ (a : Added). outcome (a .refusal) (a .layout) (a .vertex) 0 0) (add-refused l d)
-call-refused l (call.AddEdge a b) d = ap (λ (c : Changed). outcome (c .refusal) (c .layout) 0 0 0) (link-refused l a b d)
-call-refused l (call.RemoveEdge a b) d = ap (λ (c : Changed). outcome (c .refusal) (c .layout) 0 0 0) (unlink-refused l a b d)
-call-refused l (call.MoveAfter a b) d = ap (λ (c : Changed). outcome (c .refusal) (c .layout) 0 0 0) (move-refused l a b d)
-call-refused l (call.GreedyAppend s) d = ap (λ (a : Appended). outcome (a .refusal) (a .layout) (a .tally) 0 0) (lay-refused l s d)
-call-refused l (call.Sift u) d = ap (λ (s : Sifted). outcome (s .refusal) (s .layout) (s .reduction) 0 0) (sift-refused l u d)
-call-refused l call.SiftingRound d = ap (λ (r : Rounded). outcome (r .refusal) (r .layout) (r .reduction) (r .moved) 0) (round-refused l d)
-call-refused l (call.Converge limit) d =
-    ap (λ (c : Converged). outcome (c .refusal) (c .layout) (c .reduction) (c .rounds) (one (c .converged))) (settle-refused l limit d)
+call-refused l call.AddVertex d = ap ofAdded (add-refused l d)
+call-refused l (call.AddEdge a b) d = ap ofChanged (link-refused l a b d)
+call-refused l (call.RemoveEdge a b) d = ap ofChanged (unlink-refused l a b d)
+call-refused l (call.MoveAfter a b) d = ap ofChanged (move-refused l a b d)
+call-refused l (call.GreedyAppend s) d = ap ofAppended (lay-refused l s d)
+call-refused l (call.Sift u) d = ap ofSifted (sift-refused l u d)
+call-refused l call.SiftingRound d = ap ofRounded (round-refused l d)
+call-refused l (call.Converge limit) d = ap ofConverged (settle-refused l limit d)
 
 -- so it does not say converged
 pub refused-says-nothing : (r : ℕ) (l : Layout) (c : Call) → saysConverged c (outcome r l 0 0 0) ≡ false

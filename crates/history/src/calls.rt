@@ -30,7 +30,8 @@ pub(crate) fn call_at(calls: &[u64], i: usize) -> Decoded
     call_of(calls[at], calls[at + 1] as usize, calls[at + 2] as usize)
 }
 
-fn call_of(op: u64, a: usize, b: usize) -> Decoded
+// The call that three numbers are.
+pub fn call_of(op: u64, a: usize, b: usize) -> Decoded
     ensures { λ r. ⌜ r ≡ callOf op a b ⌝ }
 {
     match op {

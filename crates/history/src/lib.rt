@@ -5,5 +5,6 @@ mod playing;
 mod steps;
 mod table;
 
+pub use calls::call_of;
 pub use playing::play;
 pub use steps::step;

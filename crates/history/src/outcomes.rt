@@ -1,7 +1,7 @@
 // Each call's answer as an outcome.
 ghost use mathlib.Core.Path.{_≡_};
 ghost use Rattle.model.specs.Lists.{one};
-ghost use Rattle.history.specs.Outcomes.{ofAdded, ofChanged, ofAppended, ofSifted, ofRounded, ofConverged};
+ghost use Rattle.model.specs.Histories.{ofAdded, ofChanged, ofAppended, ofSifted, ofRounded, ofConverged};
 use model::Added;
 use model::Appended;
 use model::Changed;

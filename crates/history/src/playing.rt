@@ -4,9 +4,10 @@ ghost use mathlib.Core.List.{_++_};
 ghost use Prim.Native.Nat.{_+_, _*_, _≤_};
 ghost use lib.ListN.{length, drop};
 ghost use Rattle.model.specs.Histories.{played};
-ghost use Rattle.model.specs.Playing.{callsOf, answersOf, startOf, playOf, tableOf};
+ghost use Rattle.model.specs.Playing.{callsOf, answersOf, startOf, playedCalls, playOf, tableOf};
 ghost use Rattle.laws.specs.Writing.{written};
 ghost use Rattle.history.specs.CallLists.{callThere};
+ghost use Rattle.history.specs.Demand3.{Demand3};
 use super::calls::call_at;
 use super::calls::count_calls;
 use super::steps::step;
@@ -22,6 +23,7 @@ use model::Played;
 pub fn play(origin: Origin, chart: &[u8], calls: &[u64], answers: &mut [u64]) -> Played
     ensures returned { λ r. ⌜ r ≡ playOf origin (now (chart .entry)) (now (calls .entry)) (length (now (answers .entry))) ⌝ }
     ensures table { λ r. ⌜ now (answers .exit) ≡ tableOf origin (now (chart .entry)) (now (calls .entry)) (now (answers .entry)) ⌝ }
+    ensures claim { λ r. ⌜ Demand3 (startOf origin (now (chart .entry)) .layout) (playedCalls origin (now (chart .entry)) (now (calls .entry)) (length (now (answers .entry)))) ⌝ }
 {
     let start = start_of(origin, chart);
     let refusal = start.refusal;

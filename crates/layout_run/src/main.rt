@@ -9,7 +9,7 @@ use model::Layout;
 use player::Played;
 
 fn main() {
-    let mut l = player::empty();
+    let mut l = layout::empty();
     // A proved loop has to end, and nothing says that the input does: the turns are counted down,
     // from a number that no run uses up.
     let mut turns = u64::MAX;

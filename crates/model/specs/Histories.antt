@@ -6,6 +6,12 @@ use mathlib.Core.Bool.{Bool, true, false, cond}
 use mathlib.Core.List.{List, [], _∷_, _++_, flatMap}
 use lib.Dec.{eqb}
 use Rattle.model.specs.declared.Layout.{Layout}
+use Rattle.model.specs.declared.Added.{Added}
+use Rattle.model.specs.declared.Changed.{Changed}
+use Rattle.model.specs.declared.Appended.{Appended}
+use Rattle.model.specs.declared.Sifted.{Sifted}
+use Rattle.model.specs.declared.Rounded.{Rounded}
+use Rattle.model.specs.declared.Converged.{Converged}
 use Rattle.model.specs.declared.Outcome.{Outcome}
 use Rattle.model.specs.declared.Call.{Call}
 use Rattle.model.specs.declared.Call.the-variants as call
@@ -22,17 +28,35 @@ use Rattle.model.specs.Charts.{readOf}
 abbrev pub outcome : ℕ → Layout → ℕ → ℕ → ℕ → Outcome
 outcome refusal l a b c = record { refusal = refusal; layout = l; first = a; second = b; third = c }
 
--- the definition of each call, "settled" told by 1
+-- the answers as outcomes, "settled" told by 1
+abbrev pub ofAdded : Added → Outcome
+ofAdded a = outcome (a .refusal) (a .layout) (a .vertex) 0 0
+
+abbrev pub ofChanged : Changed → Outcome
+ofChanged a = outcome (a .refusal) (a .layout) 0 0 0
+
+abbrev pub ofAppended : Appended → Outcome
+ofAppended a = outcome (a .refusal) (a .layout) (a .tally) 0 0
+
+abbrev pub ofSifted : Sifted → Outcome
+ofSifted a = outcome (a .refusal) (a .layout) (a .reduction) 0 0
+
+abbrev pub ofRounded : Rounded → Outcome
+ofRounded a = outcome (a .refusal) (a .layout) (a .reduction) (a .moved) 0
+
+abbrev pub ofConverged : Converged → Outcome
+ofConverged a = outcome (a .refusal) (a .layout) (a .reduction) (a .rounds) (one (a .converged))
+
+-- what a call answers on a layout: the definition of each
 unfoldable pub answerOf : Layout → Call → Outcome
-answerOf l call.AddVertex = let a = addOf l in outcome (a .refusal) (a .layout) (a .vertex) 0 0
-answerOf l (call.AddEdge a b) = let c = linkOf l a b in outcome (c .refusal) (c .layout) 0 0 0
-answerOf l (call.RemoveEdge a b) = let c = unlinkOf l a b in outcome (c .refusal) (c .layout) 0 0 0
-answerOf l (call.MoveAfter a b) = let c = moveOf l a b in outcome (c .refusal) (c .layout) 0 0 0
-answerOf l (call.GreedyAppend s) = let a = layOf l s in outcome (a .refusal) (a .layout) (a .tally) 0 0
-answerOf l (call.Sift u) = let s = siftOf l u in outcome (s .refusal) (s .layout) (s .reduction) 0 0
-answerOf l call.SiftingRound = let r = roundOf l in outcome (r .refusal) (r .layout) (r .reduction) (r .moved) 0
-answerOf l (call.Converge limit) =
-    let c = settleOf l limit in outcome (c .refusal) (c .layout) (c .reduction) (c .rounds) (one (c .converged))
+answerOf l call.AddVertex = ofAdded (addOf l)
+answerOf l (call.AddEdge a b) = ofChanged (linkOf l a b)
+answerOf l (call.RemoveEdge a b) = ofChanged (unlinkOf l a b)
+answerOf l (call.MoveAfter a b) = ofChanged (moveOf l a b)
+answerOf l (call.GreedyAppend s) = ofAppended (layOf l s)
+answerOf l (call.Sift u) = ofSifted (siftOf l u)
+answerOf l call.SiftingRound = ofRounded (roundOf l)
+answerOf l (call.Converge limit) = ofConverged (settleOf l limit)
 
 -- ---- a list of calls
 

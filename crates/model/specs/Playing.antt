@@ -15,7 +15,7 @@ use Rattle.model.specs.declared.Decoded.the-variants as decoded
 use Rattle.model.specs.declared.Origin.{Origin}
 use Rattle.model.specs.declared.Origin.the-variants as origin
 use Rattle.model.specs.Layouts.{emptyLayout}
-use Rattle.model.specs.Checks.{Check, checked}
+use Rattle.model.specs.Checks.{Check, refusal, checked}
 use Rattle.model.specs.Charts.{readOf}
 use Rattle.model.specs.Histories.{Step, steps, played}
 
@@ -83,16 +83,17 @@ module _ (from : Origin) (chart numbers : List ℕ) (size : ℕ) where
   unfoldable pub playedCalls : List Call
   playedCalls = checked playChecks (callsOf numbers) (λ r. [])
 
-  -- what comes back: refused, the layout is the start, the empty one where there is none
+  -- what comes back; refused, the layout is the start, the empty one where there is none
   unfoldable pub playOf : Played
   playOf =
-      checked playChecks
-      (record { refusal = 0; layout = played (startOf from chart .layout) (callsOf numbers); calls = length (callsOf numbers) })
-      (λ r. record { refusal = r; layout = startOf from chart .layout; calls = 0 })
+      record {
+        refusal = refusal playChecks;
+        layout = played (startOf from chart .layout) playedCalls;
+        calls = length playedCalls;
+      }
 
--- the table after the call: the answers, and the rest as it was; untouched where playing is refused
+-- the table after the call: the answers, and the rest as it was
 unfoldable pub tableOf : Origin → List ℕ → List ℕ → List ℕ → List ℕ
 tableOf from chart numbers table =
-    checked (playChecks from chart numbers (length table))
-    (answersOf (startOf from chart .layout) (callsOf numbers) ++ drop (answerWidth * length (callsOf numbers)) table)
-    (λ r. table)
+    let calls = playedCalls from chart numbers (length table) in
+    answersOf (startOf from chart .layout) calls ++ drop (answerWidth * length calls) table

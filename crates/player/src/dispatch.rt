@@ -5,13 +5,13 @@ ghost use lib.ListN.{length};
 ghost use Rattle.io.specs.Counts.{Counts};
 use crate::answer::Played;
 use crate::answer::silent;
-use crate::edits;
+use crate::calls::play_call;
 use crate::fields;
 use crate::reads;
 use crate::record::number;
-use crate::sifts;
 use crate::starts;
 use crate::text::put_text;
+use model::Decoded;
 use model::Layout;
 
 // Plays a record that starts from no chart, and ends the list at one that is cut short.
@@ -56,18 +56,22 @@ fn play_op(l: Layout, op: u64, a: u64, b: u64, line: &mut [u8]) -> Played
         3 => silent(fields::with_place(l, a, b)),
         4 => silent(fields::with_word(l, a, b)),
         5 => silent(fields::with_count(l, a)),
-        16 => edits::add(l, line),
-        17 => edits::link(l, a, b, line),
-        18 => edits::unlink(l, a, b, line),
-        19 => edits::move_behind(l, a, b, line),
-        21 => sifts::sift(l, a, line),
-        22 => sifts::round(l, line),
-        23 => sifts::settle(l, a, line),
         24 => reads::count(l, line),
         25 => reads::order(l, a, b, line),
         26 => reads::pair(l, line),
-        _ => end(l, line),
+        _ => play_decoded(l, history::call_of(op, a as usize, b as usize), line),
     }
+}
+
+// A call, or the end of the list.
+fn play_decoded(l: Layout, decoded: Decoded, line: &mut [u8]) -> Played
+    requires { ⌜ length (now line) ≡ 4096 ⌝ }
+    ensures { λ r. ⌜ r .written ≤ 4096 ⌝ }
+{
+    let Decoded::Next(c) = decoded else {
+        return end(l, line);
+    };
+    play_call(l, c, line)
 }
 
 // The list ends here.

@@ -1,14 +1,5 @@
-// The empty layout, and layouts with one field set, to whatever a record says.
+// Layouts with one field set, to whatever a record says.
 use model::Layout;
-
-pub fn empty() -> Layout {
-    Layout {
-        n: 0,
-        order: [0u8; 64],
-        adjacency: [0u64; 64],
-        count: 0,
-    }
-}
 
 pub(crate) fn with_n(l: Layout, n: u64) -> Layout {
     let mut next = l;

@@ -4,12 +4,11 @@
 // proved is that every function is safe and ends, and that every line fits its buffer.
 
 mod answer;
+mod calls;
 mod dispatch;
-mod edits;
 mod fields;
 mod reads;
 mod record;
-mod sifts;
 mod starts;
 mod text;
 
@@ -17,7 +16,6 @@ pub use answer::Played;
 pub use dispatch::play;
 pub use dispatch::play_chart;
 pub use dispatch::starts_chart;
-pub use fields::empty;
 pub use record::chart_kept;
 pub use record::chart_rest;
 pub use record::number;

@@ -5,7 +5,6 @@ ghost use lib.ListN.{length};
 use crate::answer::Played;
 use crate::answer::put_head;
 use crate::answer::told;
-use crate::fields;
 use model::Layout;
 
 pub(crate) fn empty(l: Layout, line: &mut [u8]) -> Played
@@ -13,7 +12,7 @@ pub(crate) fn empty(l: Layout, line: &mut [u8]) -> Played
     ensures { λ r. ⌜ r .written ≤ 4096 ⌝ }
 {
     let at = put_head(line, b"empty", 0);
-    told(line, at, l, fields::empty())
+    told(line, at, l, layout::empty())
 }
 
 pub(crate) fn read_chart(l: Layout, bytes: &[u8], line: &mut [u8]) -> Played

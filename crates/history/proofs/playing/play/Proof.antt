@@ -6,15 +6,17 @@ use Prim.Native.Nat.{ℕ}
 use lib.ListN.{length}
 use Rattle.model.specs.declared.Origin.{Origin}
 use Rattle.model.specs.declared.Played.{Played}
-use Rattle.model.specs.Playing.{playOf, tableOf}
-use Rattle.history.specs.PlayAnswers.{Answered, play-unstarted, play-short, play-done}
+use Rattle.model.specs.Playing.{startOf, playedCalls, playOf, tableOf}
+use Rattle.history.specs.Demand3.{Demand3}
+use Rattle.history.specs.PlayAnswers.{Answered, play-unstarted, play-short, play-done, play-claim}
 use Rattle.history.proofs.playing.play.Statement.{statement}
 use Rattle.history.proofs.playing.play.Tie as tie
 
 -- the clauses of the contract
 told : {from : Origin} {chart numbers table : List ℕ} {r : Played} {after : List ℕ} → Answered from chart numbers table r after
-    → (r ≡ playOf from chart numbers (length table)) × (after ≡ tableOf from chart numbers table)
-told a = (a .returned, a .table-is)
+    → (r ≡ playOf from chart numbers (length table))
+    × ((after ≡ tableOf from chart numbers table) × Demand3 (startOf from chart .layout) (playedCalls from chart numbers (length table)))
+told {from} {chart} {numbers} {table} a = (a .returned, (a .table-is, play-claim from chart numbers (length table)))
 
 start-of-requires : tie.Need-start-of-requires
 start-of-requires c κs = search needs

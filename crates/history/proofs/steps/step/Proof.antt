@@ -1,6 +1,6 @@
 use mathlib.Core.Path.{sym, ap, _∙_}
 use Rattle.model.specs.Histories.{answerOf}
-use Rattle.history.specs.Outcomes.{ofAdded, ofChanged, ofAppended, ofSifted, ofRounded, ofConverged}
+use Rattle.model.specs.Histories.{ofAdded, ofChanged, ofAppended, ofSifted, ofRounded, ofConverged}
 use borrow.Author.Needs.{needs}
 use Rattle.history.proofs.steps.step.Statement.{statement}
 use Rattle.history.proofs.steps.step.Tie as tie
