@@ -3,8 +3,8 @@
 
 use super::charts::Chart;
 use super::graph::{all_pairs, Graph};
-use super::lists::{bytes, chart, fields};
 use super::ops::*;
+use super::records::{bytes, chart, fields};
 use super::special::SPECIALS;
 use crate::rng::Rng;
 
