@@ -256,6 +256,7 @@ impl List<'_> {
 #[cfg(test)]
 mod tests {
     use super::*;
+    use crate::difference::first_difference;
     use crate::naive::play::play;
 
     #[test]
@@ -268,5 +269,18 @@ mod tests {
             assert!(lines.lines().any(met), "{start}");
         }
         assert!(lines.ends_with("end\n"));
+    }
+
+    /// What `tests/store` wrote, with the second program, for the player.
+    #[test]
+    fn the_naive_model_prints_what_is_stored() {
+        let stored = |name: &str| {
+            let crates = concat!(env!("CARGO_MANIFEST_DIR"), "/../../crates");
+            std::fs::read(format!("{crates}/layout_run/{name}")).expect("a stored file")
+        };
+        let calls = stored("stdin");
+        assert!(calls == list(&Known::all()), "tests/store writes it anew");
+        let difference = first_difference(play(&calls).as_bytes(), &stored("stdout"));
+        assert_eq!(difference, None);
     }
 }
