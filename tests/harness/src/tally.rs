@@ -118,8 +118,7 @@ impl Tally {
             let sizes = (0..=64).filter(|n| !self.sizes.contains(n));
             missing.extend(sizes.map(|n| format!("size {n}")));
         }
-        let lists: BTreeSet<&str> = lists::kinds(known).collect();
-        missing.extend(absent("list", lists, &self.lists));
+        missing.extend(absent("list", lists::kinds(known), &self.lists));
         let families = families::all().iter().map(|family| family.name);
         missing.extend(absent("graph", families, &self.graphs));
         if known.has(ORDER) {

@@ -1,5 +1,7 @@
 //! Lists of calls, of several kinds.
 
+use std::collections::BTreeSet;
+
 use super::charts;
 use super::families;
 use super::maker::Maker;
@@ -56,9 +58,9 @@ fn open(known: &Known) -> Vec<Kind> {
     kinds
 }
 
-/// The names of the kinds that known calls allow.
-pub fn kinds(known: &Known) -> impl Iterator<Item = &'static str> {
-    open(known).into_iter().map(|(name, _, _)| name)
+/// The names of the kinds that are open to known calls.
+pub fn kinds(known: &Known) -> BTreeSet<&'static str> {
+    open(known).into_iter().map(|(name, _, _)| name).collect()
 }
 
 impl Maker {
@@ -106,7 +108,7 @@ impl Maker {
     fn lay_then_sifting(&mut self, _: usize) {
         for _ in 0..3 {
             self.start_family(families::all(), 20);
-            for _ in 0..self.rng.within(2, 6) {
+            for _ in 0..self.rng.within(4, 10) {
                 self.call(LAY);
                 self.some_calls(&[SIFT, SIFT, ROUND, SETTLE]);
                 let edit = self.rng.pick(&[ADD, LINK, UNLINK, MOVE]);
@@ -219,12 +221,12 @@ mod tests {
     #[test]
     fn kinds_without_their_call_are_not_made() {
         let known = Known::parse("layout,sifting").expect("known names");
-        let mut kinds: Vec<&str> = kinds(&known).collect();
-        kinds.dedup();
-        assert_eq!(kinds, ["several starts", "several hundred calls"]);
+        let kinds = kinds(&known);
+        let due = ["several hundred calls", "several starts"];
+        assert!(kinds.iter().eq(&due), "{kinds:?}");
         for index in 0..50 {
             let made = list(1, index, &known);
-            assert!(kinds.contains(&made.kind));
+            assert!(kinds.contains(made.kind));
             assert!(!play(&made.bytes).contains("lay "));
         }
     }
