@@ -102,7 +102,7 @@ fn compare_list(
 ) -> Result<(), Failure> {
     let made = lists::list(options.seed, index, &options.known);
     let due = naive::play::play(&made.bytes);
-    tally.list(&made.starts, &due);
+    tally.list(&made, &due);
     for side in &options.play {
         check(side, &made.bytes, &due, plant.take()).map_err(|text| Failure {
             what: "list",

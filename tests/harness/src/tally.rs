@@ -2,6 +2,8 @@
 
 use std::collections::{BTreeMap, BTreeSet};
 
+use crate::make::families;
+use crate::make::lists::{self, Made};
 use crate::make::ops::{Known, ORDER};
 
 /// From so many charts and lists on, everything must have occurred.
@@ -11,8 +13,10 @@ type Counts = BTreeMap<String, usize>;
 
 #[derive(Default)]
 pub struct Tally {
-    kinds: Counts,
+    charts: Counts,
+    lists: Counts,
     starts: Counts,
+    graphs: Counts,
     calls: Counts,
     accepted: Counts,
     refusals: BTreeMap<u8, usize>,
@@ -25,7 +29,7 @@ pub struct Tally {
 impl Tally {
     /// Takes in a chart of some kind and its listing.
     pub fn chart(&mut self, kind: &str, listing: &str) {
-        add(&mut self.kinds, kind);
+        add(&mut self.charts, kind);
         let first = listing.lines().next().unwrap_or_default();
         match first.split_once(' ') {
             Some(("devices", n)) => {
@@ -37,10 +41,14 @@ impl Tally {
         }
     }
 
-    /// Takes in a list with some starts and its answer lines.
-    pub fn list(&mut self, starts: &[&str], lines: &str) {
-        for start in starts {
+    /// Takes in a list and its answer lines.
+    pub fn list(&mut self, made: &Made, lines: &str) {
+        add(&mut self.lists, made.kind);
+        for start in &made.starts {
             add(&mut self.starts, start);
+        }
+        for graph in &made.graphs {
+            add(&mut self.graphs, graph);
         }
         for line in lines.lines() {
             self.line(line);
@@ -79,8 +87,10 @@ impl Tally {
     pub fn text(&self) -> String {
         let mut text = String::new();
         for (title, counts) in [
-            ("chart", &self.kinds),
+            ("chart", &self.charts),
+            ("list", &self.lists),
             ("start", &self.starts),
+            ("graph", &self.graphs),
             ("call", &self.calls),
             ("accepted call", &self.accepted),
         ] {
@@ -108,12 +118,25 @@ impl Tally {
             let sizes = (0..=64).filter(|n| !self.sizes.contains(n));
             missing.extend(sizes.map(|n| format!("size {n}")));
         }
+        missing.extend(absent("list", lists::kinds(known), &self.lists));
+        let families = families::all().iter().map(|family| family.name);
+        missing.extend(absent("graph", families, &self.graphs));
         if known.has(ORDER) {
             let buffers = (0..=65).filter(|length| !self.buffers.contains(length));
             missing.extend(buffers.map(|length| format!("buffer of {length}")));
         }
         missing
     }
+}
+
+/// Those names that were never counted.
+fn absent<'a>(
+    title: &'a str,
+    names: impl IntoIterator<Item = &'a str> + 'a,
+    counts: &'a Counts,
+) -> impl Iterator<Item = String> + 'a {
+    let absent = names.into_iter().filter(|&name| !counts.contains_key(name));
+    absent.map(move |name| format!("{title}, {name}"))
 }
 
 fn add(counts: &mut Counts, name: &str) {
@@ -124,17 +147,35 @@ fn add(counts: &mut Counts, name: &str) {
 mod tests {
     use super::*;
 
+    /// Kinds of list, of which the last two need lay, and families of graphs.
+    const LISTS: usize = 4;
+    const GRAPHS: usize = 11;
+
+    fn made() -> Made {
+        Made {
+            bytes: Vec::new(),
+            kind: "several starts",
+            starts: vec!["empty"],
+            graphs: vec!["path", "path"],
+        }
+    }
+
     #[test]
     fn what_never_occurred_is_missing() {
         let mut tally = Tally::default();
         let all = Known::all();
-        assert_eq!(tally.missing(&all, true).len(), 16 + 65 + 66);
+        let missing = tally.missing(&all, true);
+        assert_eq!(missing.len(), 16 + 65 + 66 + LISTS + GRAPHS);
         tally.chart("k", "refused 3\n");
         tally.chart("k", "devices 7\nlinks 0\n");
-        tally.list(&["s"], "order 18 buffer 1 2 n 3 order 0\nend\n");
-        assert_eq!(tally.missing(&all, true).len(), 14 + 64 + 65);
+        tally.list(&made(), "order 18 buffer 1 2 n 3 order 0\nend\n");
+        let missing = tally.missing(&all, true);
+        assert_eq!(missing.len(), 14 + 64 + 65 + LISTS - 1 + GRAPHS - 1);
+        assert!(missing.contains(&"list, lay, then sifting".to_string()));
+        assert!(missing.contains(&"graph, cycle".to_string()));
         assert_eq!(tally.calls(), 1);
         let few = Known::parse("add,order").expect("known names");
-        assert_eq!(tally.missing(&few, false).len(), 2 + 65);
+        let missing = tally.missing(&few, false);
+        assert_eq!(missing.len(), 2 + 65 + LISTS - 3 + GRAPHS - 1);
     }
 }

@@ -64,14 +64,19 @@ pub fn chart(seed: u64, index: usize) -> Made {
 
 /// A chart that settles in bearable time on the naive side.
 fn accepted_chart(rng: &mut Rng, n: usize) -> Vec<u8> {
-    let budget = if rng.once_in(16) { 2 << 30 } else { 1 << 28 };
+    let budget = if rng.once_in(16) { 1 << 31 } else { 1 << 29 };
     let graph = Graph::random(rng, n, cost::most_edges(n, budget));
     Chart::of(&graph).bytes()
 }
 
-/// The special chart with some number; they take turns.
+/// The special chart with some number. They take turns, but for the first one,
+/// which is dear and always the same.
 pub fn special(rng: &mut Rng, number: usize) -> Made {
-    let special = &SPECIALS[number % SPECIALS.len()];
+    let others = SPECIALS.len() - 1;
+    let special = match number {
+        0 => &SPECIALS[0],
+        _ => &SPECIALS[1 + (number - 1) % others],
+    };
     Made {
         bytes: (special.make)(rng),
         kind: special.kind,

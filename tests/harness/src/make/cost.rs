@@ -1,12 +1,17 @@
-//! What the naive model has to do, in pairs of edges looked at. A run's time
-//! is kept down by it.
+//! What the naive model has to do, in pairs of edges looked at or in what takes
+//! as long. A run's time is kept down by it.
 
 /// Rounds that settling is reckoned to run.
 const ROUNDS: u64 = 6;
 
-/// Counting the crossings of m edges once.
+/// Counting the crossings of m edges once, with finding their places.
 pub fn count(m: usize) -> u64 {
-    (m * m / 2 + 1) as u64
+    (m * m / 2 + 64 * m + 4096) as u64
+}
+
+/// Greedy append, without the counts before and after.
+pub fn lay(n: usize, m: usize) -> u64 {
+    (n * n * (4 * m + 512)) as u64
 }
 
 pub fn sift(n: usize, m: usize) -> u64 {

@@ -2,13 +2,31 @@
 
 use crate::rng::Rng;
 
-/// Edges, each with its ends either way round, and an order of the vertices.
+/// An edge, its ends either way round.
+pub type Edge = (u8, u8);
+
+/// Edges and an order of the vertices.
 pub struct Graph {
-    pub edges: Vec<(u8, u8)>,
+    pub edges: Vec<Edge>,
     pub order: Vec<u8>,
 }
 
 impl Graph {
+    /// n vertices with these edges, turned either way round, in any order; now
+    /// and then in the rising one.
+    pub fn new(rng: &mut Rng, n: usize, mut edges: Vec<Edge>) -> Graph {
+        for edge in &mut edges {
+            if rng.once_in(2) {
+                *edge = (edge.1, edge.0);
+            }
+        }
+        let mut order = vertices(n);
+        if !rng.once_in(5) {
+            rng.shuffle(&mut order);
+        }
+        Graph { edges, order }
+    }
+
     /// A graph of n vertices with any number of edges up to the most, from
     /// none to all.
     pub fn random(rng: &mut Rng, n: usize, most_edges: usize) -> Graph {
@@ -16,16 +34,7 @@ impl Graph {
         let m = edge_count(rng, n, edges.len());
         rng.shuffle(&mut edges);
         edges.truncate(m.min(most_edges));
-        for edge in &mut edges {
-            if rng.once_in(2) {
-                *edge = (edge.1, edge.0);
-            }
-        }
-        let mut order: Vec<u8> = (0..n as u8).collect();
-        if !rng.once_in(5) {
-            rng.shuffle(&mut order);
-        }
-        Graph { edges, order }
+        Graph::new(rng, n, edges)
     }
 
     pub fn n(&self) -> usize {
@@ -43,8 +52,13 @@ impl Graph {
     }
 }
 
+/// The vertices in rising number.
+pub fn vertices(n: usize) -> Vec<u8> {
+    (0..n as u8).collect()
+}
+
 /// All pairs of n vertices.
-pub fn all_pairs(n: usize) -> Vec<(u8, u8)> {
+pub fn all_pairs(n: usize) -> Vec<Edge> {
     let pairs = |a: u8| (a + 1..n as u8).map(move |b| (a, b));
     (0..n as u8).flat_map(pairs).collect()
 }

@@ -1,254 +1,140 @@
-//! Lists of calls: each a few starts, and calls behind each of them.
+//! Lists of calls, of several kinds.
 
-use super::charts::{self, Chart};
-use super::cost;
-use super::graph::Graph;
+use std::collections::BTreeSet;
+
+use super::charts;
+use super::families;
+use super::maker::Maker;
 use super::ops::*;
-use super::spoil::{n_over_64, SPOILS};
+use super::starts::{self, FAMILY};
 use crate::rng::Rng;
 
-/// The calls, those oftener that are to come oftener.
-const CALLS: [u64; 25] = [
-    ADD, ADD, LINK, LINK, LINK, LINK, LINK, UNLINK, UNLINK, UNLINK, MOVE, MOVE, MOVE, LAY, LAY,
-    SIFT, SIFT, SIFT, ROUND, SETTLE, SETTLE, COUNT, ORDER, ORDER, PAIR,
+/// A kind of list: its name, an op that it cannot do without, and what it puts
+/// into the list with some number.
+type Kind = (&'static str, u64, fn(&mut Maker, usize));
+
+/// The kinds, those oftener that are to come oftener.
+const KINDS: [Kind; 6] = [
+    SEVERAL_STARTS,
+    SEVERAL_STARTS,
+    SEVERAL_STARTS,
+    ("several hundred calls", EMPTY, Maker::several_hundred_calls),
+    ("lay from every vertex", LAY, Maker::lay_from_every_vertex),
+    ("lay, then sifting", LAY, Maker::lay_then_sifting),
 ];
 
-/// Pairs of edges that the naive model may look at for one list.
-const BUDGET: u64 = 1 << 28;
+const SEVERAL_STARTS: Kind = ("several starts", EMPTY, Maker::several_starts);
 
-/// A way to start: its name, an op that it cannot do without, and what it does.
-type Start = (&'static str, u64, fn(&mut Maker));
-
-/// The ways to start; the first start of a list takes its turn among them.
-const STARTS: [Start; 8] = [
-    ("empty", EMPTY, Maker::start_empty),
-    ("chart", CHART, |maker| {
-        maker.start_graph(Maker::write_chart)
-    }),
-    ("fields", EMPTY, |maker| {
-        maker.start_graph(Maker::write_fields)
-    }),
-    ("spoilt chart", CHART, |maker| {
-        maker.start_spoilt(Maker::write_chart)
-    }),
-    ("spoilt fields", EMPTY, |maker| {
-        maker.start_spoilt(Maker::write_fields)
-    }),
-    ("fields at random", EMPTY, Maker::start_random),
-    ("refused chart", CHART, Maker::start_refused),
-    ("64 vertices, and add", ADD, Maker::start_full),
-];
-
-/// A list, and the kinds of its starts.
+/// A list, and what it is made of.
 pub struct Made {
     pub bytes: Vec<u8>,
+    pub kind: &'static str,
+    /// The kinds of its starts.
     pub starts: Vec<&'static str>,
+    /// The families of its graphs.
+    pub graphs: Vec<&'static str>,
 }
 
 /// The list with some number, of known calls.
 pub fn list(seed: u64, index: usize, known: &Known) -> Made {
     let mut rng = Rng::new(seed, "list", index);
-    let target = rng.within(20, 60);
-    let mut maker = Maker {
-        rng,
-        known: known.clone(),
-        bytes: Vec::new(),
-        starts: Vec::new(),
-        n: 0,
-        edges: Vec::new(),
-        calls: 0,
-        budget: BUDGET,
-    };
-    let mut starts = STARTS.to_vec();
-    starts.retain(|&(_, op, _)| known.has(op));
-    maker.start(starts[index % starts.len()]);
-    maker.emit(ORDER, index as u64 % 66, 7);
-    while maker.calls < target {
-        let any = maker.rng.pick(&starts);
-        maker.start(any);
-    }
+    let (kind, _, make) = rng.pick(&open(known));
+    let mut maker = Maker::new(rng, known);
+    make(&mut maker, index);
+    maker.in_turn(index);
     maker.end();
     Made {
         bytes: maker.bytes,
+        kind,
         starts: maker.starts,
+        graphs: maker.graphs,
     }
 }
 
-/// A record as it stands in a list.
-pub fn bytes(record: Record) -> Vec<u8> {
-    record.iter().flat_map(|n| n.to_le_bytes()).collect()
+/// The kinds of list that are open to known calls.
+fn open(known: &Known) -> Vec<Kind> {
+    let mut kinds = KINDS.to_vec();
+    kinds.retain(|&(_, op, _)| known.has(op));
+    kinds
 }
 
-/// A start from a chart, padded.
-pub fn chart(chart: &[u8]) -> Vec<u8> {
-    let mut start = bytes([CHART, chart.len() as u64, 0, 0]);
-    start.extend(chart);
-    start.resize(start.len().next_multiple_of(32), 0);
-    start
+/// The names of the kinds that are open to known calls.
+pub fn kinds(known: &Known) -> BTreeSet<&'static str> {
+    open(known).into_iter().map(|(name, _, _)| name).collect()
 }
 
-/// A start from a layout set field by field.
-pub fn fields(graph: &Graph) -> Vec<Record> {
-    let mut records = vec![[EMPTY, 0, 0, 0], [SET_N, graph.n() as u64, 0, 0]];
-    for (place, &v) in graph.order.iter().enumerate() {
-        records.push([SET_ORDER, place as u64, u64::from(v), 0]);
-    }
-    for (v, &word) in graph.words().iter().enumerate() {
-        if word != 0 {
-            records.push([SET_WORD, v as u64, word, 0]);
-        }
-    }
-    records
-}
-
-/// A list in the making. What is held of the layout is a guess good enough to
-/// name vertices and edges by; a refused call may have left it behind.
-struct Maker {
-    rng: Rng,
-    known: Known,
-    bytes: Vec<u8>,
-    starts: Vec<&'static str>,
-    n: usize,
-    edges: Vec<(u8, u8)>,
-    calls: usize,
-    budget: u64,
-}
-
-/// Starts.
 impl Maker {
-    fn start(&mut self, (name, _, start): Start) {
-        self.starts.push(name);
-        start(self);
-    }
-
-    fn record(&mut self, record: Record) {
-        self.bytes.extend(bytes(record));
-    }
-
-    /// Calls on the layout that now stands.
-    fn calls(&mut self, least: usize, most: usize) {
-        for _ in 0..self.rng.within(least, most) {
-            self.call();
+    /// The first start takes its turn; a graph of a family is always among the
+    /// starts.
+    fn several_starts(&mut self, index: usize) {
+        let target = self.rng.within(20, 60);
+        let starts = starts::open(&self.known);
+        self.start(starts[index % starts.len()]);
+        self.start(FAMILY);
+        while self.calls < target {
+            let any = self.rng.pick(&starts);
+            self.start(any);
         }
     }
 
-    fn start_empty(&mut self) {
-        self.record([EMPTY, 0, 0, 0]);
-        (self.n, self.edges) = (0, Vec::new());
-        for _ in 0..self.rng.below(9) {
-            self.emit(ADD, 0, 0);
-        }
-        for _ in 0..2 * self.n {
-            let (a, b) = self.two_vertices();
-            self.emit(LINK, a, b);
-        }
-        self.calls(3, 20);
-    }
-
-    /// A graph small enough to be settled, or any.
-    fn graph(&mut self) -> Graph {
-        let n = match self.rng.below(4) {
-            0 => self.rng.pick(&[0, 1, 2, 3, 63, 64]),
-            1 => self.rng.below(15),
-            _ => self.rng.below(65),
-        };
-        let most = if self.rng.once_in(3) {
-            usize::MAX
+    /// Behind one start, so that each goes on from what the others left.
+    fn several_hundred_calls(&mut self, _: usize) {
+        if self.rng.once_in(2) {
+            self.write_empty();
         } else {
-            cost::most_edges(n, self.budget / 4)
-        };
-        Graph::random(&mut self.rng, n, most)
-    }
-
-    fn know(&mut self, graph: &Graph) {
-        (self.n, self.edges) = (graph.n(), graph.edges.clone());
-    }
-
-    fn start_graph(&mut self, write: fn(&mut Maker, &Graph)) {
-        let graph = self.graph();
-        write(self, &graph);
-        self.know(&graph);
-        self.any_count();
-        self.calls(6, 30);
-    }
-
-    fn start_spoilt(&mut self, write: fn(&mut Maker, &Graph)) {
-        let graph = self.graph();
-        write(self, &graph);
-        self.know(&graph);
-        self.any_count();
-        let (name, spoil) = self.rng.pick(&SPOILS);
-        let mut records = spoil(&mut self.rng, &graph);
-        if records.is_empty() {
-            records = n_over_64(&mut self.rng, &graph);
-        } else {
-            self.starts.push(name);
+            self.start_family(families::all(), 12);
         }
-        for record in records {
-            self.record(record);
-        }
-        self.calls(2, 8);
+        self.any_calls(200, 400);
     }
 
-    fn write_chart(&mut self, graph: &Graph) {
-        self.chart(&Chart::of(graph).bytes());
-    }
-
-    fn write_fields(&mut self, graph: &Graph) {
-        for record in fields(graph) {
-            self.record(record);
+    /// Lays graphs with many ties from each vertex, and from one that isn't
+    /// there.
+    fn lay_from_every_vertex(&mut self, _: usize) {
+        for _ in 0..self.rng.within(1, 3) {
+            let most = if self.rng.once_in(8) { 64 } else { 16 };
+            self.start_family(families::with_ties(), most);
+            let mut vertices: Vec<u64> = (0..=self.n as u64).collect();
+            if self.rng.once_in(2) {
+                self.rng.shuffle(&mut vertices);
+            }
+            for v in vertices {
+                self.emit(LAY, v, 0);
+            }
         }
     }
 
-    fn chart(&mut self, bytes: &[u8]) {
-        self.bytes.extend(chart(bytes));
-    }
-
-    /// Now and then a carried count that is not the true one.
-    fn any_count(&mut self) {
-        if self.rng.once_in(3) {
-            let word = self.rng.word();
-            let count = self.rng.pick(&[0, 1, u64::from(u32::MAX), word]);
-            self.record([SET_COUNT, count, 0, 0]);
+    /// Lays graphs from several vertices, with sifting behind each lay and now
+    /// and then an edit.
+    fn lay_then_sifting(&mut self, _: usize) {
+        for _ in 0..3 {
+            self.start_family(families::all(), 20);
+            for _ in 0..self.rng.within(4, 10) {
+                self.call(LAY);
+                self.some_calls(&[SIFT, SIFT, ROUND, SETTLE]);
+                let edit = self.rng.pick(&[ADD, LINK, UNLINK, MOVE]);
+                self.some_calls(&[edit, COUNT, PAIR]);
+            }
         }
     }
 
-    fn start_random(&mut self) {
-        self.n = self.rng.below(65);
-        self.edges.clear();
-        self.record([SET_N, self.n as u64, 0, 0]);
-        for _ in 0..self.rng.within(1, 80) {
-            let op = self.rng.pick(&[SET_ORDER, SET_WORD]);
-            let (place, value) = (self.rng.below(66) as u64, self.rng.word());
-            self.record([op, place, value, 0]);
+    /// About half of these calls, in their sequence, if the budget allows them.
+    fn some_calls(&mut self, ops: &[u64]) {
+        for &op in ops {
+            if self.rng.once_in(2) && self.allows(op) {
+                self.call(op);
+            }
         }
-        self.any_count();
-        self.calls(2, 8);
     }
 
-    fn start_refused(&mut self) {
-        let number = self.rng.below(1000);
-        let mut chart = charts::special(&mut self.rng, number);
-        while chart.refusal == Some(0) {
-            let number = self.rng.below(1000);
-            chart = charts::special(&mut self.rng, number);
-        }
-        self.chart(&chart.bytes);
-        (self.n, self.edges) = (0, Vec::new());
-        self.calls(1, 4);
-    }
-
-    fn start_full(&mut self) {
-        let most = self.rng.pick(&[0, 100, usize::MAX]);
-        let graph = Graph::random(&mut self.rng, 64, most);
+    /// What takes its turn from list to list: each length of a buffer, and
+    /// each special chart.
+    fn in_turn(&mut self, index: usize) {
+        self.emit(ORDER, index as u64 % 66, 7);
         if self.known.has(CHART) {
-            self.write_chart(&graph);
-        } else {
-            self.write_fields(&graph);
+            let chart = charts::special(&mut self.rng, index);
+            self.chart(&chart.bytes);
+            self.emit(COUNT, 0, 0);
         }
-        self.know(&graph);
-        self.emit(ADD, 0, 0);
-        self.calls(3, 12);
     }
 
     /// Now and then an end before the end, with what must not be played.
@@ -280,127 +166,68 @@ impl Maker {
     }
 }
 
-/// Calls.
-impl Maker {
-    /// Any known call that the budget allows, or else one that only reads, if
-    /// one is known.
-    fn call(&mut self) {
-        let calls = self.known.among(&CALLS);
-        let reads = self.known.among(&[COUNT, ORDER, PAIR]);
-        let op = self.rng.pick(&calls);
-        let (a, b) = self.arguments(op);
-        if self.cost(op, a) <= self.budget || reads.is_empty() {
-            self.emit(op, a, b);
-        } else {
-            let op = self.rng.pick(&reads);
-            let (a, b) = self.arguments(op);
-            self.emit(op, a, b);
+#[cfg(test)]
+mod tests {
+    use super::*;
+    use crate::naive::play::play;
+
+    /// The answer lines of some lists of a kind.
+    fn lines(kind: &str) -> Vec<String> {
+        let made = (0..200).map(|index| list(1, index, &Known::all()));
+        let of_kind = made.filter(|made| made.kind == kind).take(20);
+        let lines: Vec<String> = of_kind.map(|made| play(&made.bytes)).collect();
+        assert_eq!(lines.len(), 20, "{kind}");
+        lines
+    }
+
+    fn is_start(line: &str) -> bool {
+        line.starts_with("empty ") || line.starts_with("chart ")
+    }
+
+    #[test]
+    fn several_hundred_calls_stand_behind_one_start() {
+        for lines in lines("several hundred calls") {
+            let behind = lines.lines().skip(1).take_while(|line| !is_start(line));
+            assert!(behind.count() >= 200);
         }
     }
 
-    /// Puts a call into the list, if it is known.
-    fn emit(&mut self, op: u64, a: u64, b: u64) {
-        if !self.known.has(op) {
-            return;
-        }
-        self.budget = self.budget.saturating_sub(self.cost(op, a));
-        self.record([op, a, b, 0]);
-        self.calls += 1;
-        let n = self.n as u64;
-        if op == ADD && n < 64 {
-            self.n += 1;
-        } else if op == LINK && a < n && b < n && a != b {
-            self.edges.push((a as u8, b as u8));
-        }
-    }
-
-    fn cost(&self, op: u64, a: u64) -> u64 {
-        let (n, m) = (self.n, self.edges.len());
-        match op {
-            LINK | UNLINK | MOVE | LAY => 2 * cost::count(m),
-            SIFT => cost::sift(n, m),
-            ROUND => cost::rounds(n, m, 1),
-            SETTLE if a <= 1000 => cost::rounds(n, m, a),
-            _ => 0,
+    #[test]
+    fn graphs_with_ties_are_laid_from_every_vertex() {
+        for lines in lines("lay from every vertex") {
+            let lines: Vec<&str> = lines.lines().collect();
+            let starts = lines.split(|line| is_start(line));
+            for behind in starts.filter(|behind| behind.iter().any(|l| l.starts_with("lay "))) {
+                let lays = |start: &str| behind.iter().filter(|l| l.starts_with(start)).count();
+                let n = behind[0].split(" n ").nth(1).expect("a line has n");
+                let n = n.split(' ').next().expect("a number");
+                assert_eq!(lays("lay 0 ").to_string(), n);
+                assert_eq!(lays("lay 12 "), 1);
+            }
         }
     }
 
-    fn arguments(&mut self, op: u64) -> (u64, u64) {
-        match op {
-            LINK if self.rng.once_in(6) => self.known_edge(),
-            UNLINK if !self.rng.once_in(4) => self.known_edge(),
-            LINK | UNLINK | MOVE => self.two_vertices(),
-            LAY | SIFT => (self.vertex(), 0),
-            SETTLE => (self.limit(), 0),
-            ORDER => (self.buffer(), self.rng.below(300) as u64),
-            _ => (0, 0),
+    #[test]
+    fn each_call_that_sifts_stands_behind_some_lay() {
+        let lines = lines("lay, then sifting").concat();
+        let lines: Vec<&str> = lines.lines().collect();
+        for call in ["sift 0 ", "round 0 ", "settle 0 "] {
+            let is_behind =
+                |pair: &[&str]| pair[0].starts_with("lay 0 ") && pair[1].starts_with(call);
+            assert!(lines.windows(2).any(is_behind), "{call}");
         }
     }
 
-    /// A vertex, now and then one that isn't there.
-    fn vertex(&mut self) -> u64 {
-        let v = self.rng.below(self.n.max(1)) as u64;
-        if !self.rng.once_in(12) {
-            return v;
+    #[test]
+    fn kinds_without_their_call_are_not_made() {
+        let known = Known::parse("layout,sifting").expect("known names");
+        let kinds = kinds(&known);
+        let due = ["several hundred calls", "several starts"];
+        assert!(kinds.iter().eq(&due), "{kinds:?}");
+        for index in 0..50 {
+            let made = list(1, index, &known);
+            assert!(kinds.contains(made.kind));
+            assert!(!play(&made.bytes).contains("lay "));
         }
-        let n = self.n as u64;
-        let near = [n, n + 1, 63, 64, 255, 256, 256 + v, 65_536 + v];
-        let far = [1 << 32, (1 << 32) + v, (1 << 63) + v, u64::MAX];
-        let from = if self.rng.once_in(2) { &near[..] } else { &far };
-        self.rng.pick(from)
-    }
-
-    /// Two vertices, now and then the same.
-    fn two_vertices(&mut self) -> (u64, u64) {
-        let a = self.vertex();
-        let b = if self.rng.once_in(12) {
-            a
-        } else {
-            self.vertex()
-        };
-        (a, b)
-    }
-
-    /// An edge that was there at some time, either way round.
-    fn known_edge(&mut self) -> (u64, u64) {
-        if self.edges.is_empty() {
-            return self.two_vertices();
-        }
-        let (a, b) = self.rng.pick(&self.edges);
-        let ends = (u64::from(a), u64::from(b));
-        self.rng.pick(&[ends, (ends.1, ends.0)])
-    }
-
-    fn limit(&mut self) -> u64 {
-        let any = self.rng.within(1, 1000) as u64;
-        let wide = 1 << 32;
-        self.rng.pick(&[
-            0,
-            1,
-            1,
-            2,
-            2,
-            3,
-            50,
-            50,
-            50,
-            any,
-            any,
-            1000,
-            1000,
-            1001,
-            wide - 1,
-            wide,
-            wide + 1,
-            u64::MAX,
-        ])
-    }
-
-    fn buffer(&mut self) -> u64 {
-        let n = self.n as u64;
-        let any = self.rng.below(66) as u64;
-        let odd = self.rng.pick(&[64, 255, 256, 1 << 32, u64::MAX]);
-        let lengths = [n, n + 1, n.saturating_sub(1), any, any, odd];
-        self.rng.pick(&lengths)
     }
 }

@@ -2,9 +2,13 @@
 
 pub mod charts;
 pub mod cost;
+pub mod families;
 pub mod graph;
 pub mod lists;
+pub mod maker;
 pub mod ops;
+pub mod records;
 pub mod special;
 pub mod spoil;
+pub mod starts;
 pub mod stored;

@@ -43,12 +43,19 @@ const CALLS: [Call; 12] = [
 ];
 
 /// Names for several calls at once.
-const SETS: [(&str, &[&str]); 2] = [
+const SETS: [(&str, &[&str]); 3] = [
     (
         "layout",
         &["add", "link", "unlink", "move", "count", "order", "pair"],
     ),
     ("sifting", &["sift", "round", "settle"]),
+    (
+        "all",
+        &[
+            "chart", "add", "link", "unlink", "move", "lay", "sift", "round", "settle", "count",
+            "order", "pair",
+        ],
+    ),
 ];
 
 /// The calls that the programs under test know. Starting from the empty layout
@@ -122,6 +129,15 @@ mod tests {
         assert!(Known::parse("layout,shift").is_none());
         assert!(Known::parse("").is_none());
         assert!(Known::parse("chart").is_none());
+    }
+
+    #[test]
+    fn sets_name_every_call() {
+        let all = Known::all().answers();
+        for names in ["all", "chart,layout,lay,sifting"] {
+            let known = Known::parse(names).expect("known names");
+            assert_eq!(known.answers(), all, "{names}");
+        }
     }
 
     #[test]

@@ -33,6 +33,14 @@ const fn any(kind: &'static str, make: fn(&mut Rng) -> Vec<u8>) -> Special {
 }
 
 pub const SPECIALS: [Special; 34] = [
+    accepted("64 vertices, all 2,016 edges", |_| {
+        let order = (0..64).collect();
+        Chart::of(&Graph {
+            edges: all_pairs(64),
+            order,
+        })
+        .bytes()
+    }),
     refused(1, "8,193 bytes", |rng| with_filler(rng, 8193)),
     refused(1, "more than 8,193 bytes", |rng| {
         let length = rng.within(8194, 20_000);
@@ -161,17 +169,9 @@ pub const SPECIALS: [Special; 34] = [
         }
         .bytes()
     }),
-    accepted("64 vertices, all 2,016 edges", |_| {
-        let order = (0..64).collect();
-        Chart::of(&Graph {
-            edges: all_pairs(64),
-            order,
-        })
-        .bytes()
-    }),
     accepted("64 vertices, many edges", |rng| {
         let mut graph = Graph::random(rng, 64, 0);
-        graph.edges = some_pairs(rng, 64, 600, 1000);
+        graph.edges = some_pairs(rng, 64, 300, 500);
         Chart::of(&graph).bytes()
     }),
     accepted("a length about a high byte", |rng| {

@@ -2,9 +2,9 @@
 //! each of its refusal numbers, on layouts small enough to follow by hand.
 
 use super::charts::Chart;
-use super::graph::{all_pairs, Graph};
-use super::lists::{bytes, chart, fields};
+use super::graph::{all_pairs, vertices, Graph};
 use super::ops::*;
+use super::records::{bytes, chart, fields};
 use super::special::SPECIALS;
 use crate::rng::Rng;
 
@@ -20,6 +20,7 @@ pub fn list(known: &Known) -> Vec<u8> {
     list.empty_layout();
     list.six_vertices();
     list.far_vertices();
+    list.lays();
     list.full_layout();
     list.invalid_layouts();
     list.any_count();
@@ -136,6 +137,29 @@ impl List<'_> {
         }
     }
 
+    /// Lays from every vertex of graphs in rising order: one vertex, the ring
+    /// worked by hand in document 01, without and with a vertex without edges,
+    /// one that begins far from the edges, and one whose crossings rise.
+    fn lays(&mut self) {
+        for (n, edges) in [
+            (1, vec![]),
+            (4, vec![(0, 1), (0, 2), (1, 3), (2, 3)]),
+            (5, vec![(0, 1), (0, 2), (1, 3), (2, 3)]),
+            (6, vec![(1, 2), (1, 3), (2, 4), (3, 4)]),
+            (
+                5,
+                vec![(0, 1), (0, 2), (0, 4), (1, 2), (1, 3), (2, 3), (3, 4)],
+            ),
+        ] {
+            let order = vertices(n);
+            for v in 0..=n as u64 {
+                let (edges, order) = (edges.clone(), order.clone());
+                self.play(&fields(&Graph { edges, order }));
+                self.play(&[[LAY, v, 0, 0]]);
+            }
+        }
+    }
+
     /// 64 vertices against the sun, with all 2,016 edges.
     fn full_layout(&mut self) {
         let edges = all_pairs(64);
@@ -149,6 +173,7 @@ impl List<'_> {
             [UNLINK, 0, 63, 0],
             [LINK, 63, 0, 0],
             [MOVE, 63, 0, 0],
+            [LAY, 63, 0, 0],
             [ORDER, 63, 0, 0],
             [ORDER, 64, 0, 0],
             [ORDER, 65, 200, 0],
@@ -231,6 +256,7 @@ impl List<'_> {
 #[cfg(test)]
 mod tests {
     use super::*;
+    use crate::difference::first_difference;
     use crate::naive::play::play;
 
     #[test]
@@ -243,5 +269,18 @@ mod tests {
             assert!(lines.lines().any(met), "{start}");
         }
         assert!(lines.ends_with("end\n"));
+    }
+
+    /// What `tests/store` wrote, with the second program, for the player.
+    #[test]
+    fn the_naive_model_prints_what_is_stored() {
+        let stored = |name: &str| {
+            let crates = concat!(env!("CARGO_MANIFEST_DIR"), "/../../crates");
+            std::fs::read(format!("{crates}/layout_run/{name}")).expect("a stored file")
+        };
+        let calls = stored("stdin");
+        assert!(calls == list(&Known::all()), "tests/store writes it anew");
+        let difference = first_difference(play(&calls).as_bytes(), &stored("stdout"));
+        assert_eq!(difference, None);
     }
 }

@@ -74,21 +74,31 @@ pub fn edges(layout: &Layout) -> Vec<Edge> {
     edges
 }
 
-/// The places in which the first and the second ends of edges stand.
+/// So many edges are looked at together; that is quicker.
+const TOGETHER: usize = 32;
+
+/// The places in which the first and the second ends of edges stand, as signed
+/// bytes, which are quicker to compare. Behind them comes what fills up the
+/// last edges that are looked at together: edges from a place to itself, which
+/// cross nothing.
 struct Places {
-    first: Vec<u8>,
-    second: Vec<u8>,
+    first: Vec<i8>,
+    second: Vec<i8>,
 }
 
 fn places(order: &[usize], edges: &[Edge]) -> Places {
     let mut place = [0; 64];
     for (i, &v) in order.iter().enumerate() {
-        place[v] = i as u8;
+        place[v] = i as i8;
     }
-    Places {
+    let mut places = Places {
         first: edges.iter().map(|&(v, _)| place[v]).collect(),
         second: edges.iter().map(|&(_, w)| place[w]).collect(),
-    }
+    };
+    let filled = edges.len() + TOGETHER - 1;
+    places.first.resize(filled, 0);
+    places.second.resize(filled, 0);
+    places
 }
 
 /// The crossings of the edges in an order: the unordered pairs that cross.
@@ -97,27 +107,26 @@ pub fn crossings(order: &[usize], edges: &[Edge]) -> u32 {
     let mut total = 0;
     for i in 0..edges.len() {
         let edge = (places.first[i], places.second[i]);
-        total += crossed(edge, &places.first[i + 1..], &places.second[i + 1..]);
+        let first = places.first[i + 1..].chunks_exact(TOGETHER);
+        let second = places.second[i + 1..].chunks_exact(TOGETHER);
+        for (first, second) in first.zip(second) {
+            total += u32::from(crossed(edge, first, second));
+        }
     }
     total
 }
 
-/// How many of the later edges cross one, looked at one by one. In parts, so
-/// that a part's sum fits a byte; that is quicker.
-fn crossed((a, b): (u8, u8), first: &[u8], second: &[u8]) -> u32 {
-    let parts = first.chunks(255).zip(second.chunks(255));
-    let sum = |(first, second): (&[u8], &[u8])| -> u8 {
-        let later = first.iter().zip(second);
-        later.map(|(&c, &d)| u8::from(cross((a, b), (c, d)))).sum()
-    };
-    parts.map(|part| u32::from(sum(part))).sum()
+/// How many of some edges cross one, looked at one by one.
+fn crossed(edge: (i8, i8), first: &[i8], second: &[i8]) -> u8 {
+    let others = first.iter().zip(second);
+    others.map(|(&c, &d)| u8::from(cross(edge, (c, d)))).sum()
 }
 
 /// Whether two edges, given by the places of their ends, cross: the four ends
 /// are all different, and those of one alternate with those of the other.
-fn cross((a, b): (u8, u8), (c, d): (u8, u8)) -> bool {
+fn cross((a, b): (i8, i8), (c, d): (i8, i8)) -> bool {
     let different = (a != c) & (a != d) & (b != c) & (b != d);
-    let between = |x: u8| (a.min(b) < x) & (x < a.max(b));
+    let between = |x: i8| (a.min(b) < x) & (x < a.max(b));
     different & (between(c) != between(d))
 }
 

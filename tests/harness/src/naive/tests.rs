@@ -1,4 +1,5 @@
-//! The naive model on the rings worked by hand in document 01.
+//! The naive model on the rings worked by hand in document 01, on the points
+//! that it leaves open of lay, and on random graphs.
 
 use super::calls;
 use super::chart::read;
@@ -6,7 +7,8 @@ use super::layout::{crossings, edges, empty, list, Edge, Layout};
 use super::list::listing;
 use super::play::play;
 use crate::make::charts::Chart;
-use crate::make::graph::{all_pairs, Graph};
+use crate::make::graph::{all_pairs, vertices, Graph};
+use crate::rng::Rng;
 
 const FIRST: [(u8, u8); 2] = [(0, 2), (1, 3)];
 
@@ -17,9 +19,16 @@ fn layout(order: &[u8], edges: &[(u8, u8)]) -> Layout {
     layout
 }
 
-fn complete(n: u8) -> Layout {
-    let order: Vec<u8> = (0..n).collect();
-    layout(&order, &all_pairs(order.len()))
+fn complete(n: usize) -> Layout {
+    layout(&vertices(n), &all_pairs(n))
+}
+
+/// The list, the tally and the crossings after laying vertices in rising order.
+fn laid(n: usize, edges: &[(u8, u8)], start: u64) -> (Vec<usize>, u32, u32) {
+    let mut ring = layout(&vertices(n), edges);
+    let (refusal, tally) = calls::lay(&mut ring, start);
+    assert_eq!(refusal, 0);
+    (list(&ring), tally, ring.count)
 }
 
 fn pair(layout: &Layout) -> Option<(Edge, Edge)> {
@@ -55,10 +64,83 @@ fn moving_and_laying_the_worked_rings() {
     let mut ring = layout(&[0, 1, 2, 3], &[]);
     assert_eq!(calls::move_behind(&mut ring, 3, 0), 0);
     assert_eq!(list(&ring), [0, 3, 1, 2]);
-    let mut ring = layout(&[0, 1, 2, 3], &[(0, 1), (0, 2), (1, 3), (2, 3)]);
-    assert_eq!(calls::lay(&mut ring, 0), (0, 0));
-    assert_eq!(list(&ring), [2, 0, 1, 3]);
+    let edges = [(0, 1), (0, 2), (1, 3), (2, 3)];
+    assert_eq!(laid(4, &edges, 0), (vec![2, 0, 1, 3], 0, 0));
     assert_eq!(calls::lay(&mut empty(), 0), (12, 0));
+}
+
+#[test]
+fn the_second_vertex_goes_to_the_back() {
+    assert_eq!(laid(2, &[(0, 1)], 0), (vec![0, 1], 0, 0));
+    assert_eq!(laid(2, &[], 1), (vec![1, 0], 0, 0));
+    assert_eq!(laid(3, &all_pairs(3), 1), (vec![1, 0, 2], 0, 0));
+}
+
+#[test]
+fn with_nothing_placed_near_the_fewest_unplaced_neighbours_decide() {
+    let edges = [(1, 2), (1, 3), (2, 4), (3, 4)];
+    assert_eq!(laid(6, &edges, 5), (vec![3, 5, 0, 1, 2, 4], 0, 0));
+    assert_eq!(laid(4, &[(0, 1)], 3), (vec![3, 2, 0, 1], 0, 0));
+    let edges = [(0, 1), (0, 2), (3, 4)];
+    assert_eq!(laid(6, &edges, 5), (vec![5, 1, 0, 2, 3, 4], 0, 0));
+}
+
+#[test]
+fn the_first_placed_is_not_the_first_in_the_list() {
+    let edges = [(0, 1), (0, 2), (1, 3), (2, 3)];
+    assert_eq!(laid(5, &edges, 4), (vec![2, 4, 0, 1, 3], 0, 0));
+}
+
+#[test]
+fn laying_can_raise_the_crossings() {
+    let edges = [(0, 1), (0, 2), (0, 4), (1, 2), (1, 3), (2, 3), (3, 4)];
+    assert_eq!(layout(&vertices(5), &edges).count, 1);
+    assert_eq!(laid(5, &edges, 1), (vec![1, 0, 2, 3, 4], 2, 2));
+}
+
+/// A closing and an open edge that cross at the end taken do cross in the end:
+/// what is placed later stands outside of both. And of two edges that cross in
+/// the end, one was closed while the other was open.
+#[test]
+fn a_tally_is_the_crossings_laid() {
+    for index in 0..400 {
+        let mut rng = Rng::new(1, "tally", index);
+        let n = rng.within(1, 64);
+        let graph = Graph::random(&mut rng, n, usize::MAX);
+        let mut ring = layout(&graph.order, &graph.edges);
+        let start = rng.below(n) as u64;
+        let (refusal, tally) = calls::lay(&mut ring, start);
+        assert_eq!(refusal, 0);
+        let laid = crossings(&list(&ring), &edges(&ring));
+        assert_eq!((tally, ring.count), (laid, laid), "{ring:?} from {start}");
+    }
+}
+
+/// The crossings, each pair of edges looked at alone.
+fn one_by_one(order: &[usize], edges: &[Edge]) -> u32 {
+    let place = |v| order.iter().position(|&w| w == v).expect("v is listed");
+    let places = |&(v, w): &Edge| (place(v).min(place(w)), place(v).max(place(w)));
+    let places: Vec<(usize, usize)> = edges.iter().map(places).collect();
+    let mut total = 0;
+    for &(a, b) in &places {
+        for &(c, d) in &places {
+            total += u32::from(a < c && c < b && b < d);
+        }
+    }
+    total
+}
+
+#[test]
+fn edges_looked_at_together_are_counted_as_one_by_one() {
+    for m in 0..150 {
+        let mut rng = Rng::new(1, "together", m);
+        let mut graph = Graph::random(&mut rng, 64, 0);
+        graph.edges = all_pairs(64);
+        rng.shuffle(&mut graph.edges);
+        graph.edges.truncate(m);
+        let ring = layout(&graph.order, &graph.edges);
+        assert_eq!(ring.count, one_by_one(&list(&ring), &edges(&ring)));
+    }
 }
 
 #[test]

@@ -51,6 +51,36 @@ pub fn all_graphs(n: u8) -> impl Iterator<Item = Vec<(u8, u8)>> {
     })
 }
 
+/// Numbers from a seed (splitmix64).
+pub struct Random(pub u64);
+
+impl Random {
+    pub fn below(&mut self, bound: usize) -> usize {
+        self.0 = self.0.wrapping_add(0x9E37_79B9_7F4A_7C15);
+        let mut z = self.0;
+        z = (z ^ (z >> 30)).wrapping_mul(0xBF58_476D_1CE4_E5B9);
+        z = (z ^ (z >> 27)).wrapping_mul(0x94D0_49BB_1331_11EB);
+        ((z ^ (z >> 31)) % bound as u64) as usize
+    }
+
+    /// A layout of 1 to 64 vertices with any number of edges.
+    pub fn layout(&mut self) -> Layout {
+        let n = 1 + self.below(64) as u8;
+        let mut edges = all_edges(n);
+        self.shuffle(&mut edges);
+        let m = self.below(edges.len() + 1);
+        let mut order = rising(n);
+        self.shuffle(&mut order);
+        layout(&order, &edges[..m])
+    }
+
+    fn shuffle<T>(&mut self, items: &mut [T]) {
+        for i in (1..items.len()).rev() {
+            items.swap(i, self.below(i + 1));
+        }
+    }
+}
+
 /// A field of a chart.
 pub fn field(tag: u8, body: &[u8]) -> Vec<u8> {
     let length = u16::try_from(body.len()).expect("a body fits its length");

@@ -1,0 +1,248 @@
+//! A list of calls in the making.
+
+use super::charts::Chart;
+use super::cost;
+use super::graph::{Edge, Graph};
+use super::ops::*;
+use super::records;
+use crate::rng::Rng;
+
+/// The calls, those oftener that are to come oftener.
+const CALLS: [u64; 25] = [
+    ADD, ADD, LINK, LINK, LINK, LINK, LINK, UNLINK, UNLINK, UNLINK, MOVE, MOVE, MOVE, LAY, LAY,
+    SIFT, SIFT, SIFT, ROUND, SETTLE, SETTLE, COUNT, ORDER, ORDER, PAIR,
+];
+
+/// What the naive model may do for one list.
+const BUDGET: u64 = 1 << 28;
+
+/// A list in the making. What is held of the layout is what it is if it was
+/// valid at its start, and otherwise good enough to name vertices and edges by.
+pub struct Maker {
+    pub rng: Rng,
+    pub known: Known,
+    pub bytes: Vec<u8>,
+    /// The names of the starts.
+    pub starts: Vec<&'static str>,
+    /// The names of the families that graphs are of.
+    pub graphs: Vec<&'static str>,
+    /// How many calls there are.
+    pub calls: usize,
+    pub n: usize,
+    edges: Vec<Edge>,
+    budget: u64,
+}
+
+impl Maker {
+    pub fn new(rng: Rng, known: &Known) -> Maker {
+        Maker {
+            rng,
+            known: known.clone(),
+            bytes: Vec::new(),
+            starts: Vec::new(),
+            graphs: Vec::new(),
+            calls: 0,
+            n: 0,
+            edges: Vec::new(),
+            budget: BUDGET,
+        }
+    }
+
+    pub fn record(&mut self, record: Record) {
+        self.bytes.extend(records::bytes(record));
+    }
+
+    pub fn chart(&mut self, bytes: &[u8]) {
+        self.bytes.extend(records::chart(bytes));
+    }
+
+    /// Starts from the empty layout.
+    pub fn write_empty(&mut self) {
+        self.record([EMPTY, 0, 0, 0]);
+        self.forget();
+    }
+
+    /// Starts from the chart of a graph.
+    pub fn write_chart(&mut self, graph: &Graph) {
+        self.chart(&Chart::of(graph).bytes());
+        (self.n, self.edges) = (graph.n(), graph.edges.clone());
+    }
+
+    /// Starts from the layout of a graph, set field by field.
+    pub fn write_fields(&mut self, graph: &Graph) {
+        for record in records::fields(graph) {
+            self.record(record);
+        }
+        (self.n, self.edges) = (graph.n(), graph.edges.clone());
+    }
+
+    /// Starts from a graph in one way or the other.
+    pub fn write_graph(&mut self, graph: &Graph) {
+        if self.known.has(CHART) && self.rng.once_in(2) {
+            self.write_chart(graph);
+        } else {
+            self.write_fields(graph);
+        }
+    }
+
+    /// The layout is the empty one, or nothing is known of it.
+    pub fn forget(&mut self) {
+        (self.n, self.edges) = (0, Vec::new());
+    }
+
+    /// The most edges with which n vertices can be settled a few times.
+    pub fn most_edges(&self, n: usize) -> usize {
+        cost::most_edges(n, self.budget / 4)
+    }
+
+    /// So many calls of any kind.
+    pub fn any_calls(&mut self, least: usize, most: usize) {
+        for _ in 0..self.rng.within(least, most) {
+            self.any_call();
+        }
+    }
+
+    /// Any known call that the budget allows, or any known call if it allows
+    /// none.
+    pub fn any_call(&mut self) {
+        let known = self.known.among(&CALLS);
+        let mut calls = known.clone();
+        calls.retain(|&op| self.allows(op));
+        let op = self
+            .rng
+            .pick(if calls.is_empty() { &known } else { &calls });
+        self.call(op);
+    }
+
+    /// A call with any arguments, if it is known.
+    pub fn call(&mut self, op: u64) {
+        let (a, b) = self.arguments(op);
+        self.emit(op, a, b);
+    }
+
+    /// Puts a call into the list, if it is known.
+    pub fn emit(&mut self, op: u64, a: u64, b: u64) {
+        if !self.known.has(op) {
+            return;
+        }
+        self.budget = self.budget.saturating_sub(self.cost(op, a));
+        self.record([op, a, b, 0]);
+        self.calls += 1;
+        self.follow(op, a, b);
+    }
+
+    /// Whether the budget allows a call, a settling with a high limit too.
+    pub fn allows(&self, op: u64) -> bool {
+        self.cost(op, 1000) <= self.budget
+    }
+
+    fn cost(&self, op: u64, a: u64) -> u64 {
+        let (n, m) = (self.n, self.edges.len());
+        match op {
+            LINK | UNLINK | MOVE => 2 * cost::count(m),
+            LAY => cost::lay(n, m) + 2 * cost::count(m),
+            SIFT => cost::sift(n, m),
+            ROUND => cost::rounds(n, m, 1),
+            SETTLE if a <= 1000 => cost::rounds(n, m, a),
+            _ => 0,
+        }
+    }
+
+    /// What a call does to the vertices and the edges.
+    fn follow(&mut self, op: u64, a: u64, b: u64) {
+        let n = self.n as u64;
+        let (edge, turned) = ((a as u8, b as u8), (b as u8, a as u8));
+        match op {
+            ADD if n < 64 => self.n += 1,
+            LINK | UNLINK if a < n && b < n && a != b => {
+                self.edges.retain(|&held| held != edge && held != turned);
+                if op == LINK {
+                    self.edges.push(edge);
+                }
+            }
+            _ => {}
+        }
+    }
+}
+
+/// Arguments.
+impl Maker {
+    fn arguments(&mut self, op: u64) -> (u64, u64) {
+        match op {
+            LINK if self.rng.once_in(6) => self.known_edge(),
+            UNLINK if !self.rng.once_in(4) => self.known_edge(),
+            LINK | UNLINK | MOVE => self.two_vertices(),
+            LAY | SIFT => (self.vertex(), 0),
+            SETTLE => (self.limit(), 0),
+            ORDER => (self.buffer(), self.rng.below(300) as u64),
+            _ => (0, 0),
+        }
+    }
+
+    /// A vertex, now and then one that isn't there.
+    pub fn vertex(&mut self) -> u64 {
+        let v = self.rng.below(self.n.max(1)) as u64;
+        if !self.rng.once_in(12) {
+            return v;
+        }
+        let n = self.n as u64;
+        let near = [n, n + 1, 63, 64, 255, 256, 256 + v, 65_536 + v];
+        let far = [1 << 32, (1 << 32) + v, (1 << 63) + v, u64::MAX];
+        let from = if self.rng.once_in(2) { &near[..] } else { &far };
+        self.rng.pick(from)
+    }
+
+    /// Two vertices, now and then the same.
+    pub fn two_vertices(&mut self) -> (u64, u64) {
+        let a = self.vertex();
+        let b = if self.rng.once_in(12) {
+            a
+        } else {
+            self.vertex()
+        };
+        (a, b)
+    }
+
+    /// An edge that is there, either way round.
+    fn known_edge(&mut self) -> (u64, u64) {
+        if self.edges.is_empty() {
+            return self.two_vertices();
+        }
+        let (a, b) = self.rng.pick(&self.edges);
+        let ends = (u64::from(a), u64::from(b));
+        self.rng.pick(&[ends, (ends.1, ends.0)])
+    }
+
+    fn limit(&mut self) -> u64 {
+        let any = self.rng.within(1, 1000) as u64;
+        let wide = 1 << 32;
+        self.rng.pick(&[
+            0,
+            1,
+            1,
+            2,
+            2,
+            3,
+            50,
+            50,
+            50,
+            any,
+            any,
+            1000,
+            1000,
+            1001,
+            wide - 1,
+            wide,
+            wide + 1,
+            u64::MAX,
+        ])
+    }
+
+    fn buffer(&mut self) -> u64 {
+        let n = self.n as u64;
+        let any = self.rng.below(66) as u64;
+        let odd = self.rng.pick(&[64, 255, 256, 1 << 32, u64::MAX]);
+        let lengths = [n, n + 1, n.saturating_sub(1), any, any, odd];
+        self.rng.pick(&lengths)
+    }
+}

@@ -1,0 +1,30 @@
+//! Records and charts as they stand in a list (tests/README.md).
+
+use super::graph::Graph;
+use super::ops::{Record, CHART, EMPTY, SET_N, SET_ORDER, SET_WORD};
+
+pub fn bytes(record: Record) -> Vec<u8> {
+    record.iter().flat_map(|n| n.to_le_bytes()).collect()
+}
+
+/// A start from a chart, padded.
+pub fn chart(chart: &[u8]) -> Vec<u8> {
+    let mut start = bytes([CHART, chart.len() as u64, 0, 0]);
+    start.extend(chart);
+    start.resize(start.len().next_multiple_of(32), 0);
+    start
+}
+
+/// A start from a layout set field by field.
+pub fn fields(graph: &Graph) -> Vec<Record> {
+    let mut records = vec![[EMPTY, 0, 0, 0], [SET_N, graph.n() as u64, 0, 0]];
+    for (place, &v) in graph.order.iter().enumerate() {
+        records.push([SET_ORDER, place as u64, u64::from(v), 0]);
+    }
+    for (v, &word) in graph.words().iter().enumerate() {
+        if word != 0 {
+            records.push([SET_WORD, v as u64, word, 0]);
+        }
+    }
+    records
+}
