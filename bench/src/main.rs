@@ -3,6 +3,7 @@
 //! alike is. See bench/README.md.
 
 mod layouts;
+mod lists;
 mod proved;
 mod timing;
 
@@ -24,7 +25,9 @@ fn main() {
     }
     no_pair();
     charts();
+    appending();
     sifting();
+    playing();
     refused();
     handing_over();
 }
@@ -120,6 +123,26 @@ fn charts() {
         "reading a chart refused 3, a fourth field",
         || proved::read_chart(black_box(&bytes)),
         || second::chart::read(black_box(&bytes)),
+    );
+}
+
+/// Laying 64 vertices with 1,000 edges.
+fn appending() {
+    let l = black_box(layout(64, 1000));
+    row(
+        "lay, 64 vertices, 1000 edges",
+        || proved::greedy_append(l, 5),
+        || calls::greedy_append(l, 5),
+    );
+}
+
+/// A list of calls, each on what the one before it left.
+fn playing() {
+    let list = black_box(lists::mixed(1000));
+    row(
+        "1000 mixed calls from the empty layout",
+        || proved::play(&list),
+        || lists::play(&list),
     );
 }
 

@@ -6,6 +6,8 @@ use second::calls::{Answer, Crossing};
 use second::layout::{Layout, PLACES};
 use second::sifting::{Convergence, Round};
 
+use crate::lists::{Call, Played};
+
 type Order = [u8; PLACES];
 type Words = [u64; PLACES];
 
@@ -43,6 +45,14 @@ extern "C" {
         a: u64,
         b: u64,
     ) -> u8;
+    fn bench_lay(
+        n: &mut u64,
+        order: &mut Order,
+        words: &mut Words,
+        count: &mut u32,
+        start: u64,
+        tally: &mut u32,
+    ) -> u8;
     fn bench_sift(
         n: &mut u64,
         order: &mut Order,
@@ -69,6 +79,16 @@ extern "C" {
         rounds: &mut u32,
         converged: &mut bool,
     ) -> u8;
+    fn bench_play(
+        calls: *const u64,
+        calls_length: usize,
+        table: *mut u64,
+        table_length: usize,
+        n: &mut u64,
+        order: &mut Order,
+        words: &mut Words,
+        count: &mut u32,
+    ) -> usize;
     fn bench_pair(
         n: u64,
         order: &Order,
@@ -136,6 +156,22 @@ pub fn remove_edge(layout: Layout, a: u64, b: u64) -> Answer<()> {
 
 pub fn move_after(layout: Layout, a: u64, b: u64) -> Answer<()> {
     edit(bench_move, layout, a, b)
+}
+
+pub fn greedy_append(mut layout: Layout, start: u64) -> Answer<u32> {
+    let l = &mut layout;
+    let mut tally = 0;
+    let refusal = unsafe {
+        bench_lay(
+            &mut l.n,
+            &mut l.order,
+            &mut l.adjacency,
+            &mut l.count,
+            start,
+            &mut tally,
+        )
+    };
+    answer(refusal, layout, tally)
 }
 
 pub fn sift(mut layout: Layout, u: u64) -> Answer<u32> {
@@ -254,6 +290,29 @@ pub fn read_chart(bytes: &[u8]) -> Result<Layout, u8> {
         0 => Ok(l),
         _ => Err(refusal),
     }
+}
+
+/// Plays a list from the empty layout. The proved side is lent the calls and the
+/// table of their answers, and says how many calls it played.
+pub fn play(list: &[Call]) -> Played {
+    let mut l = Layout::EMPTY;
+    let mut table = vec![[0; 4]; list.len()];
+    let calls = list.as_flattened();
+    let answers = table.as_flattened_mut();
+    let played = unsafe {
+        bench_play(
+            calls.as_ptr(),
+            calls.len(),
+            answers.as_mut_ptr(),
+            answers.len(),
+            &mut l.n,
+            &mut l.order,
+            &mut l.adjacency,
+            &mut l.count,
+        )
+    };
+    assert_eq!(played, list.len(), "every call is played");
+    Played { table, layout: l }
 }
 
 fn edit(call: Edit, mut layout: Layout, a: u64, b: u64) -> Answer<()> {
