@@ -11,30 +11,11 @@ use lib.Dec.{eqb}
 use Rattle.model.specs.Lists.{one, sumOver, sumPairs}
 use Rattle.model.specs.Crossings.{bit}
 use Rattle.laws.specs.Indicators.{one-le}
-use Rattle.laws.specs.ListSums.{All, none, also, sumOver-append}
+use Rattle.laws.specs.ListSums.{sumOver-scale, sumOver-scale-right, sumOver-last, sumPairs-last}
 use Rattle.laws.specs.Bits.{maskedOnes, maskedOnes-le}
 use Rattle.append.specs.declared.ends.Ends.{Ends}
 
--- ---- sums over a list that grows at its end
-
-sumOver-snoc : (f : ℕ → ℕ) (xs : List ℕ) (x : ℕ) → sumOver f (xs ++ (x ∷ [])) ≡ sumOver f xs + f x
-unfolding sumOver
-sumOver-snoc f xs x = sumOver-append f xs (x ∷ []) ∙ omega arith
-
-sumPairs-snoc : (f : ℕ → ℕ → ℕ) (xs : List ℕ) (x : ℕ) → sumPairs f (xs ++ (x ∷ [])) ≡ sumPairs f xs + sumOver (λ y. f y x) xs
-unfolding sumPairs sumOver
-sumPairs-snoc f [] x = refl
-sumPairs-snoc f (y ∷ xs) x = rw (sumOver-snoc (f y) xs x, sumPairs-snoc f xs x) (omega arith)
-
-sumOver-scale : (c : ℕ) (f : ℕ → ℕ) (xs : List ℕ) → sumOver (λ x. c * f x) xs ≡ c * sumOver f xs
-unfolding sumOver
-sumOver-scale c f [] = omega arith
-sumOver-scale c f (x ∷ xs) = rw (sumOver-scale c f xs) (omega arith)
-
-sumOver-scale-right : (c : ℕ) (f : ℕ → ℕ) (xs : List ℕ) → sumOver (λ x. f x * c) xs ≡ sumOver f xs * c
-unfolding sumOver
-sumOver-scale-right c f [] = omega arith
-sumOver-scale-right c f (x ∷ xs) = rw (sumOver-scale-right c f xs) (omega arith)
+-- ---- sums of small numbers
 
 sumOver-most : (m : ℕ) (f : ℕ → ℕ) → ((x : ℕ) → f x ≤ m) → (xs : List ℕ) → sumOver f xs ≤ m * length xs
 unfolding sumOver
@@ -79,14 +60,14 @@ module _ (adj : List ℕ) (word others : ℕ) where
   unfolding endsOf sumPairs sumOver
   ends-none = refl
 
-  pub ends-snoc : (xs : List ℕ) (x : ℕ) → endsOf (xs ++ (x ∷ [])) ≡ passedOf (endsOf xs) (closingTo x) (openFrom x)
+  pub ends-last : (xs : List ℕ) (x : ℕ) → endsOf (xs ++ (x ∷ [])) ≡ passedOf (endsOf xs) (closingTo x) (openFrom x)
   unfolding endsOf passedOf
-  ends-snoc xs x =
+  ends-last xs x =
       rw (
-        sumPairs-snoc (λ q p. closingTo p * openFrom q) xs x,
-        sumPairs-snoc (λ p q. closingTo p * openFrom q) xs x,
-        sumOver-snoc closingTo xs x,
-        sumOver-snoc openFrom xs x,
+        sumPairs-last x (λ q p. closingTo p * openFrom q) xs,
+        sumPairs-last x (λ p q. closingTo p * openFrom q) xs,
+        sumOver-last x closingTo xs,
+        sumOver-last x openFrom xs,
         sumOver-scale (closingTo x) openFrom xs,
         sumOver-scale-right (openFrom x) closingTo xs,
       )
@@ -158,7 +139,7 @@ module _ {adj : List ℕ} {word others : ℕ} {xs : List ℕ} where
         counted =
             n ∙ ap (λ (m : Ends). passedOf m c o) (e .counted)
             ∙ ap₂ (passedOf (endsOf adj word others (take i xs))) hc ho
-            ∙ sym (ap (endsOf adj word others) (take-suc xs i 0 h) ∙ ends-snoc adj word others (take i xs) (getD xs i 0));
+            ∙ sym (ap (endsOf adj word others) (take-suc xs i 0 h) ∙ ends-last adj word others (take i xs) (getD xs i 0));
       })
 
   pub ends-end : {met : Ends} {i : ℕ} → EndsUpTo adj word others xs met i → length xs ≤ i → met ≡ endsOf adj word others xs

@@ -14,7 +14,7 @@ use Rattle.model.specs.Crossings.{linked}
 use Rattle.model.specs.Edits.{withBit}
 use Rattle.model.specs.GreedyAppend.{Placing, unplaced, degreeIn, nextVertex, closing, open′, frontCrossings, backCrossings, placeVertex, placeMore, placeAll}
 use Rattle.laws.specs.Indicators.{less, same, more, order}
-use Rattle.laws.specs.ListSums.{All, none, also, sumOver-ext}
+use Rattle.laws.specs.ListSums.{sumPairs-ext}
 use Rattle.laws.specs.Permutations.{Permutation, occurrences-nil}
 use Rattle.laws.specs.AppendOrder.{Placed, placed-start, placed-front, placed-back, placed-all, next-unplaced, unplacedBut, unplaced-front}
 use Rattle.append.specs.declared.line.Line.{Line}
@@ -61,11 +61,6 @@ pub record Found (n : ℕ) (adj : List ℕ) (s : Partial) (v next : ℕ) (ends :
   pub fits : next < 2 ^ 64
   pub set : next ≡ withBit (s .placed) v
   pub counted : ends ≡ endsOf adj (getD adj v 0) (complement next) (entries (s .line))
-
-sumPairs-ext : {P : ℕ → Type 0} (f g : ℕ → ℕ → ℕ) {xs : List ℕ} → All P xs → ((x y : ℕ) → P x → P y → f x y ≡ g x y) → sumPairs f xs ≡ sumPairs g xs
-unfolding sumPairs
-sumPairs-ext f g none h = refl
-sumPairs-ext f g (also {x} p ps) h = ap₂ (λ (a b : ℕ). a + b) (sumOver-ext (f x) (g x) ps (λ y q. h x y p q)) (sumPairs-ext f g ps h)
 
 -- ---- one step
 
