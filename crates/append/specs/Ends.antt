@@ -1,11 +1,11 @@
 -- One pass over the placed vertices counts the crossings at both ends.
-use Prim.Native.Nat.{ℕ, suc, _+_, _*_, _≤_, _<_}
-use native.Mathlib.Nat.{mul-comm, mul-le-mul, add-le-add}
+use Prim.Native.Nat.{ℕ, _+_, _*_, _≤_, _<_}
+use native.Mathlib.Nat.{mul-le-mul}
 use native.Mathlib.Numerals.{add-one}
 use native.Mathlib.Omega.{arith}
 use mathlib.Core.Path.{_≡_, refl, sym, ap, ap₂, _∙_}
 use mathlib.Core.List.{List, [], _∷_, _++_}
-use lib.ListN.{length, getD, take, length-append}
+use lib.ListN.{length, getD, take}
 use lib.Seq.{take-suc, take-all, length-take-le}
 use lib.Dec.{eqb}
 use Rattle.model.specs.Lists.{one, sumOver, sumPairs}
@@ -39,37 +39,39 @@ passedOf met c o =
       opening = met .opening + o;
     }
 
--- closing edges are bits of the word of the vertex to be placed, open ones go to the vertices of a mask
+-- the closing edge to p, by the word of the vertex to be placed, and the open edges from q, to the vertices of a set
+unfoldable pub closingTo : ℕ → ℕ → ℕ
+closingTo word p = one (eqb (bit word p) 1)
+
+unfoldable pub openFrom : List ℕ → ℕ → ℕ → ℕ
+openFrom adj others q = maskedOnes (getD adj q 0) others
+
+-- all of it, from the definition's sums
+unfoldable pub endsOf : List ℕ → ℕ → ℕ → List ℕ → Ends
+endsOf adj word others xs =
+    record {
+      front = sumPairs (λ q p. closingTo word p * openFrom adj others q) xs;
+      back = sumPairs (λ p q. closingTo word p * openFrom adj others q) xs;
+      closing = sumOver (closingTo word) xs;
+      opening = sumOver (openFrom adj others) xs;
+    }
+
 module _ (adj : List ℕ) (word others : ℕ) where
-  unfoldable pub closingTo : ℕ → ℕ
-  closingTo p = one (eqb (bit word p) 1)
-
-  unfoldable pub openFrom : ℕ → ℕ
-  openFrom q = maskedOnes (getD adj q 0) others
-
-  unfoldable pub endsOf : List ℕ → Ends
-  endsOf xs =
-      record {
-        front = sumPairs (λ q p. closingTo p * openFrom q) xs;
-        back = sumPairs (λ p q. closingTo p * openFrom q) xs;
-        closing = sumOver closingTo xs;
-        opening = sumOver openFrom xs;
-      }
-
-  pub ends-none : endsOf [] ≡ record { front = 0; back = 0; closing = 0; opening = 0 }
+  ends-none : endsOf adj word others [] ≡ record { front = 0; back = 0; closing = 0; opening = 0 }
   unfolding endsOf sumPairs sumOver
   ends-none = refl
 
-  pub ends-last : (xs : List ℕ) (x : ℕ) → endsOf (xs ++ (x ∷ [])) ≡ passedOf (endsOf xs) (closingTo x) (openFrom x)
+  ends-last : (xs : List ℕ) (x : ℕ)
+      → endsOf adj word others (xs ++ (x ∷ [])) ≡ passedOf (endsOf adj word others xs) (closingTo word x) (openFrom adj others x)
   unfolding endsOf passedOf
   ends-last xs x =
       rw (
-        sumPairs-last x (λ q p. closingTo p * openFrom q) xs,
-        sumPairs-last x (λ p q. closingTo p * openFrom q) xs,
-        sumOver-last x closingTo xs,
-        sumOver-last x openFrom xs,
-        sumOver-scale (closingTo x) openFrom xs,
-        sumOver-scale-right (openFrom x) closingTo xs,
+        sumPairs-last x (λ q p. closingTo word p * openFrom adj others q) xs,
+        sumPairs-last x (λ p q. closingTo word p * openFrom adj others q) xs,
+        sumOver-last x (closingTo word) xs,
+        sumOver-last x (openFrom adj others) xs,
+        sumOver-scale (closingTo word x) (openFrom adj others) xs,
+        sumOver-scale-right (openFrom adj others x) (closingTo word) xs,
       )
 
 -- ---- the numbers stay small
@@ -85,11 +87,11 @@ pub products-small : {met : Ends} {c o : ℕ} → Small met 64 → c ≤ 1 → o
 products-small s h k = (mul-le-mul {n₂ = 1} {m₂ = 4096} h (s .opening), mul-le-mul {n₂ = 64} {m₂ = 64} (s .closing) k)
 
 module _ (adj : List ℕ) (word others : ℕ) where
-  pub closing-most : (p : ℕ) → closingTo adj word others p ≤ 1
+  closing-most : (p : ℕ) → closingTo word p ≤ 1
   unfolding closingTo
   closing-most p = one-le (eqb (bit word p) 1)
 
-  pub open-most : (q : ℕ) → openFrom adj word others q ≤ 64
+  open-most : (q : ℕ) → openFrom adj others q ≤ 64
   unfolding openFrom
   open-most q = maskedOnes-le (getD adj q 0) others
 
@@ -97,13 +99,13 @@ module _ (adj : List ℕ) (word others : ℕ) where
   unfolding endsOf
   ends-small xs h =
       record {
-        front = sumPairs-most (λ q p. closingTo adj word others p * openFrom adj word others q) (λ q p. product p q) xs h;
-        back = sumPairs-most (λ p q. closingTo adj word others p * openFrom adj word others q) product xs h;
-        closing = omega (arith, sumOver-most 1 (closingTo adj word others) closing-most xs);
-        opening = sumOver-most 64 (openFrom adj word others) open-most xs;
+        front = sumPairs-most (λ q p. closingTo word p * openFrom adj others q) (λ q p. product p q) xs h;
+        back = sumPairs-most (λ p q. closingTo word p * openFrom adj others q) product xs h;
+        closing = omega (arith, sumOver-most 1 (closingTo word) closing-most xs);
+        opening = sumOver-most 64 (openFrom adj others) open-most xs;
       }
     where
-      product : (p q : ℕ) → closingTo adj word others p * openFrom adj word others q ≤ 64
+      product : (p q : ℕ) → closingTo word p * openFrom adj others q ≤ 64
       product p q = mul-le-mul {n₂ = 1} {m₂ = 64} (closing-most p) (open-most q)
 
 -- ---- the loop over the placed vertices
@@ -130,7 +132,7 @@ module _ {adj : List ℕ} {word others : ℕ} {xs : List ℕ} where
       })
 
   pub ends-next : {met next : Ends} {i c o : ℕ} → EndsUpTo adj word others xs met i → i < length xs
-      → c ≡ closingTo adj word others (getD xs i 0) → o ≡ openFrom adj word others (getD xs i 0) → next ≡ passedOf met c o
+      → c ≡ closingTo word (getD xs i 0) → o ≡ openFrom adj others (getD xs i 0) → next ≡ passedOf met c o
       → EndsUpTo adj word others xs next (i + 1)
   ends-next {met} {next} {i} {c} {o} e h hc ho n =
       rw (add-one i)

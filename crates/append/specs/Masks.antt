@@ -1,7 +1,6 @@
 -- Neighbours counted as ones of an adjacency word: under a word that holds the placed vertices, and under its complement.
-use Prim.Native.Nat.{ℕ, zero, suc, _+_, _*_, _-_, _/_, _%_, _^_, _≤_, _<_}
-use native.Mathlib.Nat.{mul-comm, add-sub-of-le, add-zero, zero-mul, le-of-suc-le-suc, lt-of-lt-of-le, pow-suc, div-add-mod', mod-lt, zero-lt-suc, not-suc-le-zero}
-use native.Mathlib.Numerals.{add-one}
+use Prim.Native.Nat.{ℕ, zero, suc, _+_, _*_, _-_, _^_, _≤_, _<_}
+use native.Mathlib.Nat.{mul-comm, add-sub-of-le, add-zero, zero-mul, lt-of-lt-of-le}
 use native.Mathlib.Decide.{ℕ-discrete}
 use native.Mathlib.Omega.{arith}
 use mathlib.Core.Path.{_≡_, refl, sym, ap, ap₂, _∙_}
@@ -9,15 +8,14 @@ use mathlib.Core.Bool.{Bool, not}
 use mathlib.Core.List.{List, [], _∷_, _++_}
 use lib.ListN.{getD}
 use lib.Dec.{eqb, ltb}
-use lib.Arith.{digits-div, digits-mod}
-use lib.Pow.{pow-pos, shr-lt}
-use Rattle.model.specs.Lists.{one, sumOver, member, occurrences}
+use lib.Pow.{pow-pos}
+use Rattle.model.specs.Lists.{one, member, occurrences}
 use Rattle.model.specs.Crossings.{bit, linked}
 use Rattle.model.specs.Edits.{withBit}
 use Rattle.model.specs.GreedyAppend.{unplaced, degreeIn}
 use Rattle.laws.specs.Indicators.{one-eq, one-ne}
 use Rattle.laws.specs.Sums.{sum, sum-ext, sum-zero, sum-cut}
-use Rattle.laws.specs.ListSums.{All, none, also, all-mono, sumOver-ext}
+use Rattle.laws.specs.ListSums.{all-mono, sumOver-ext}
 use Rattle.laws.specs.Permutations.{occurrences-nil, occurrences-cons, occurrences-append, member-occurs}
 use Rattle.laws.specs.Bits.{bit-beyond, bit-complement, maskedOnes, set-same, set-other}
 use Rattle.laws.specs.MaskCount.{Holds, masked-sum, weight-bit}

@@ -45,11 +45,7 @@ fn place_next(n: usize, adjacency: &[u64; 64], s: Partial) -> Partial
     let before = s.placed;
     let v = next_vertex(n, adjacency, before);
     let placed = words::set(before, v);
-    let line = s.line;
-    let places = line.places;
-    let first = line.first;
-    let end = first + line.size;
-    let ends = end_crossings(&places[first..end], adjacency, adjacency[v], !placed);
+    let ends = end_crossings(s.line, adjacency, adjacency[v], !placed);
     put(s, v, placed, ends)
 }
 

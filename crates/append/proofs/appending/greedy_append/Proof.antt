@@ -1,9 +1,6 @@
 use borrow.Author.Needs.{needs}
-use Prim.Native.Nat.{_<_}
 use mathlib.Core.Path.{_≡_, sym, _∙_}
-use lib.Dec.{T}
 use Rattle.model.specs.Checks.{refusal}
-use Rattle.model.specs.Layouts.{valid}
 use Rattle.model.specs.GreedyAppend.{placeAll, layChecks, layAnswer, layRefused, layOf}
 use Rattle.laws.specs.Refusals.{when-accepted, when-refused, vertex-passed}
 use Rattle.append.proofs.appending.greedy_append.Statement.{statement}

@@ -1,5 +1,4 @@
 use native.Mathlib.Omega.{arith}
-use mathlib.Core.Path.{_≡_}
 use borrow.Author.Tests.{lt-ltb, le-ltb, eq-eqb, ne-eqb}
 use Rattle.append.specs.Choices.{comesBefore, preferredOf}
 use Rattle.append.proofs.choice.preferred.Statement.{statement}
