@@ -1,4 +1,4 @@
--- What an accepted call gives.
+-- What an accepted call answers.
 use Prim.Native.Nat.{ℕ}
 use native.Mathlib.Nat.{lt-of-lt-of-le}
 use mathlib.Core.Path.{_≡_, ap, _∙_}
@@ -7,20 +7,14 @@ use lib.ListN.{drop}
 use lib.Seq.{take-at}
 use lib.Dec.{T}
 use Rattle.model.specs.declared.Layout.{Layout}
-use Rattle.model.specs.declared.Appended.{Appended}
 use Rattle.model.specs.Layouts.{valid, reordered}
-use Rattle.model.specs.GreedyAppend.{Placing, placeAll}
+use Rattle.model.specs.GreedyAppend.{layAnswer, placeAll}
 use Rattle.laws.specs.Validity.{sound}
 use Rattle.laws.specs.Recount.{Drawn, recounted, recounted-changed}
 use Rattle.append.specs.declared.steps.Partial.{Partial}
 use Rattle.append.specs.Lines.{entries}
 use Rattle.append.specs.Masks.{Words}
 use Rattle.append.specs.Steps.{placingOf, Finished}
-
-unfoldable pub laidOf : Layout → ℕ → Appended
-laidOf l s =
-    let done = placeAll (l .n) (l .adjacency) s in
-    record { refusal = 0; layout = reordered l (done .placed); tally = done .tally }
 
 pub words-valid : (l : Layout) → T (valid l) → Words (l .n) (l .adjacency)
 words-valid l t =
@@ -42,11 +36,11 @@ module _ (l : Layout) (s : ℕ) (t : T (valid l)) {r : Partial} (f : Finished (l
       }
 
   pub laid-right : {m : Layout} {order : List ℕ} → order ≡ entries (r .line) ++ drop (r .line .size) (l .order) → m ≡ recounted l (l .n) order (l .adjacency)
-      → record { refusal = 0; layout = m; tally = r .tally } ≡ laidOf l s
-  unfolding laidOf reordered placingOf laid-order
+      → record { refusal = 0; layout = m; tally = r .tally } ≡ layAnswer l (placeAll (l .n) (l .adjacency) s)
+  unfolding reordered placingOf laid-order
   laid-right {m} {order} e c =
       ap (λ (k : Layout). record { refusal = 0; layout = k; tally = r .tally })
       (c
       ∙ ap (λ (o : List ℕ). recounted l (l .n) o (l .adjacency)) (e ∙ ap (λ (k : ℕ). entries (r .line) ++ drop k (l .order)) (f .size))
       ∙ recounted-changed l (l .n) laid-order (l .adjacency) t laid-drawn)
-      ∙ ap (λ (p : Placing). record { refusal = 0; layout = reordered l (p .placed); tally = p .tally }) (f .placing)
+      ∙ ap (layAnswer l) (f .placing)

@@ -1,17 +1,18 @@
 -- The next vertex, found by going through all vertices with counts under the set of the placed ones and under its complement.
-use Prim.Native.Nat.{ℕ, zero, suc, _+_, _*_, _-_, _^_, _≤_, _<_}
+use Prim.Native.Nat.{ℕ, zero, suc, _+_, _≤_, _<_}
 use native.Mathlib.Nat.{le-antisymm, le-refl, le-of-lt, le-of-eq, le-trans}
 use native.Mathlib.Numerals.{add-one}
 use native.Mathlib.Omega.{arith}
 use mathlib.Core.Path.{_≡_, refl, sym, ap, ap₂, _∙_}
 use mathlib.Core.Bool.{Bool, true, false, not, cond, _&&_, _||_}
-use mathlib.Core.List.{List, [], _∷_, _++_}
+use mathlib.Core.List.{List, [], _∷_, _++_, append-nil}
 use lib.ListN.{getD}
 use lib.Dec.{eqb, ltb}
 use borrow.Author.Tests.{lt-ltb}
 use Rattle.model.specs.Lists.{upto, keep, member}
 use Rattle.model.specs.Crossings.{bit}
 use Rattle.model.specs.GreedyAppend.{unplaced, degreeIn, preferred, bestOf, nextVertex}
+use Rattle.laws.specs.ListSums.{keep-append}
 use Rattle.laws.specs.Bits.{maskedOnes, maskedOnes-le}
 use Rattle.laws.specs.AppendOrder.{Placed}
 use Rattle.append.specs.declared.choice.Choice.{Choice}
@@ -61,19 +62,6 @@ module _ {n : ℕ} {adj : List ℕ} {placed : ℕ} where
 
 -- ---- the next vertex
 
-keep-snoc : (p : ℕ → Bool) (xs : List ℕ) (x : ℕ) → keep p (xs ++ (x ∷ [])) ≡ cond (p x) (keep p xs ++ (x ∷ [])) (keep p xs)
-unfolding keep
-keep-snoc p [] x = refl
-keep-snoc p (y ∷ xs) x = ap (λ (ys : List ℕ). cond (p y) (y ∷ ys) ys) (keep-snoc p xs x) ∙ by-tests (p y) (p x)
-  where
-    by-tests : (a b : Bool)
-        → cond a (y ∷ cond b (keep p xs ++ (x ∷ [])) (keep p xs)) (cond b (keep p xs ++ (x ∷ [])) (keep p xs))
-        ≡ cond b (cond a (y ∷ keep p xs) (keep p xs) ++ (x ∷ [])) (cond a (y ∷ keep p xs) (keep p xs))
-    by-tests true true = refl
-    by-tests true false = refl
-    by-tests false true = refl
-    by-tests false false = refl
-
 module _ (n : ℕ) (adj xs : List ℕ) where
   -- a vertex with the counts of the definition
   counts : ℕ → Choice
@@ -88,22 +76,22 @@ module _ (n : ℕ) (adj xs : List ℕ) where
   choice-vertex [] = refl
   choice-vertex (v ∷ vs) = refl
 
-  bestOf-snoc : (b : ℕ) (vs : List ℕ) (v : ℕ)
+  bestOf-last : (b : ℕ) (vs : List ℕ) (v : ℕ)
       → bestOf n adj xs b (vs ++ (v ∷ [])) ≡ cond (preferred n adj xs v (bestOf n adj xs b vs)) v (bestOf n adj xs b vs)
   unfolding bestOf
-  bestOf-snoc b [] v = refl
-  bestOf-snoc b (u ∷ vs) v = bestOf-snoc (cond (preferred n adj xs u b) u b) vs v
+  bestOf-last b [] v = refl
+  bestOf-last b (u ∷ vs) v = bestOf-last (cond (preferred n adj xs u b) u b) vs v
 
-  choice-snoc : (vs : List ℕ) (k : ℕ) → degreeIn adj k (unplaced n xs) ≤ 64 → preferredOf (choiceOf vs) (counts k) ≡ choiceOf (vs ++ (k ∷ []))
+  choice-last : (vs : List ℕ) (k : ℕ) → degreeIn adj k (unplaced n xs) ≤ 64 → preferredOf (choiceOf vs) (counts k) ≡ choiceOf (vs ++ (k ∷ []))
   unfolding preferredOf comesBefore choiceOf counts noChoice bestOf preferred
-  choice-snoc [] k h = ap (λ (b : Bool). cond b (counts k) noChoice) (first (degreeIn adj k xs))
+  choice-last [] k h = ap (λ (b : Bool). cond b (counts k) noChoice) (first (degreeIn adj k xs))
     where
       first : (d : ℕ) → (ltb 0 d || eqb d 0 && ltb (degreeIn adj k (unplaced n xs)) 65) ≡ true
       first zero = lt-ltb (degreeIn adj k (unplaced n xs)) 65 (omega arith)
       first (suc d) =
           ap (λ (b : Bool). b || eqb (suc d) 0 && ltb (degreeIn adj k (unplaced n xs)) 65) (lt-ltb 0 (suc d) (omega arith))
-  choice-snoc (v ∷ vs) k h =
-      by-test (preferred n adj xs k (bestOf n adj xs v vs)) ∙ ap counts (sym (bestOf-snoc v vs k))
+  choice-last (v ∷ vs) k h =
+      by-test (preferred n adj xs k (bestOf n adj xs v vs)) ∙ ap counts (sym (bestOf-last v vs k))
     where
       by-test : (b : Bool) → cond b (counts k) (counts (bestOf n adj xs v vs)) ≡ counts (cond b k (bestOf n adj xs v vs))
       by-test true = refl
@@ -122,7 +110,7 @@ module _ {n : ℕ} {adj : List ℕ} (w : Words n adj) {xs : List ℕ} (p : Place
       ap (λ (c : Choice). consideredOf c k (getD adj k 0) m) (best-choice k (le-of-lt l))
       ∙ ap₂ (λ (t : Bool) (c : Choice). cond t so-far (preferredOf so-far c)) (placed-test w p h k l) (candidate-counts k l)
       ∙ by-test (member k xs)
-      ∙ ap (choiceOf n adj xs) (sym (keep-snoc (λ v. not (member v xs)) (upto k) k))
+      ∙ ap (choiceOf n adj xs) (sym (keep-append (λ v. not (member v xs)) (upto k) (k ∷ [])))
     where
       free : List ℕ
       free = keep (λ v. not (member v xs)) (upto k)
@@ -130,9 +118,9 @@ module _ {n : ℕ} {adj : List ℕ} (w : Words n adj) {xs : List ℕ} (p : Place
       so-far : Choice
       so-far = choiceOf n adj xs free
 
-      by-test : (b : Bool) → cond b so-far (preferredOf so-far (counts n adj xs k)) ≡ choiceOf n adj xs (cond (not b) (free ++ (k ∷ [])) free)
-      by-test true = refl
-      by-test false = choice-snoc n adj xs free k (le-trans (le-of-eq (sym (outside-count w p h k l))) (maskedOnes-le (getD adj k 0) (complement m)))
+      by-test : (b : Bool) → cond b so-far (preferredOf so-far (counts n adj xs k)) ≡ choiceOf n adj xs (free ++ cond (not b) (k ∷ []) [])
+      by-test true = ap (choiceOf n adj xs) (sym (append-nil free))
+      by-test false = choice-last n adj xs free k (le-trans (le-of-eq (sym (outside-count w p h k l))) (maskedOnes-le (getD adj k 0) (complement m)))
 
   pub best-next : bestBelow adj m n .vertex ≡ nextVertex n adj xs (unplaced n xs)
   unfolding unplaced

@@ -1,40 +1,21 @@
 -- One pass over the placed vertices counts the crossings at both ends.
-use Prim.Native.Nat.{ℕ, suc, _+_, _*_, _≤_, _<_}
-use native.Mathlib.Nat.{mul-comm, mul-le-mul, add-le-add}
+use Prim.Native.Nat.{ℕ, _+_, _*_, _≤_, _<_}
+use native.Mathlib.Nat.{mul-le-mul}
 use native.Mathlib.Numerals.{add-one}
 use native.Mathlib.Omega.{arith}
 use mathlib.Core.Path.{_≡_, refl, sym, ap, ap₂, _∙_}
 use mathlib.Core.List.{List, [], _∷_, _++_}
-use lib.ListN.{length, getD, take, length-append}
+use lib.ListN.{length, getD, take}
 use lib.Seq.{take-suc, take-all, length-take-le}
 use lib.Dec.{eqb}
 use Rattle.model.specs.Lists.{one, sumOver, sumPairs}
 use Rattle.model.specs.Crossings.{bit}
 use Rattle.laws.specs.Indicators.{one-le}
-use Rattle.laws.specs.ListSums.{All, none, also, sumOver-append}
+use Rattle.laws.specs.ListSums.{sumOver-scale, sumOver-scale-right, sumOver-last, sumPairs-last}
 use Rattle.laws.specs.Bits.{maskedOnes, maskedOnes-le}
 use Rattle.append.specs.declared.ends.Ends.{Ends}
 
--- ---- sums over a list that grows at its end
-
-sumOver-snoc : (f : ℕ → ℕ) (xs : List ℕ) (x : ℕ) → sumOver f (xs ++ (x ∷ [])) ≡ sumOver f xs + f x
-unfolding sumOver
-sumOver-snoc f xs x = sumOver-append f xs (x ∷ []) ∙ omega arith
-
-sumPairs-snoc : (f : ℕ → ℕ → ℕ) (xs : List ℕ) (x : ℕ) → sumPairs f (xs ++ (x ∷ [])) ≡ sumPairs f xs + sumOver (λ y. f y x) xs
-unfolding sumPairs sumOver
-sumPairs-snoc f [] x = refl
-sumPairs-snoc f (y ∷ xs) x = rw (sumOver-snoc (f y) xs x, sumPairs-snoc f xs x) (omega arith)
-
-sumOver-scale : (c : ℕ) (f : ℕ → ℕ) (xs : List ℕ) → sumOver (λ x. c * f x) xs ≡ c * sumOver f xs
-unfolding sumOver
-sumOver-scale c f [] = omega arith
-sumOver-scale c f (x ∷ xs) = rw (sumOver-scale c f xs) (omega arith)
-
-sumOver-scale-right : (c : ℕ) (f : ℕ → ℕ) (xs : List ℕ) → sumOver (λ x. f x * c) xs ≡ sumOver f xs * c
-unfolding sumOver
-sumOver-scale-right c f [] = omega arith
-sumOver-scale-right c f (x ∷ xs) = rw (sumOver-scale-right c f xs) (omega arith)
+-- ---- sums of small numbers
 
 sumOver-most : (m : ℕ) (f : ℕ → ℕ) → ((x : ℕ) → f x ≤ m) → (xs : List ℕ) → sumOver f xs ≤ m * length xs
 unfolding sumOver
@@ -58,37 +39,39 @@ passedOf met c o =
       opening = met .opening + o;
     }
 
--- closing edges are bits of the word of the vertex to be placed, open ones go to the vertices of a mask
+-- the closing edge to p, by the word of the vertex to be placed, and the open edges from q, to the vertices of a set
+unfoldable pub closingTo : ℕ → ℕ → ℕ
+closingTo word p = one (eqb (bit word p) 1)
+
+unfoldable pub openFrom : List ℕ → ℕ → ℕ → ℕ
+openFrom adj others q = maskedOnes (getD adj q 0) others
+
+-- all of it, from the definition's sums
+unfoldable pub endsOf : List ℕ → ℕ → ℕ → List ℕ → Ends
+endsOf adj word others xs =
+    record {
+      front = sumPairs (λ q p. closingTo word p * openFrom adj others q) xs;
+      back = sumPairs (λ p q. closingTo word p * openFrom adj others q) xs;
+      closing = sumOver (closingTo word) xs;
+      opening = sumOver (openFrom adj others) xs;
+    }
+
 module _ (adj : List ℕ) (word others : ℕ) where
-  unfoldable pub closingTo : ℕ → ℕ
-  closingTo p = one (eqb (bit word p) 1)
-
-  unfoldable pub openFrom : ℕ → ℕ
-  openFrom q = maskedOnes (getD adj q 0) others
-
-  unfoldable pub endsOf : List ℕ → Ends
-  endsOf xs =
-      record {
-        front = sumPairs (λ q p. closingTo p * openFrom q) xs;
-        back = sumPairs (λ p q. closingTo p * openFrom q) xs;
-        closing = sumOver closingTo xs;
-        opening = sumOver openFrom xs;
-      }
-
-  pub ends-none : endsOf [] ≡ record { front = 0; back = 0; closing = 0; opening = 0 }
+  ends-none : endsOf adj word others [] ≡ record { front = 0; back = 0; closing = 0; opening = 0 }
   unfolding endsOf sumPairs sumOver
   ends-none = refl
 
-  pub ends-snoc : (xs : List ℕ) (x : ℕ) → endsOf (xs ++ (x ∷ [])) ≡ passedOf (endsOf xs) (closingTo x) (openFrom x)
+  ends-last : (xs : List ℕ) (x : ℕ)
+      → endsOf adj word others (xs ++ (x ∷ [])) ≡ passedOf (endsOf adj word others xs) (closingTo word x) (openFrom adj others x)
   unfolding endsOf passedOf
-  ends-snoc xs x =
+  ends-last xs x =
       rw (
-        sumPairs-snoc (λ q p. closingTo p * openFrom q) xs x,
-        sumPairs-snoc (λ p q. closingTo p * openFrom q) xs x,
-        sumOver-snoc closingTo xs x,
-        sumOver-snoc openFrom xs x,
-        sumOver-scale (closingTo x) openFrom xs,
-        sumOver-scale-right (openFrom x) closingTo xs,
+        sumPairs-last x (λ q p. closingTo word p * openFrom adj others q) xs,
+        sumPairs-last x (λ p q. closingTo word p * openFrom adj others q) xs,
+        sumOver-last x (closingTo word) xs,
+        sumOver-last x (openFrom adj others) xs,
+        sumOver-scale (closingTo word x) (openFrom adj others) xs,
+        sumOver-scale-right (openFrom adj others x) (closingTo word) xs,
       )
 
 -- ---- the numbers stay small
@@ -104,11 +87,11 @@ pub products-small : {met : Ends} {c o : ℕ} → Small met 64 → c ≤ 1 → o
 products-small s h k = (mul-le-mul {n₂ = 1} {m₂ = 4096} h (s .opening), mul-le-mul {n₂ = 64} {m₂ = 64} (s .closing) k)
 
 module _ (adj : List ℕ) (word others : ℕ) where
-  pub closing-most : (p : ℕ) → closingTo adj word others p ≤ 1
+  closing-most : (p : ℕ) → closingTo word p ≤ 1
   unfolding closingTo
   closing-most p = one-le (eqb (bit word p) 1)
 
-  pub open-most : (q : ℕ) → openFrom adj word others q ≤ 64
+  open-most : (q : ℕ) → openFrom adj others q ≤ 64
   unfolding openFrom
   open-most q = maskedOnes-le (getD adj q 0) others
 
@@ -116,13 +99,13 @@ module _ (adj : List ℕ) (word others : ℕ) where
   unfolding endsOf
   ends-small xs h =
       record {
-        front = sumPairs-most (λ q p. closingTo adj word others p * openFrom adj word others q) (λ q p. product p q) xs h;
-        back = sumPairs-most (λ p q. closingTo adj word others p * openFrom adj word others q) product xs h;
-        closing = omega (arith, sumOver-most 1 (closingTo adj word others) closing-most xs);
-        opening = sumOver-most 64 (openFrom adj word others) open-most xs;
+        front = sumPairs-most (λ q p. closingTo word p * openFrom adj others q) (λ q p. product p q) xs h;
+        back = sumPairs-most (λ p q. closingTo word p * openFrom adj others q) product xs h;
+        closing = omega (arith, sumOver-most 1 (closingTo word) closing-most xs);
+        opening = sumOver-most 64 (openFrom adj others) open-most xs;
       }
     where
-      product : (p q : ℕ) → closingTo adj word others p * openFrom adj word others q ≤ 64
+      product : (p q : ℕ) → closingTo word p * openFrom adj others q ≤ 64
       product p q = mul-le-mul {n₂ = 1} {m₂ = 64} (closing-most p) (open-most q)
 
 -- ---- the loop over the placed vertices
@@ -149,7 +132,7 @@ module _ {adj : List ℕ} {word others : ℕ} {xs : List ℕ} where
       })
 
   pub ends-next : {met next : Ends} {i c o : ℕ} → EndsUpTo adj word others xs met i → i < length xs
-      → c ≡ closingTo adj word others (getD xs i 0) → o ≡ openFrom adj word others (getD xs i 0) → next ≡ passedOf met c o
+      → c ≡ closingTo word (getD xs i 0) → o ≡ openFrom adj others (getD xs i 0) → next ≡ passedOf met c o
       → EndsUpTo adj word others xs next (i + 1)
   ends-next {met} {next} {i} {c} {o} e h hc ho n =
       rw (add-one i)
@@ -158,7 +141,7 @@ module _ {adj : List ℕ} {word others : ℕ} {xs : List ℕ} where
         counted =
             n ∙ ap (λ (m : Ends). passedOf m c o) (e .counted)
             ∙ ap₂ (passedOf (endsOf adj word others (take i xs))) hc ho
-            ∙ sym (ap (endsOf adj word others) (take-suc xs i 0 h) ∙ ends-snoc adj word others (take i xs) (getD xs i 0));
+            ∙ sym (ap (endsOf adj word others) (take-suc xs i 0 h) ∙ ends-last adj word others (take i xs) (getD xs i 0));
       })
 
   pub ends-end : {met : Ends} {i : ℕ} → EndsUpTo adj word others xs met i → length xs ≤ i → met ≡ endsOf adj word others xs

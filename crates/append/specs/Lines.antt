@@ -5,8 +5,8 @@ use native.Mathlib.Numerals.{add-one}
 use native.Mathlib.Omega.{arith}
 use mathlib.Core.Path.{_≡_, refl, sym, ap, ap₂, _∙_}
 use mathlib.Core.List.{List, [], _∷_, _++_}
-use lib.ListN.{length, take, drop, set, length-drop, length-set, replicate}
-use lib.Seq.{length-take-le, take-length, set-split, drop-at, drop-set-add, take-suc-set}
+use lib.ListN.{length, getD, take, drop, set, length-drop, length-set, replicate}
+use lib.Seq.{length-take-le, take-length, set-split, drop-at, drop-set-add, take-suc-set, getD-take, getD-drop}
 use Rattle.append.specs.declared.line.Line.{Line}
 
 -- the list
@@ -14,10 +14,11 @@ unfoldable pub entries : Line → List ℕ
 entries l = take (l .size) (drop (l .first) (l .places))
 
 -- as a part of the buffer, from a start to an end
-pub lent-entries : (l : Line) → take (l .first + l .size - l .first) (drop (l .first) (l .places)) ≡ entries l
+lent-entries : (l : Line) → take (l .first + l .size - l .first) (drop (l .first) (l .places)) ≡ entries l
 unfolding entries
 lent-entries l = ap (λ (k : ℕ). take k (drop (l .first) (l .places))) (add-sub-cancel-left (l .first) (l .size))
 
+-- the place in the middle is taken, and all are near it
 pub record Centred (l : Line) : Type 0 where
   pub room : length (l .places) ≡ 128
   pub left : l .first ≤ 64
@@ -27,6 +28,11 @@ pub record Centred (l : Line) : Type 0 where
 pub entries-length : {l : Line} → Centred l → length (entries l) ≡ l .size
 unfolding entries
 entries-length {l} c = length-take-le (l .size) (drop (l .first) (l .places)) (omega (arith, c .room, c .left, c .few, length-drop (l .first) (l .places)))
+
+-- an entry, where it stands in the buffer
+pub entry-at : (l : Line) (i : ℕ) → i < l .size → getD (l .places) (l .first + i) 0 ≡ getD (entries l) i 0
+unfolding entries
+entry-at l i h = sym (getD-take (l .size) (drop (l .first) (l .places)) i 0 h ∙ getD-drop (l .first) (l .places) i 0)
 
 -- copied over the start of another list
 pub over-start : {l : Line} → Centred l → (order : List ℕ)

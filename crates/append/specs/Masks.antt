@@ -1,7 +1,6 @@
 -- Neighbours counted as ones of an adjacency word: under a word that holds the placed vertices, and under its complement.
-use Prim.Native.Nat.{ℕ, zero, suc, _+_, _*_, _-_, _/_, _%_, _^_, _≤_, _<_}
-use native.Mathlib.Nat.{mul-comm, add-sub-of-le, add-zero, zero-mul, le-of-suc-le-suc, lt-of-lt-of-le, pow-suc, div-add-mod', mod-lt, zero-lt-suc, not-suc-le-zero}
-use native.Mathlib.Numerals.{add-one}
+use Prim.Native.Nat.{ℕ, zero, suc, _+_, _*_, _-_, _^_, _≤_, _<_}
+use native.Mathlib.Nat.{mul-comm, add-sub-of-le, add-zero, zero-mul, lt-of-lt-of-le}
 use native.Mathlib.Decide.{ℕ-discrete}
 use native.Mathlib.Omega.{arith}
 use mathlib.Core.Path.{_≡_, refl, sym, ap, ap₂, _∙_}
@@ -9,17 +8,16 @@ use mathlib.Core.Bool.{Bool, not}
 use mathlib.Core.List.{List, [], _∷_, _++_}
 use lib.ListN.{getD}
 use lib.Dec.{eqb, ltb}
-use lib.Arith.{digits-div, digits-mod}
-use lib.Pow.{pow-pos, shr-lt}
-use Rattle.model.specs.Lists.{one, sumOver, member, occurrences}
+use lib.Pow.{pow-pos}
+use Rattle.model.specs.Lists.{one, member, occurrences}
 use Rattle.model.specs.Crossings.{bit, linked}
 use Rattle.model.specs.Edits.{withBit}
 use Rattle.model.specs.GreedyAppend.{unplaced, degreeIn}
 use Rattle.laws.specs.Indicators.{one-eq, one-ne}
 use Rattle.laws.specs.Sums.{sum, sum-ext, sum-zero, sum-cut}
-use Rattle.laws.specs.ListSums.{All, none, also, all-mono, sumOver-ext}
+use Rattle.laws.specs.ListSums.{all-mono, sumOver-ext}
 use Rattle.laws.specs.Permutations.{occurrences-nil, occurrences-cons, occurrences-append, member-occurs}
-use Rattle.laws.specs.Bits.{bit-lt, bit-first, bit-next, bit-beyond, maskedOnes, set-same, set-other}
+use Rattle.laws.specs.Bits.{bit-beyond, bit-complement, maskedOnes, set-same, set-other}
 use Rattle.laws.specs.MaskCount.{Holds, masked-sum, weight-bit}
 use Rattle.laws.specs.AppendOrder.{Placed, sumOver-unplaced}
 
@@ -28,29 +26,6 @@ use Rattle.laws.specs.AppendOrder.{Placed, sumOver-unplaced}
 -- the bits that a word of 64 bits does not have
 unfoldable pub complement : ℕ → ℕ
 complement m = 2 ^ 64 - 1 - m
-
-bit-complement : (k m i : ℕ) → m < 2 ^ k → i < k → bit (2 ^ k - 1 - m) i ≡ 1 - bit m i
-bit-complement zero m i h l = absurd (not-suc-le-zero l)
-bit-complement (suc k) m i h l = by-place i l (λ j b. bit-complement k (m / 2) j (half k m h) b)
-  where
-    half : (k m : ℕ) → m < 2 ^ suc k → m / 2 < 2 ^ k
-    half k m h = shr-lt k 1 (rw (add-one k) h)
-
-    halves : 2 ^ suc k - 1 - m ≡ (2 ^ k - 1 - m / 2) * 2 + (1 - m % 2)
-    halves = rw (pow-suc 2 k) (omega (arith, div-add-mod' m 2, half k m h))
-
-    by-place : (i : ℕ) → i < suc k → ((j : ℕ) → j < k → bit (2 ^ k - 1 - m / 2) j ≡ 1 - bit (m / 2) j) → bit (2 ^ suc k - 1 - m) i ≡ 1 - bit m i
-    by-place zero b lower =
-        bit-first (2 ^ suc k - 1 - m)
-        ∙ ap (λ (x : ℕ). x % 2) halves
-        ∙ digits-mod (2 ^ k - 1 - m / 2) (omega arith)
-        ∙ ap (λ (x : ℕ). 1 - x) (sym (bit-first m))
-    by-place (suc j) b lower =
-        bit-next (2 ^ suc k - 1 - m) j
-        ∙ ap (λ (x : ℕ). bit (x / 2) j) halves
-        ∙ ap (λ (x : ℕ). bit x j) (digits-div (2 ^ k - 1 - m / 2) (omega arith))
-        ∙ lower j (le-of-suc-le-suc b)
-        ∙ ap (λ (x : ℕ). 1 - x) (sym (bit-next m j))
 
 -- ---- a set of vertices as a word
 

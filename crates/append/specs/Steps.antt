@@ -1,7 +1,6 @@
 -- A step of the code is a step of the definition, and n - 1 of them place all.
-use Prim.Native.Nat.{ℕ, zero, suc, _+_, _*_, _-_, _^_, _≤_, _<_}
-use native.Mathlib.Nat.{le-antisymm, le-trans}
-use native.Mathlib.Numerals.{add-one}
+use Prim.Native.Nat.{ℕ, suc, _+_, _*_, _-_, _^_, _≤_, _<_}
+use native.Mathlib.Nat.{le-antisymm}
 use native.Mathlib.Omega.{arith}
 use mathlib.Core.Path.{_≡_, refl, sym, ap, ap₂, _∙_, subst}
 use mathlib.Core.Bool.{Bool, cond}
@@ -9,18 +8,19 @@ use mathlib.Core.List.{List, [], _∷_, _++_}
 use lib.ListN.{length, getD, length-append}
 use lib.Dec.{ltb}
 use borrow.Author.Tests.{lt-ltb, le-ltb}
-use Rattle.model.specs.Lists.{sumOver, sumPairs, occurrences}
+use Rattle.model.specs.Lists.{occurrences}
 use Rattle.model.specs.Crossings.{linked}
 use Rattle.model.specs.Edits.{withBit}
 use Rattle.model.specs.GreedyAppend.{Placing, unplaced, degreeIn, nextVertex, closing, open′, frontCrossings, backCrossings, placeVertex, placeMore, placeAll}
 use Rattle.laws.specs.Indicators.{less, same, more, order}
-use Rattle.laws.specs.ListSums.{All, none, also, sumOver-ext}
+use Rattle.laws.specs.ListSums.{sumPairs-ext}
 use Rattle.laws.specs.Permutations.{Permutation, occurrences-nil}
-use Rattle.laws.specs.AppendOrder.{Placed, placed-start, placed-front, placed-back, placed-all, next-unplaced, unplacedBut, unplaced-front}
+use Rattle.laws.specs.AppendOrder.{Placed, placed-start, placed-front, placed-back, placed-all, next-unplaced, unplaced-front}
 use Rattle.append.specs.declared.line.Line.{Line}
 use Rattle.append.specs.declared.ends.Ends.{Ends}
 use Rattle.append.specs.declared.steps.Partial.{Partial}
-use Rattle.append.specs.Lines.{entries, Centred, entries-length, aloneAt, alone-centred, alone-entries, atFront, front-centred, front-entries, atBack, back-centred, back-entries}
+use Rattle.append.specs.Lines.{entries, Centred, entries-length, aloneAt, alone-centred, alone-entries, atFront, front-centred, front-entries, atBack}
+use Rattle.append.specs.Lines.{back-centred, back-entries}
 use Rattle.append.specs.Masks.{complement, Held, held-none, held-front, held-back, Words, outside-count}
 use Rattle.append.specs.Ends.{closingTo, openFrom, endsOf, ends-small}
 use Rattle.append.specs.Choices.{bestBelow, best-next}
@@ -62,11 +62,6 @@ pub record Found (n : ℕ) (adj : List ℕ) (s : Partial) (v next : ℕ) (ends :
   pub set : next ≡ withBit (s .placed) v
   pub counted : ends ≡ endsOf adj (getD adj v 0) (complement next) (entries (s .line))
 
-sumPairs-ext : {P : ℕ → Type 0} (f g : ℕ → ℕ → ℕ) {xs : List ℕ} → All P xs → ((x y : ℕ) → P x → P y → f x y ≡ g x y) → sumPairs f xs ≡ sumPairs g xs
-unfolding sumPairs
-sumPairs-ext f g none h = refl
-sumPairs-ext f g (also {x} p ps) h = ap₂ (λ (a b : ℕ). a + b) (sumOver-ext (f x) (g x) ps (λ y q. h x y p q)) (sumPairs-ext f g ps h)
-
 -- ---- one step
 
 module _ {n : ℕ} {adj : List ℕ} {s : Partial} (w : Words n adj) (u : Underway n s) (few : s .line .size < n) where
@@ -89,13 +84,13 @@ module _ {n : ℕ} {adj : List ℕ} {s : Partial} (w : Words n adj) (u : Underwa
     free = next-free v (f .vertex) .1
 
     -- open edges are those to the complement of the set with v
-    open-right : (q : ℕ) → q < n → openFrom adj (getD adj v 0) (complement next) q ≡ open′ n adj (entries (s .line)) v q
+    open-right : (q : ℕ) → q < n → openFrom adj (complement next) q ≡ open′ n adj (entries (s .line)) v q
     unfolding openFrom open′
     open-right q l =
         outside-count w (placed-front (u .placed) below free) (held-front v (u .held) free (f .fits) (f .set)) q l
         ∙ ap (degreeIn adj q) (unplaced-front n (entries (s .line)) v)
 
-    closing-right : (p : ℕ) → closingTo adj (getD adj v 0) (complement next) p ≡ closing n adj (entries (s .line)) v p
+    closing-right : (p : ℕ) → closingTo (getD adj v 0) p ≡ closing n adj (entries (s .line)) v p
     unfolding closingTo closing linked
     closing-right p = refl
 
@@ -104,7 +99,7 @@ module _ {n : ℕ} {adj : List ℕ} {s : Partial} (w : Words n adj) (u : Underwa
     front-right =
         ap (λ (e : Ends). e .front) (f .counted)
         ∙ sumPairs-ext
-        (λ q p. closingTo adj (getD adj v 0) (complement next) p * openFrom adj (getD adj v 0) (complement next) q)
+        (λ q p. closingTo (getD adj v 0) p * openFrom adj (complement next) q)
         (λ q p. closing n adj (entries (s .line)) v p * open′ n adj (entries (s .line)) v q)
         (u .placed .below)
         (λ q p a b. ap₂ (λ (x y : ℕ). x * y) (closing-right p) (open-right q a))
@@ -114,7 +109,7 @@ module _ {n : ℕ} {adj : List ℕ} {s : Partial} (w : Words n adj) (u : Underwa
     back-right =
         ap (λ (e : Ends). e .back) (f .counted)
         ∙ sumPairs-ext
-        (λ p q. closingTo adj (getD adj v 0) (complement next) p * openFrom adj (getD adj v 0) (complement next) q)
+        (λ p q. closingTo (getD adj v 0) p * openFrom adj (complement next) q)
         (λ p q. closing n adj (entries (s .line)) v p * open′ n adj (entries (s .line)) v q)
         (u .placed .below)
         (λ p q a b. ap₂ (λ (x y : ℕ). x * y) (closing-right p) (open-right q b))

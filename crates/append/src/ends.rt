@@ -1,12 +1,13 @@
 // The crossings that the next vertex makes at either end.
 ghost use mathlib.Core.Path.{_≡_};
 ghost use Prim.Native.Nat.{_≤_, _<_};
-ghost use lib.ListN.{length};
 ghost use lib.Dec.{eqb};
 ghost use Rattle.model.specs.Lists.{one};
 ghost use Rattle.model.specs.Crossings.{bit};
 ghost use Rattle.laws.specs.ListSums.{All};
+ghost use Rattle.append.specs.Lines.{entries, Centred};
 ghost use Rattle.append.specs.Ends.{passedOf, endsOf, Small};
+use super::line::Line;
 
 // The crossings of a closing edge with an open one: at the front, where the open one starts before
 // the other, and at the back; and how many closing and open edges were met.
@@ -19,10 +20,13 @@ pub struct Ends {
 
 // Goes once through the placed vertices. word is the adjacency word of the vertex to be placed, and
 // others holds the unplaced vertices without it.
-pub(crate) fn end_crossings(placed: &[u8], adjacency: &[u64; 64], word: u64, others: u64) -> Ends
-    requires { ⌜ All (λ p. p < 64) (now placed) × (length (now placed) ≤ 64) ⌝ }
-    ensures { λ r. ⌜ r ≡ endsOf (now (adjacency .entry)) word others (now (placed .entry)) ⌝ }
+pub(crate) fn end_crossings(l: Line, adjacency: &[u64; 64], word: u64, others: u64) -> Ends
+    requires { ⌜ Centred l × All (λ p. p < 64) (entries l) ⌝ }
+    ensures { λ r. ⌜ r ≡ endsOf (now (adjacency .entry)) word others (entries l) ⌝ }
 {
+    let places = l.places;
+    let first = l.first;
+    let size = l.size;
     let mut met = Ends {
         front: 0,
         back: 0,
@@ -30,8 +34,8 @@ pub(crate) fn end_crossings(placed: &[u8], adjacency: &[u64; 64], word: u64, oth
         opening: 0,
     };
     let mut i = 0;
-    while i < placed.len() {
-        let p = placed[i] as usize;
+    while i < size {
+        let p = places[first + i] as usize;
         met = passed(met, closing_at(word, p), words::count(adjacency[p], others));
         i += 1;
     }

@@ -42,13 +42,10 @@ fn place_next(n: usize, adjacency: &[u64; 64], s: Partial) -> Partial
     requires { ⌜ Words n (now adjacency) × Underway n s × (s .line .size < n) ⌝ }
     ensures { λ r. ⌜ Stepped n (now (adjacency .entry)) s r ⌝ }
 {
-    let v = next_vertex(n, adjacency, s.placed);
-    let placed = words::set(s.placed, v);
-    let line = s.line;
-    let places = line.places;
-    let first = line.first;
-    let end = first + line.size;
-    let ends = end_crossings(&places[first..end], adjacency, adjacency[v], !placed);
+    let before = s.placed;
+    let v = next_vertex(n, adjacency, before);
+    let placed = words::set(before, v);
+    let ends = end_crossings(s.line, adjacency, adjacency[v], !placed);
     put(s, v, placed, ends)
 }
 

@@ -8,7 +8,7 @@ use lib.ListN.{length}
 use lib.Dec.{ltb, leb·zero, leb·suc-zero, leb·suc-suc}
 use Rattle.model.specs.Lists.{one, sumOver, sumPairs}
 use Rattle.laws.specs.Sums.{sum, sum-scale, sum-first, sum4}
-use Rattle.laws.specs.ListSums.{All, none, also, sumOver-ext, sumOver-add, sumOver-append, sumOver-places}
+use Rattle.laws.specs.ListSums.{All, none, also, sumOver-add, sumOver-places, sumPairs-last, sumPairs-ext}
 use Rattle.laws.specs.Permutations.{at}
 use Rattle.laws.specs.Alternation.{rising}
 use Rattle.laws.specs.Counting.{crossingSum, placed}
@@ -26,15 +26,10 @@ module _ {A : Type 0} where
 
   -- one entry more at the end
   module _ (v : A) where
-    pairs-last : (f : A → A → ℕ) (xs : List A) → sumPairs f (xs ++ (v ∷ [])) ≡ sumPairs f xs + sumOver (λ x. f x v) xs
-    unfolding sumPairs sumOver
-    pairs-last f [] = refl
-    pairs-last f (x ∷ xs) = rw (sumOver-append (f x) xs (v ∷ []), pairs-last f xs) (omega arith)
-
     triples-last : (f : A → A → A → ℕ) (xs : List A) → sumTriples f (xs ++ (v ∷ [])) ≡ sumTriples f xs + sumPairs (λ x y. f x y v) xs
     unfolding sumTriples sumPairs sumOver
     triples-last f [] = refl
-    triples-last f (x ∷ xs) = rw (pairs-last (f x) xs, triples-last f xs) (omega arith)
+    triples-last f (x ∷ xs) = rw (sumPairs-last v (f x) xs, triples-last f xs) (omega arith)
 
     quads-last : (f : A → A → A → A → ℕ) (xs : List A) → sumQuads f (xs ++ (v ∷ [])) ≡ sumQuads f xs + sumTriples (λ x y z. f x y z v) xs
     unfolding sumQuads sumTriples sumPairs
@@ -42,12 +37,6 @@ module _ {A : Type 0} where
     quads-last f (x ∷ xs) = rw (triples-last (f x) xs, quads-last f xs) (omega arith)
 
   -- the same terms, and addition
-  sumPairs-ext : {P : A → Type 0} (f g : A → A → ℕ) {xs : List A} → All P xs → ((x y : A) → P x → P y → f x y ≡ g x y)
-      → sumPairs f xs ≡ sumPairs g xs
-  unfolding sumPairs
-  sumPairs-ext f g none h = refl
-  sumPairs-ext f g (also {x} p ps) h = ap₂ (λ (a b : ℕ). a + b) (sumOver-ext (f x) (g x) ps (λ y. h x y p)) (sumPairs-ext f g ps h)
-
   sumTriples-ext : {P : A → Type 0} (f g : A → A → A → ℕ) {xs : List A} → All P xs
       → ((x y z : A) → P x → P y → P z → f x y z ≡ g x y z) → sumTriples f xs ≡ sumTriples g xs
   unfolding sumTriples

@@ -1,6 +1,6 @@
 -- The bits of a word: what setting and clearing one does to the others, and counts of ones as sums.
 use Prim.Native.Nat.{ℕ, zero, suc, _+_, _*_, _-_, _/_, _%_, _^_, _≤_, _<_}
-use native.Mathlib.Nat.{zero-mul, one-mul, pow-suc, pow-succ', div-one, mod-lt, mod-le, div-add-mod', div-mul-le-self, div-div-eq-div-mul, div-eq-of-lt, mul-le-mul-right, zero-lt-suc, le-trans, lt-of-lt-of-le, le-of-eq, le-of-suc-le-suc, mul-le-mul}
+use native.Mathlib.Nat.{zero-mul, one-mul, pow-suc, pow-succ', div-one, mod-lt, mod-le, div-add-mod', div-mul-le-self, div-div-eq-div-mul, div-eq-of-lt, mul-le-mul-right, zero-lt-suc, le-trans, lt-of-lt-of-le, le-of-eq, le-of-suc-le-suc, mul-le-mul, not-suc-le-zero}
 use native.Mathlib.Omega.{arith}
 use mathlib.Core.Path.{_≡_, refl, sym, ap, ap₂, _∙_, subst}
 use lib.Arith.{lt-one, digits-div, digits-mod}
@@ -50,6 +50,27 @@ bits-ext (suc k) v w h l e =
     (bits-ext k (v / 2) (w / 2) (half-lt k v h) (half-lt k w l) (λ i m. sym (bit-next v i) ∙ e (suc i) (omega arith) ∙ bit-next w i))
     (sym (bit-first v) ∙ e 0 (omega arith) ∙ bit-first w)
     ∙ div-add-mod' w 2
+
+-- the bits of a complement
+pub bit-complement : (k m i : ℕ) → m < 2 ^ k → i < k → bit (2 ^ k - 1 - m) i ≡ 1 - bit m i
+bit-complement zero m i h l = absurd (not-suc-le-zero l)
+bit-complement (suc k) m i h l = by-place i l (λ j b. bit-complement k (m / 2) j (half-lt k m h) b)
+  where
+    halves : 2 ^ suc k - 1 - m ≡ (2 ^ k - 1 - m / 2) * 2 + (1 - m % 2)
+    halves = rw (pow-suc 2 k) (omega (arith, div-add-mod' m 2, half-lt k m h))
+
+    by-place : (i : ℕ) → i < suc k → ((j : ℕ) → j < k → bit (2 ^ k - 1 - m / 2) j ≡ 1 - bit (m / 2) j) → bit (2 ^ suc k - 1 - m) i ≡ 1 - bit m i
+    by-place zero b lower =
+        bit-first (2 ^ suc k - 1 - m)
+        ∙ ap (λ (x : ℕ). x % 2) halves
+        ∙ digits-mod (2 ^ k - 1 - m / 2) (omega arith)
+        ∙ ap (λ (x : ℕ). 1 - x) (sym (bit-first m))
+    by-place (suc j) b lower =
+        bit-next (2 ^ suc k - 1 - m) j
+        ∙ ap (λ (x : ℕ). bit (x / 2) j) halves
+        ∙ ap (λ (x : ℕ). bit x j) (digits-div (2 ^ k - 1 - m / 2) (omega arith))
+        ∙ lower j (le-of-suc-le-suc b)
+        ∙ ap (λ (x : ℕ). 1 - x) (sym (bit-next m j))
 
 -- ---- counts of ones
 

@@ -19,7 +19,7 @@ use Rattle.model.specs.Checks.{refusal, byRefusal, checked, isValid}
 use Rattle.model.specs.Reading.{Shown, pairWith, orElse, firstPair, firstCrossingOf}
 use Rattle.laws.specs.Indicators.{T-true, less, same, more, order as which}
 use Rattle.laws.specs.Sums.{sum}
-use Rattle.laws.specs.ListSums.{All, none, all-at, flatMap-append, length-upto, upto-at}
+use Rattle.laws.specs.ListSums.{All, none, keep-append, all-at, flatMap-append, length-upto, upto-at}
 use Rattle.laws.specs.Permutations.{Permutation, at-lt, at-of-place, place-of-at, place-below}
 use Rattle.laws.specs.Bound.{sum-more}
 use Rattle.laws.specs.EdgeCounts.{Within, all-edges}
@@ -175,16 +175,6 @@ module _ (lows highs : List ℕ) (k a b : ℕ) where
 -- the edges from a to vertices below b, by the word of a
 unfoldable pub edgesFrom : ℕ → ℕ → ℕ → List Edge
 edgesFrom word a b = map (λ v. record { low = a; high = v }) (keep (λ v. ltb a v && eqb (bit word v) 1) (upto b))
-
-keep-append : (p : ℕ → Bool) (xs ys : List ℕ) → keep p (xs ++ ys) ≡ keep p xs ++ keep p ys
-unfolding keep
-keep-append p [] ys = refl
-keep-append p (x ∷ xs) ys = by-test (p x) (keep-append p xs ys)
-  where
-    by-test : (b : Bool) → keep p (xs ++ ys) ≡ keep p xs ++ keep p ys
-        → cond b (x ∷ keep p (xs ++ ys)) (keep p (xs ++ ys)) ≡ cond b (x ∷ keep p xs) (keep p xs) ++ keep p ys
-    by-test true e = ap (λ (l : List ℕ). x ∷ l) e
-    by-test false e = e
 
 module _ (word a : ℕ) where
   edges-next : (b : ℕ) {t : Bool} → a < b → t ≡ eqb (bit word b) 1 → edgesFrom word a (suc b) ≡ edgesFrom word a b ++ cond t (record { low = a; high = b } ∷ []) []

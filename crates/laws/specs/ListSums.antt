@@ -42,6 +42,43 @@ module _ {A : Type 0} where
       by-test true e = omega arith
       by-test false e = omega arith
 
+  pub keep-append : (p : A → Bool) (xs ys : List A) → keep p (xs ++ ys) ≡ keep p xs ++ keep p ys
+  unfolding keep
+  keep-append p [] ys = refl
+  keep-append p (x ∷ xs) ys = by-test (p x) (keep-append p xs ys)
+    where
+      by-test : (b : Bool) → keep p (xs ++ ys) ≡ keep p xs ++ keep p ys
+          → cond b (x ∷ keep p (xs ++ ys)) (keep p (xs ++ ys)) ≡ cond b (x ∷ keep p xs) (keep p xs) ++ keep p ys
+      by-test true e = ap (λ (l : List A). x ∷ l) e
+      by-test false e = e
+
+  -- a factor taken out
+  pub sumOver-scale : (c : ℕ) (f : A → ℕ) (xs : List A) → sumOver (λ x. c * f x) xs ≡ c * sumOver f xs
+  unfolding sumOver
+  sumOver-scale c f [] = omega arith
+  sumOver-scale c f (x ∷ xs) = rw (sumOver-scale c f xs) (omega arith)
+
+  pub sumOver-scale-right : (c : ℕ) (f : A → ℕ) (xs : List A) → sumOver (λ x. f x * c) xs ≡ sumOver f xs * c
+  unfolding sumOver
+  sumOver-scale-right c f [] = omega arith
+  sumOver-scale-right c f (x ∷ xs) = rw (sumOver-scale-right c f xs) (omega arith)
+
+  -- one entry more at the end
+  pub sumOver-last : (v : A) (f : A → ℕ) (xs : List A) → sumOver f (xs ++ (v ∷ [])) ≡ sumOver f xs + f v
+  unfolding sumOver
+  sumOver-last v f xs = sumOver-append f xs (v ∷ []) ∙ omega arith
+
+  pub sumPairs-last : (v : A) (f : A → A → ℕ) (xs : List A) → sumPairs f (xs ++ (v ∷ [])) ≡ sumPairs f xs + sumOver (λ x. f x v) xs
+  unfolding sumPairs sumOver
+  sumPairs-last v f [] = refl
+  sumPairs-last v f (x ∷ xs) = rw (sumOver-last v (f x) xs, sumPairs-last v f xs) (omega arith)
+
+  pub sumPairs-ext : {P : A → Type 0} (f g : A → A → ℕ) {xs : List A} → All P xs → ((x y : A) → P x → P y → f x y ≡ g x y)
+      → sumPairs f xs ≡ sumPairs g xs
+  unfolding sumPairs
+  sumPairs-ext f g none h = refl
+  sumPairs-ext f g (also {x} p ps) h = ap₂ (λ (a b : ℕ). a + b) (sumOver-ext (f x) (g x) ps (λ y. h x y p)) (sumPairs-ext f g ps h)
+
   -- by place
   pub all-at : {P : A → Type 0} {xs : List A} (d : A) → All P xs → (i : ℕ) → i < length xs → P (getD xs i d)
   all-at d none i h = absurd (not-suc-le-zero h)

@@ -16,9 +16,10 @@ recounted-requires c κs = search needs
 
 returns : tie.Need-returns
 returns c =
-    let placed = c .before .before in
+    let ordered = c .before in
+    let placed = ordered .before in
     let start = placed .before .before .before .before in
-    laid-right (start .args .l) (start .args .s) (start .pre .0) (placed .place-all .ensures) (c .before .written .ensures) (c .recounted .ensures)
+    laid-right (start .args .l) (start .args .s) (start .pre .0) (placed .place-all .ensures) (ordered .written .ensures) (c .recounted .ensures)
 
 pub append-from-spec : {M : Type 1} → statement M
 append-from-spec =

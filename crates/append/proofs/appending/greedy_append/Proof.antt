@@ -1,13 +1,8 @@
 use borrow.Author.Needs.{needs}
-use Prim.Native.Nat.{_<_}
 use mathlib.Core.Path.{_≡_, sym, _∙_}
-use lib.Dec.{T}
-use Rattle.model.specs.declared.Appended.{Appended}
 use Rattle.model.specs.Checks.{refusal}
-use Rattle.model.specs.Layouts.{valid}
-use Rattle.model.specs.GreedyAppend.{layChecks, layOf}
+use Rattle.model.specs.GreedyAppend.{placeAll, layChecks, layAnswer, layRefused, layOf}
 use Rattle.laws.specs.Refusals.{when-accepted, when-refused, vertex-passed}
-use Rattle.append.specs.Calls.{laidOf}
 use Rattle.append.proofs.appending.greedy_append.Statement.{statement}
 use Rattle.append.proofs.appending.greedy_append.Tie as tie
 
@@ -20,11 +15,11 @@ vertex-refusal-requires : tie.Need-vertex-refusal-requires
 vertex-refusal-requires c κs = search needs
 
 returns : tie.Need-returns
-unfolding layOf layChecks laidOf
+unfolding layOf layChecks
 returns c =
     let s = c .before .before .args in
     sym
-    (when-refused (layChecks (s .l) (s .s)) (laidOf (s .l) (s .s)) (λ r. record { refusal = r; layout = s .l; tally = 0 })
+    (when-refused (layChecks (s .l) (s .s)) (layAnswer (s .l) (placeAll (s .l .n) (s .l .adjacency) (s .s))) (layRefused (s .l))
     (c .before .vertex-refusal .ensures) (c .if1 .taken))
 
 append-from-requires : tie.Need-append-from-requires
@@ -32,11 +27,11 @@ unfolding layChecks
 append-from-requires c κs = let s = c .before .before .args in vertex-passed (s .l) (s .s) (accepted c)
 
 returns-2 : tie.Need-returns-2
-unfolding layOf laidOf
+unfolding layOf
 returns-2 c =
     let s = c .before .before .before .args in
     c .append-from .ensures
-    ∙ sym (when-accepted (layChecks (s .l) (s .s)) (laidOf (s .l) (s .s)) (λ r. record { refusal = r; layout = s .l; tally = 0 }) (accepted (c .before)))
+    ∙ sym (when-accepted (layChecks (s .l) (s .s)) (layAnswer (s .l) (placeAll (s .l .n) (s .l .adjacency) (s .s))) (layRefused (s .l)) (accepted (c .before)))
 
 pub greedy-append-spec : {M : Type 1} → statement M
 greedy-append-spec =

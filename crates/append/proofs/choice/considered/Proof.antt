@@ -1,7 +1,6 @@
 use borrow.Author.Needs.{needs}
 use Prim.Native.Nat.{ℕ}
-use mathlib.Core.Path.{_≡_, sym, ap₂, _∙_}
-use Rattle.append.specs.declared.choice.Choice.{Choice}
+use mathlib.Core.Path.{sym, ap₂, _∙_}
 use Rattle.append.specs.Masks.{complement}
 use Rattle.append.specs.Choices.{candidate, preferredOf, consideredOf}
 use Rattle.append.proofs.choice.considered.Statement.{statement}
@@ -31,7 +30,8 @@ returns-2 c =
     let s = free .before .before .args in
     rw (sym (free .before .is-set .ensures) ∙ free .if1 .left)
     (c .preferred .ensures
-    ∙ ap₂ (λ (p u : ℕ). preferredOf (s .best) (record { vertex = s .v; placed = p; unplaced = u })) (counted .before .count .ensures) (counted .count2 .ensures))
+    ∙ ap₂ (λ (p u : ℕ). preferredOf (s .best) (record { vertex = s .v; placed = p; unplaced = u }))
+    (counted .before .count .ensures) (counted .count2 .ensures))
 
 pub considered-spec : {M : Type 1} → statement M
 considered-spec =

@@ -1,5 +1,4 @@
 use native.Mathlib.Omega.{arith}
-use mathlib.Core.Path.{_≡_}
 use borrow.Author.Tests.{lt-ltb, le-ltb, eq-eqb, ne-eqb}
 use Rattle.append.specs.Choices.{comesBefore, preferredOf}
 use Rattle.append.proofs.choice.preferred.Statement.{statement}
@@ -13,7 +12,7 @@ returns : tie.Need-returns
 unfolding preferredOf comesBefore
 returns c =
     let s = c .before .before .before .args in
-    rw (lt-ltb (s .best .placed) (s .other .placed) (c .if1 .taken))
+    rw (lt-ltb (s .best .placed) (s .other .placed) (omega (arith, c .if1 .taken)))
 
 returns-2 : tie.Need-returns-2
 unfolding preferredOf comesBefore
@@ -29,7 +28,7 @@ returns-3 c =
     rw (
       le-ltb (s .best .placed) (s .other .placed) (omega arith),
       eq-eqb (s .other .placed) (s .best .placed) (omega arith),
-      lt-ltb (s .other .unplaced) (s .best .unplaced) (c .if3 .taken),
+      lt-ltb (s .other .unplaced) (s .best .unplaced) (omega (arith, c .if3 .taken)),
     )
 
 returns-4 : tie.Need-returns-4
@@ -40,7 +39,7 @@ returns-4 c =
     rw (
       le-ltb (s .best .placed) (s .other .placed) (omega arith),
       eq-eqb (s .other .placed) (s .best .placed) (omega arith),
-      le-ltb (s .other .unplaced) (s .best .unplaced) (c .if3 .left),
+      le-ltb (s .other .unplaced) (s .best .unplaced) (omega (arith, c .if3 .left)),
     )
 
 pub preferred-spec : {M : Type 1} → statement M

@@ -1,5 +1,5 @@
 use borrow.Author.Needs.{needs}
-use mathlib.Core.Path.{_≡_, sym, ap, _∙_}
+use mathlib.Core.Path.{sym, ap, _∙_}
 use Rattle.model.specs.Lists.{one}
 use Rattle.append.proofs.ends.closing_at.Statement.{statement}
 use Rattle.append.proofs.ends.closing_at.Tie as tie

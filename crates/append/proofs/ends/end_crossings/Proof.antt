@@ -1,44 +1,57 @@
-use Prim.Native.Nat.{_-_, _<_}
+use Prim.Native.Nat.{_+_, _-_, _<_}
 use native.Mathlib.Omega.{arith}
+use mathlib.Core.Path.{_≡_, ap, _∙_}
 use lib.ListN.{length, getD}
 use Rattle.laws.specs.Indicators.{one-le}
 use Rattle.laws.specs.ListSums.{all-at}
 use Rattle.laws.specs.Bits.{maskedOnes-le}
+use Rattle.append.specs.Lines.{entries, entries-length, entry-at}
 use Rattle.append.specs.Ends.{closingTo, openFrom, EndsUpTo, ends-start, so-far-small, ends-next, ends-end}
 use Rattle.append.proofs.ends.end_crossings.Statement.{statement}
 use Rattle.append.proofs.ends.end_crossings.Tie as tie
 
 abbrev Inv-loop : tie.InvT-loop
-Inv-loop placed adjacency word others met₀ i₀ met i = EndsUpTo adjacency word others placed met i
+Inv-loop adjacency word others places first size met₀ i₀ met i =
+    EndsUpTo adjacency word others (entries (record { places = places; first = first; size = size })) met i
 
 abbrev μ-loop : tie.MeasureT-loop
-μ-loop placed adjacency word others met₀ i₀ met i = length placed - i
+μ-loop adjacency word others places first size met₀ i₀ met i = size - i
 
 -- from a turn to the start
 abbrev start : tie.In-loop Inv-loop μ-loop → tie.Start Inv-loop μ-loop
 start c = c .before .before .before
 
--- the entry of this turn is a vertex
-entry-small : (c : tie.In-loop Inv-loop μ-loop) → getD (start c .args .placed .now) (c .before .loop .i) 0 < 64
-entry-small c = all-at 0 (start c .pre .0) (c .before .loop .i) (c .loop-test .taken)
+-- a turn reads an entry, which is a vertex
+inside : (c : tie.In-loop Inv-loop μ-loop) → c .before .loop .i < length (entries (start c .args .l))
+inside c = omega (arith, entries-length (start c .pre .0), c .loop-test .taken)
+
+entry : (c : tie.In-loop Inv-loop μ-loop)
+    → let l = start c .args .l in getD (l .places) (l .first + c .before .loop .i) 0 ≡ getD (entries l) (c .before .loop .i) 0
+entry c = entry-at (start c .args .l) (c .before .loop .i) (c .loop-test .taken)
+
+vertex : (c : tie.In-loop Inv-loop μ-loop) → let l = start c .args .l in getD (l .places) (l .first + c .before .loop .i) 0 < 64
+vertex c = rw (entry c) (all-at 0 (start c .pre .1) (c .before .loop .i) (inside c))
 
 loop-holds : tie.Need-loop-holds Inv-loop μ-loop
 loop-holds c = ends-start
 
-shared-slice-read-p : tie.Need-shared-slice-read-p Inv-loop μ-loop
-shared-slice-read-p c = omega arith
+add-p : tie.Need-add-p Inv-loop μ-loop
+add-p c = omega (arith, start c .pre .0 .left, start c .pre .0 .few)
+
+array-read-p : tie.Need-array-read-p Inv-loop μ-loop
+array-read-p c = omega (arith, start c .pre .0 .left, start c .pre .0 .few)
 
 cast-p : tie.Need-cast-p Inv-loop μ-loop
-cast-p c = omega (arith, entry-small (c .before))
+cast-p c = omega (arith, vertex c)
 
 closing-at-requires : tie.Need-closing-at-requires Inv-loop μ-loop
 closing-at-requires c κs = tt
 
 mul-count : tie.Need-mul-count Inv-loop μ-loop
-mul-count c = omega (arith, entry-small (c .before .before))
+mul-count c = omega (arith, vertex (c .before))
 
 element-copy-out-count : tie.Need-element-copy-out-count Inv-loop μ-loop
-element-copy-out-count c = entry-small (c .before .before)
+element-copy-out-count c = vertex (c .before)
 
 count-requires : tie.Need-count-requires Inv-loop μ-loop
 count-requires c κs = tt
@@ -46,8 +59,9 @@ count-requires c κs = tt
 passed-requires : tie.Need-passed-requires Inv-loop μ-loop
 passed-requires c κs =
     let closed = c .before .before in
-    let turn = closed .before .before in (
-      so-far-small (turn .before .loop .inv) (start turn .pre .1),
+    let turn = closed .before in
+    let l = start turn .pre .0 in (
+      so-far-small (turn .before .loop .inv) (omega (arith, entries-length l, l .few)),
       rw (closed .closing-at .ensures) (one-le _),
       rw (c .count .ensures) (maskedOnes-le _ _),
     )
@@ -63,11 +77,17 @@ unfolding closingTo openFrom
 loop-again c =
     let counted = c .before in
     let closed = counted .before .before in
-    let turn = closed .before .before in
-    ends-next (turn .before .loop .inv) (turn .loop-test .taken) (closed .closing-at .ensures) (counted .count .ensures) (c .passed .ensures)
+    let turn = closed .before in
+    let s = start turn .args in
+    ends-next (turn .before .loop .inv) (inside turn)
+    (closed .closing-at .ensures ∙ ap (closingTo (s .word)) (entry turn))
+    (counted .count .ensures ∙ ap (openFrom (s .adjacency .now) (s .others)) (entry turn))
+    (c .passed .ensures)
 
 returns : tie.Need-returns Inv-loop μ-loop
-returns c = ends-end (c .before .loop .inv) (c .loop-test .left)
+returns c =
+    let start = c .before .before .before in
+    ends-end (c .before .loop .inv) (omega (arith, entries-length (start .pre .0), c .loop-test .left))
 
 pub end-crossings-spec : {M : Type 1} → statement M
 end-crossings-spec =
@@ -76,7 +96,8 @@ end-crossings-spec =
     Inv-loop
     μ-loop
     loop-holds
-    shared-slice-read-p
+    add-p
+    array-read-p
     cast-p
     closing-at-requires
     mul-count
