@@ -9,8 +9,8 @@ use lib.Dec.{T}
 use Rattle.model.specs.declared.Layout.{Layout}
 use Rattle.model.specs.Layouts.{valid, reordered}
 use Rattle.model.specs.GreedyAppend.{layAnswer, placeAll}
-use Rattle.laws.specs.Validity.{sound}
-use Rattle.laws.specs.Recount.{Drawn, recounted, recounted-changed}
+use Rattle.laws.specs.Layouts.Validity.{sound}
+use Rattle.laws.specs.Layouts.Recount.{Drawn, recounted, recounted-changed}
 use Rattle.append.specs.declared.steps.Partial.{Partial}
 use Rattle.append.specs.Lines.{entries}
 use Rattle.append.specs.Masks.{Words}

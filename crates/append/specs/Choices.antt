@@ -12,9 +12,9 @@ use borrow.Author.Tests.{lt-ltb}
 use Rattle.model.specs.Lists.{upto, keep, member}
 use Rattle.model.specs.Crossings.{bit}
 use Rattle.model.specs.GreedyAppend.{unplaced, degreeIn, preferred, bestOf, nextVertex}
-use Rattle.laws.specs.ListSums.{keep-append}
-use Rattle.laws.specs.Bits.{maskedOnes, maskedOnes-le}
-use Rattle.laws.specs.AppendOrder.{Placed}
+use Rattle.laws.specs.Sums.Lists.{keep-append}
+use Rattle.laws.specs.Sums.Bits.{maskedOnes, maskedOnes-le}
+use Rattle.laws.specs.Append.Order.{Placed}
 use Rattle.append.specs.declared.choice.Choice.{Choice}
 use Rattle.append.specs.Masks.{complement, Held, Words, placed-test, inside-count, outside-count}
 

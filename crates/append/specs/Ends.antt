@@ -10,9 +10,9 @@ use lib.Seq.{take-suc, take-all, length-take-le}
 use lib.Dec.{eqb}
 use Rattle.model.specs.Lists.{one, sumOver, sumPairs}
 use Rattle.model.specs.Crossings.{bit}
-use Rattle.laws.specs.Indicators.{one-le}
-use Rattle.laws.specs.ListSums.{sumOver-scale, sumOver-scale-right, sumOver-last, sumPairs-last}
-use Rattle.laws.specs.Bits.{maskedOnes, maskedOnes-le}
+use Rattle.laws.specs.Sums.Indicators.{one-le}
+use Rattle.laws.specs.Sums.Lists.{sumOver-scale, sumOver-scale-right, sumOver-last, sumPairs-last}
+use Rattle.laws.specs.Sums.Bits.{maskedOnes, maskedOnes-le}
 use Rattle.append.specs.declared.ends.Ends.{Ends}
 
 -- ---- sums of small numbers

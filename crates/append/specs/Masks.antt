@@ -13,13 +13,13 @@ use Rattle.model.specs.Lists.{one, member, occurrences}
 use Rattle.model.specs.Crossings.{bit, linked}
 use Rattle.model.specs.Edits.{withBit}
 use Rattle.model.specs.GreedyAppend.{unplaced, degreeIn}
-use Rattle.laws.specs.Indicators.{one-eq, one-ne}
-use Rattle.laws.specs.Sums.{sum, sum-ext, sum-zero, sum-cut}
-use Rattle.laws.specs.ListSums.{all-mono, sumOver-ext}
-use Rattle.laws.specs.Permutations.{occurrences-nil, occurrences-cons, occurrences-append, member-occurs}
-use Rattle.laws.specs.Bits.{bit-beyond, bit-complement, maskedOnes, set-same, set-other}
-use Rattle.laws.specs.MaskCount.{Holds, masked-sum, weight-bit}
-use Rattle.laws.specs.AppendOrder.{Placed, sumOver-unplaced}
+use Rattle.laws.specs.Sums.Indicators.{one-eq, one-ne}
+use Rattle.laws.specs.Sums.Ranges.{sum, sum-ext, sum-zero, sum-cut}
+use Rattle.laws.specs.Sums.Lists.{all-mono, sumOver-ext}
+use Rattle.laws.specs.Orders.Permutations.{occurrences-nil, occurrences-cons, occurrences-append, member-occurs}
+use Rattle.laws.specs.Sums.Bits.{bit-beyond, bit-complement, maskedOnes, set-same, set-other}
+use Rattle.laws.specs.Crossings.Masks.{Holds, masked-sum, weight-bit}
+use Rattle.laws.specs.Append.Order.{Placed, sumOver-unplaced}
 
 -- ---- the complement of a word
 

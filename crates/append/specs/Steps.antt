@@ -12,10 +12,10 @@ use Rattle.model.specs.Lists.{occurrences}
 use Rattle.model.specs.Crossings.{linked}
 use Rattle.model.specs.Edits.{withBit}
 use Rattle.model.specs.GreedyAppend.{Placing, unplaced, degreeIn, nextVertex, closing, open′, frontCrossings, backCrossings, placeVertex, placeMore, placeAll}
-use Rattle.laws.specs.Indicators.{less, same, more, order}
-use Rattle.laws.specs.ListSums.{sumPairs-ext}
-use Rattle.laws.specs.Permutations.{Permutation, occurrences-nil}
-use Rattle.laws.specs.AppendOrder.{Placed, placed-start, placed-front, placed-back, placed-all, next-unplaced, unplaced-front}
+use Rattle.laws.specs.Sums.Indicators.{less, same, more, order}
+use Rattle.laws.specs.Sums.Lists.{sumPairs-ext}
+use Rattle.laws.specs.Orders.Permutations.{Permutation, occurrences-nil}
+use Rattle.laws.specs.Append.Order.{Placed, placed-start, placed-front, placed-back, placed-all, next-unplaced, unplaced-front}
 use Rattle.append.specs.declared.line.Line.{Line}
 use Rattle.append.specs.declared.ends.Ends.{Ends}
 use Rattle.append.specs.declared.steps.Partial.{Partial}

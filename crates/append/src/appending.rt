@@ -6,10 +6,10 @@ ghost use Rattle.model.specs.Layouts.{valid};
 ghost use Rattle.model.specs.GreedyAppend.{placeAll, layAnswer, layOf};
 use super::line::written;
 use super::steps::place_all;
-use layout::recounted;
-use layout::vertex_refusal;
+use counting::recounted;
 use model::Appended;
 use model::Layout;
+use validity::vertex_refusal;
 
 pub fn greedy_append(l: Layout, s: usize) -> Appended
     ensures { λ r. ⌜ r ≡ layOf l s ⌝ }

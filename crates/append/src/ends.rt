@@ -4,7 +4,7 @@ ghost use Prim.Native.Nat.{_≤_, _<_};
 ghost use lib.Dec.{eqb};
 ghost use Rattle.model.specs.Lists.{one};
 ghost use Rattle.model.specs.Crossings.{bit};
-ghost use Rattle.laws.specs.ListSums.{All};
+ghost use Rattle.laws.specs.Sums.Lists.{All};
 ghost use Rattle.append.specs.Lines.{entries, Centred};
 ghost use Rattle.append.specs.Ends.{passedOf, endsOf, Small};
 use super::line::Line;

@@ -9,7 +9,7 @@ use model::Origin;
 // The crossings, from nothing.
 #[no_mangle]
 pub extern "C" fn bench_count_crossings(n: usize, order: &[u8; 64], adjacency: &[u64; 64]) -> u32 {
-    layout::count_crossings(n, order, adjacency)
+    counting::count_crossings(n, order, adjacency)
 }
 
 // Hands a layout over and back, and makes no call.
@@ -115,7 +115,7 @@ pub extern "C" fn bench_pair(
     is_found: &mut bool,
     ends: &mut [usize; 4],
 ) -> u8 {
-    let answer = layout::first_crossing(taken(n, order, adjacency, count));
+    let answer = crossing::first_crossing(taken(n, order, adjacency, count));
     *is_found = false;
     match answer {
         FirstCrossing::Pair(first, second) => {

@@ -8,8 +8,8 @@ ghost use lib.ListN.{replicate};
 ghost use Rattle.model.specs.Lists.{every};
 ghost use Rattle.model.specs.Edits.{atBothEnds, withBit};
 ghost use Rattle.model.specs.Charts.{asked, answer, endChecks, repeatChecks, edgesIn, edgeWithin};
-ghost use Rattle.laws.specs.ChartEdges.{edge};
-ghost use Rattle.laws.specs.ChartWords.{adjacencyOf};
+ghost use Rattle.chart.specs.Edges.{edge};
+ghost use Rattle.chart.specs.Words.{adjacencyOf};
 
 // Questions 5 and 6: an even length, and the ends of each edge below n and different.
 pub(crate) fn ask_ends(n: usize, links: &[u8]) -> Asked

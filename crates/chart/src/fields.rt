@@ -9,7 +9,7 @@ ghost use Prim.Native.Nat.{_≤_};
 ghost use lib.ListN.{length, drop};
 ghost use Rattle.model.specs.Charts.{asked, fieldFound, bodiesFound, sizeFound};
 ghost use Rattle.model.specs.Charts.{fieldsOf, fieldAnswer, divisionAnswer, bodiesAnswer, sizeAnswer};
-ghost use Rattle.laws.specs.ChartFields.{rightTags};
+ghost use Rattle.chart.specs.Fields.{rightTags};
 
 // Questions 1 and 2: at most 8,192 bytes, which divide exactly into fields.
 pub(crate) fn ask_fields(bytes: &[u8]) -> Asked

@@ -12,7 +12,7 @@ use model::SizeFound;
 ghost use mathlib.Core.Path.{_≡_};
 ghost use Prim.Native.Nat.{_≤_};
 ghost use Rattle.model.specs.Charts.{asked, bodiesFound, sizeFound, readOf};
-ghost use Rattle.laws.specs.ChartReading.{refusedRead, readBodies};
+ghost use Rattle.chart.specs.Reading.{refusedRead, readBodies};
 
 // An accepted chart gives its edges, its order and its crossings; a refused one the empty layout.
 pub fn read(bytes: &[u8]) -> ChartRead
@@ -64,7 +64,7 @@ fn read_bodies(n: usize, links: &[u8], body: &[u8]) -> ChartRead
     };
     let mut order = [0u8; 64];
     order::copy_order(body, &mut order);
-    let count = layout::count_crossings(n, &order, &adjacency);
+    let count = counting::count_crossings(n, &order, &adjacency);
     ChartRead {
         refusal: 0,
         layout: Layout {

@@ -5,7 +5,7 @@ ghost use mathlib.Core.List.{[]};
 ghost use Prim.Native.Nat.{_≤_};
 ghost use lib.ListN.{length, replicate};
 ghost use Rattle.model.specs.Charts.{asked, answer, placeChecks};
-ghost use Rattle.laws.specs.ChartOrder.{vertexSet, padded};
+ghost use Rattle.chart.specs.Order.{vertexSet, padded};
 
 // Question 8: n bytes that hold each vertex once. Where n bytes hold every vertex, each is there once.
 pub(crate) fn ask_order(n: usize, body: &[u8]) -> Asked

@@ -16,10 +16,10 @@ use Rattle.model.specs.Histories.{Start, Step, afterStep, steps, played, Follow
 use Rattle.model.specs.Histories.{siftCalled, roundsOfCall, siftsOfRound, roundsOfStep, siftsOfStep, roundsIn, siftsIn, sifting, roundsDue}
 use Rattle.model.specs.Histories.{saysConverged}
 use Rattle.model.specs.Histories.{butLast, BestPlace, LocalMinimum}
-use Rattle.laws.specs.Indicators.{T-true}
-use Rattle.laws.specs.ListSums.{all-mono, all-flatMap}
-use Rattle.laws.specs.Validity.{sound, permutation-eachOnce}
-use Rattle.laws.specs.SiftingRounds.{ProperSift, ProperRound, best-sifted, round-no-more}
+use Rattle.laws.specs.Sums.Indicators.{T-true}
+use Rattle.laws.specs.Sums.Lists.{all-mono, all-flatMap}
+use Rattle.laws.specs.Layouts.Validity.{sound, permutation-eachOnce}
+use Rattle.laws.specs.Sifting.Rounds.{ProperSift, ProperRound, best-sifted, round-no-more}
 use Rattle.history.specs.StepLaws.{Right, start-right, call-keeps, call-refused, CallFacts, call-facts, stepOn, step-sifts, step-rounds}
 use Rattle.history.specs.StepLaws.{rounds-sifts, refused-says-nothing}
 

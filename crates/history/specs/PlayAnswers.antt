@@ -16,9 +16,9 @@ use Rattle.model.specs.Checks.{refusal}
 use Rattle.model.specs.Charts.{readOf}
 use Rattle.model.specs.Histories.{Start, empty, read, steps, played}
 use Rattle.model.specs.Playing.{callsOf, answersOf, startOf, playChecks, playedCalls, playOf, tableOf}
-use Rattle.laws.specs.Refusals.{when-accepted, when-refused}
-use Rattle.laws.specs.ChartReading.{refusedRead}
-use Rattle.laws.specs.ChartLaws.{read-refused}
+use Rattle.laws.specs.Layouts.Refusals.{when-accepted, when-refused}
+use Rattle.chart.specs.Reading.{refusedRead}
+use Rattle.chart.specs.Laws.{read-refused}
 use Rattle.history.specs.Demand3.{Demand3, demand-3}
 
 -- what comes back and the table are those of the definition

@@ -18,20 +18,23 @@ use Rattle.model.specs.Sifting.{sifted, siftOf, siftRound, roundOf, roundsUpTo,
 use Rattle.model.specs.Histories.{Start, empty, read, Step, Sift, Round, Follow, ended, next, outcome, ofAdded, ofChanged, ofAppended, ofSifted, ofRounded, ofConverged, answerOf, accepted, roundsOfStep, siftsOfStep}
 use Rattle.model.specs.Histories.{butLast, sifting, siftCalled, roundsOfCall, siftsOfRound, roundsFrom, roundsDue, saysConverged, BestPlace}
 use Rattle.model.specs.Histories.{LocalMinimum}
-use Rattle.laws.specs.Indicators.{T-true}
-use Rattle.laws.specs.ListSums.{all-mono, all-append, all-flatMap}
-use Rattle.laws.specs.LocalSearch.{follow-flat}
-use Rattle.laws.specs.SiftingRounds.{ProperSift, ProperRound, proper-sift, proper-round, round-size, round-length, settling, rounds-follow}
-use Rattle.laws.specs.SiftingRounds.{rounds-moved, rounds-spent, settled-minimum}
-use Rattle.laws.specs.SiftingCalls.{sift-passed, sift-accepted, sift-refused, sift-keeps}
-use Rattle.laws.specs.SiftingCalls.{round-passed, round-accepted, round-refused, round-keeps}
-use Rattle.laws.specs.SiftingCalls.{settle-passed, settle-accepted, settle-refused, settle-keeps}
-use Rattle.laws.specs.Moving.{Keeps, move-refused, move-keeps}
-use Rattle.laws.specs.EditCalls.{add-refused, add-keeps, link-refused, link-keeps, unlink-refused, unlink-keeps}
-use Rattle.laws.specs.AppendLaws.{lay-refused, lay-keeps}
-use Rattle.laws.specs.Sizes.{Sized, empty-sized, read-sized, add-sized, link-sized, unlink-sized, move-sized, lay-sized, sift-sized, round-sized}
-use Rattle.laws.specs.Sizes.{settle-sized}
-use Rattle.laws.specs.ChartLaws.{empty-valid, empty-count, read-valid}
+use Rattle.laws.specs.Sums.Indicators.{T-true}
+use Rattle.laws.specs.Sums.Lists.{all-mono, all-append, all-flatMap}
+use Rattle.laws.specs.Sifting.LocalSearch.{follow-flat}
+use Rattle.laws.specs.Sifting.Rounds.{ProperSift, ProperRound, proper-sift, proper-round, round-size, round-length, settling, rounds-follow}
+use Rattle.laws.specs.Sifting.Rounds.{rounds-moved, rounds-spent, settled-minimum}
+use Rattle.laws.specs.Sifting.Calls.{sift-passed, sift-accepted, sift-refused, sift-keeps}
+use Rattle.laws.specs.Sifting.Calls.{round-passed, round-accepted, round-refused, round-keeps}
+use Rattle.laws.specs.Sifting.Calls.{settle-passed, settle-accepted, settle-refused, settle-keeps}
+use Rattle.laws.specs.Layouts.Reordering.{Keeps, move-refused, move-keeps}
+use Rattle.laws.specs.Layouts.EditCalls.{add-refused, add-keeps, link-refused, link-keeps, unlink-refused, unlink-keeps}
+use Rattle.laws.specs.Append.Calls.{lay-refused, lay-keeps}
+use Rattle.laws.specs.Layouts.Sizes.{Sized, empty-sized, add-sized, link-sized, unlink-sized, move-sized}
+use Rattle.chart.specs.Laws.{read-sized}
+use Rattle.laws.specs.Append.Calls.{lay-sized}
+use Rattle.laws.specs.Sifting.Calls.{sift-sized, round-sized}
+use Rattle.laws.specs.Sifting.Calls.{settle-sized}
+use Rattle.chart.specs.Laws.{empty-valid, empty-count, read-valid}
 
 -- what an accepted call gives
 pub record CallFacts (l : Layout) (c : Call) : Type 0 where

@@ -5,7 +5,7 @@ ghost use Prim.Native.Nat.{_+_, _*_, _≤_};
 ghost use lib.ListN.{length, drop};
 ghost use Rattle.model.specs.Histories.{played};
 ghost use Rattle.model.specs.Playing.{callsOf, answersOf, startOf, playedCalls, playOf, tableOf};
-ghost use Rattle.laws.specs.Writing.{written};
+ghost use Rattle.laws.specs.Buffers.Writing.{written};
 ghost use Rattle.history.specs.CallLists.{callThere};
 ghost use Rattle.history.specs.Demand3.{Demand3};
 use super::calls::call_at;

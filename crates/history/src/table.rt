@@ -3,7 +3,7 @@ ghost use mathlib.Core.Path.{_≡_};
 ghost use Prim.Native.Nat.{_+_, _≤_};
 ghost use lib.ListN.{length};
 ghost use Rattle.model.specs.Playing.{answerNumbers};
-ghost use Rattle.laws.specs.Writing.{written};
+ghost use Rattle.laws.specs.Buffers.Writing.{written};
 use model::Outcome;
 
 // Writes an answer from place at on.

@@ -4,10 +4,10 @@ ghost use Prim.Native.Nat.{_<_};
 ghost use lib.ListN.{length};
 ghost use Rattle.model.specs.Checks.{refusal};
 ghost use Rattle.model.specs.Edits.{linkChecks, unlinkChecks, linkOf, unlinkOf, withBit, withoutBit, atBothEnds};
-use super::checks::pair_refusal;
-use super::recount::recounted;
+use counting::recounted;
 use model::Changed;
 use model::Layout;
+use validity::pair_refusal;
 
 pub fn add_edge(l: Layout, a: usize, b: usize) -> Changed
     ensures { λ r. ⌜ r ≡ linkOf l a b ⌝ }

@@ -5,12 +5,12 @@ ghost use Prim.Native.Nat.{_<_};
 ghost use lib.Dec.{ltb};
 ghost use Rattle.model.specs.Lists.{place};
 ghost use Rattle.model.specs.Edits.{moveOf};
-ghost use Rattle.laws.specs.Moving.{movedFrom};
-ghost use Rattle.laws.specs.MovedPlaces.{shifted};
-use super::checks::pair_refusal;
-use super::recount::recounted;
+ghost use Rattle.laws.specs.Orders.Moves.{movedFrom};
+ghost use Rattle.layout.specs.MovedPlaces.{shifted};
+use counting::recounted;
 use model::Changed;
 use model::Layout;
+use validity::pair_refusal;
 
 pub fn move_after(l: Layout, a: usize, b: usize) -> Changed
     ensures { λ r. ⌜ r ≡ moveOf l a b ⌝ }

@@ -4,9 +4,9 @@ ghost use Prim.Native.Nat.{_≤_};
 ghost use mathlib.Core.List.{_++_};
 ghost use lib.ListN.{length, take, drop};
 ghost use Rattle.model.specs.Reading.{countOf, orderRefusal, orderBytes};
-use super::validity::is_valid;
 use model::Counted;
 use model::Layout;
+use validity::is_valid;
 
 pub fn count(l: Layout) -> Counted
     ensures { λ r. ⌜ r ≡ countOf l ⌝ }

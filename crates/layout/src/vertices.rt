@@ -3,10 +3,10 @@ ghost use mathlib.Core.Path.{_≡_};
 ghost use Prim.Native.Nat.{_<_};
 ghost use lib.ListN.{length, set};
 ghost use Rattle.model.specs.Edits.{addOf};
-use super::recount::recounted;
-use super::validity::is_valid;
+use counting::recounted;
 use model::Added;
 use model::Layout;
+use validity::is_valid;
 
 pub fn add_vertex(l: Layout) -> Added
     ensures { λ r. ⌜ r ≡ addOf l ⌝ }

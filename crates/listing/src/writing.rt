@@ -5,7 +5,7 @@ ghost use mathlib.Core.List.{[], _∷_, _++_, flatMap};
 ghost use Prim.Native.Nat.{_+_, _*_, _<_, _≤_};
 ghost use lib.ListN.{length, take};
 ghost use Rattle.model.specs.Listing.{text, decimal, spaced};
-ghost use Rattle.laws.specs.Writing.{written};
+ghost use Rattle.laws.specs.Buffers.Writing.{written};
 
 pub(crate) fn put_byte(out: &mut [u8], at: usize, b: u8) -> usize
     requires { ⌜ at < length (now out) ⌝ }

@@ -48,7 +48,7 @@ pub(crate) fn pair(l: Layout, line: &mut [u8]) -> Played
     requires { ⌜ length (now line) ≡ 4096 ⌝ }
     ensures { λ r. ⌜ r .written ≤ 4096 ⌝ }
 {
-    let answer = layout::first_crossing(l);
+    let answer = crossing::first_crossing(l);
     let end = put_crossing(line, answer);
     told(line, end, l, l)
 }

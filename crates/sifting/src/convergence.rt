@@ -5,9 +5,9 @@ ghost use Rattle.model.specs.Checks.{refusal};
 ghost use Rattle.model.specs.Layouts.{valid};
 ghost use Rattle.model.specs.Sifting.{settleChecks, settleOf, roundsUpTo};
 use super::rounds::sift_all;
-use layout::is_valid;
 use model::Converged;
 use model::Layout;
+use validity::is_valid;
 
 pub fn converge(l: Layout, limit: u32) -> Converged
     ensures { λ r. ⌜ r ≡ settleOf l limit ⌝ }

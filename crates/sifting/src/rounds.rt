@@ -5,11 +5,11 @@ ghost use mathlib.Core.Bool.{cond};
 ghost use lib.Dec.{T, eqb};
 ghost use Rattle.model.specs.Layouts.{valid, crossingsOf};
 ghost use Rattle.model.specs.Sifting.{siftRound, roundOf};
-ghost use Rattle.laws.specs.SiftingLoops.{siftNext};
+ghost use Rattle.sifting.specs.Loops.{siftNext};
 use super::sifts::sift_vertex;
-use layout::is_valid;
 use model::Layout;
 use model::Rounded;
+use validity::is_valid;
 
 pub fn sifting_round(l: Layout) -> Rounded
     ensures { λ r. ⌜ r ≡ roundOf l ⌝ }

@@ -5,10 +5,10 @@ ghost use lib.Dec.{T};
 ghost use Rattle.model.specs.Layouts.{valid};
 ghost use Rattle.model.specs.Sifting.{sifted, reduction as reductionOf, siftOf};
 use super::walk::best_order;
-use layout::recounted;
-use layout::vertex_refusal;
+use counting::recounted;
 use model::Layout;
 use model::Sifted;
+use validity::vertex_refusal;
 
 pub fn sift(l: Layout, u: usize) -> Sifted
     ensures { λ r. ⌜ r ≡ siftOf l u ⌝ }

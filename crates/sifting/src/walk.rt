@@ -5,9 +5,9 @@ ghost use Prim.Native.Nat.{_+_, _<_, _≤_};
 ghost use lib.ListN.{take, drop};
 ghost use Rattle.model.specs.Crossings.{crossings};
 ghost use Rattle.model.specs.Sifting.{leastCrossings, siftedOrder};
-ghost use Rattle.laws.specs.Recount.{Drawn};
-ghost use Rattle.laws.specs.SiftingWalk.{turned as turnedPlace};
-use layout::count_crossings;
+ghost use Rattle.laws.specs.Layouts.Recount.{Drawn};
+ghost use Rattle.sifting.specs.Walk.{turned as turnedPlace};
+use counting::count_crossings;
 use layout::moved;
 use layout::place_of;
 

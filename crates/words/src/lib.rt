@@ -6,7 +6,7 @@ ghost use mathlib.Core.Bool.{cond};
 ghost use lib.Dec.{eqb, ltb};
 ghost use Rattle.model.specs.Crossings.{bit};
 ghost use Rattle.model.specs.Edits.{withBit, withoutBit};
-ghost use Rattle.laws.specs.Bits.{maskedOnes};
+ghost use Rattle.laws.specs.Sums.Bits.{maskedOnes};
 
 pub fn is_set(word: u64, i: usize) -> bool
     ensures { λ r. ⌜ r ≡ eqb (bit word i) 1 ⌝ }

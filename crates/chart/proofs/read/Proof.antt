@@ -9,8 +9,8 @@ use Rattle.model.specs.declared.Asked.{Asked}
 use Rattle.model.specs.declared.BodiesFound.{BodiesFound}
 use Rattle.model.specs.declared.SizeFound.{SizeFound}
 use Rattle.model.specs.Charts.{bodyOf, chartSize, accept, refuse, asked, bodiesFound, sizeFound, sizeAnswer}
-use Rattle.laws.specs.ChartFields.{part-sized, BodiesAt, bodies-at}
-use Rattle.laws.specs.ChartReading.{refusedRead, readBodies, read-undivided, read-untagged, read-missized, size-value, size-small, read-rest}
+use Rattle.chart.specs.Fields.{part-sized, BodiesAt, bodies-at}
+use Rattle.chart.specs.Reading.{refusedRead, readBodies, read-undivided, read-untagged, read-missized, size-value, size-small, read-rest}
 use Rattle.chart.proofs.read.Statement.{statement}
 use Rattle.chart.proofs.read.Tie as tie
 

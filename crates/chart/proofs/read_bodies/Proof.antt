@@ -4,8 +4,8 @@ use mathlib.Core.Path.{_≡_, refl, sym, ap, _∙_}
 use mathlib.Core.Bool.{true}
 use Rattle.model.specs.declared.Asked.{Asked}
 use Rattle.model.specs.Charts.{asked, accept, refuse, edgesIn}
-use Rattle.laws.specs.ChartEdges.{within-mono}
-use Rattle.laws.specs.ChartReading.{refusedRead, read-outside, ends-below, read-repeated, read-misplaced, order-long, read-accepted}
+use Rattle.chart.specs.Edges.{within-mono}
+use Rattle.chart.specs.Reading.{refusedRead, read-outside, ends-below, read-repeated, read-misplaced, order-long, read-accepted}
 use Rattle.chart.proofs.read_bodies.Statement.{statement}
 use Rattle.chart.proofs.read_bodies.Tie as tie
 

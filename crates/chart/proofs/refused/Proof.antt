@@ -1,7 +1,7 @@
 use borrow.Author.Needs.{needs}
 use mathlib.Core.Path.{ap}
 use Rattle.model.specs.declared.Layout.{Layout}
-use Rattle.laws.specs.ChartReading.{refusedRead}
+use Rattle.chart.specs.Reading.{refusedRead}
 use Rattle.chart.proofs.refused.Statement.{statement}
 use Rattle.chart.proofs.refused.Tie as tie
 

@@ -4,7 +4,7 @@ use native.Mathlib.Omega.{arith}
 use mathlib.Core.Path.{sym}
 use lib.ListN.{length}
 use lib.Seq.{length-take-le}
-use Rattle.laws.specs.ListingText.{listed-fits}
+use Rattle.listing.specs.Text.{listed-fits}
 use Rattle.ringlist.proofs.main.Statement.{statement}
 use Rattle.ringlist.proofs.main.Tie as tie
 

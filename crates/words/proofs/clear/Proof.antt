@@ -2,7 +2,7 @@ use borrow.Author.Needs.{needs}
 use mathlib.Core.Path.{_≡_, sym, ap, _∙_}
 use Prim.Native.Nat.{_*_, _^_, _%_}
 use lib.Bits.{bitAnd, and-le-l}
-use Rattle.laws.specs.Bits.{shifted-one, sub-power, clear-beyond}
+use Rattle.laws.specs.Sums.Bits.{shifted-one, sub-power, clear-beyond}
 use Rattle.words.proofs.clear.Statement.{statement}
 use Rattle.words.proofs.clear.Tie as tie
 

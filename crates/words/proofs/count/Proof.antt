@@ -1,4 +1,4 @@
-use Rattle.laws.specs.Bits.{maskedOnes, ones-masked}
+use Rattle.laws.specs.Sums.Bits.{maskedOnes, ones-masked}
 use Rattle.words.proofs.count.Statement.{statement}
 use Rattle.words.proofs.count.Tie as tie
 

@@ -1,7 +1,7 @@
 use borrow.Author.Needs.{needs}
 use mathlib.Core.Path.{refl}
 use Rattle.model.specs.Crossings.{bit}
-use Rattle.laws.specs.Bits.{bit-beyond}
+use Rattle.laws.specs.Sums.Bits.{bit-beyond}
 use Rattle.words.proofs.is_set.Statement.{statement}
 use Rattle.words.proofs.is_set.Tie as tie
 

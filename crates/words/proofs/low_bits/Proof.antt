@@ -3,7 +3,7 @@ use Prim.Native.Nat.{_-_, _^_, min}
 use native.Mathlib.Nat.{min-eq-left, min-eq-right, le-of-lt}
 use mathlib.Core.Path.{_≡_, sym, ap}
 use lib.Pow.{pow-pos}
-use Rattle.laws.specs.Bits.{shifted-one}
+use Rattle.laws.specs.Sums.Bits.{shifted-one}
 use Rattle.words.proofs.low_bits.Statement.{statement}
 use Rattle.words.proofs.low_bits.Tie as tie
 

@@ -2,7 +2,7 @@ use borrow.Author.Needs.{needs}
 use mathlib.Core.Path.{_≡_, sym, _∙_}
 use Rattle.model.specs.Checks.{refusal}
 use Rattle.model.specs.GreedyAppend.{placeAll, layChecks, layAnswer, layRefused, layOf}
-use Rattle.laws.specs.Refusals.{when-accepted, when-refused, vertex-passed}
+use Rattle.laws.specs.Layouts.Refusals.{when-accepted, when-refused, vertex-passed}
 use Rattle.append.proofs.appending.greedy_append.Statement.{statement}
 use Rattle.append.proofs.appending.greedy_append.Tie as tie
 

@@ -2,9 +2,9 @@ use Prim.Native.Nat.{_+_, _-_, _<_}
 use native.Mathlib.Omega.{arith}
 use mathlib.Core.Path.{_≡_, ap, _∙_}
 use lib.ListN.{length, getD}
-use Rattle.laws.specs.Indicators.{one-le}
-use Rattle.laws.specs.ListSums.{all-at}
-use Rattle.laws.specs.Bits.{maskedOnes-le}
+use Rattle.laws.specs.Sums.Indicators.{one-le}
+use Rattle.laws.specs.Sums.Lists.{all-at}
+use Rattle.laws.specs.Sums.Bits.{maskedOnes-le}
 use Rattle.append.specs.Lines.{entries, entries-length, entry-at}
 use Rattle.append.specs.Ends.{closingTo, openFrom, EndsUpTo, ends-start, so-far-small, ends-next, ends-end}
 use Rattle.append.proofs.ends.end_crossings.Statement.{statement}

@@ -1,6 +1,6 @@
 use Prim.Native.Nat.{_-_}
 use native.Mathlib.Omega.{arith}
-use Rattle.laws.specs.Bits.{set-within}
+use Rattle.laws.specs.Sums.Bits.{set-within}
 use Rattle.append.specs.Steps.{PlacedUpTo, place-start, place-next, place-end}
 use Rattle.append.proofs.steps.place_all.Statement.{statement}
 use Rattle.append.proofs.steps.place_all.Tie as tie

@@ -2,8 +2,8 @@ use borrow.Author.Needs.{needs}
 use Prim.Native.Nat.{_<_}
 use native.Mathlib.Nat.{lt-of-lt-of-le}
 use native.Mathlib.Omega.{arith}
-use Rattle.laws.specs.ListSums.{all-mono}
-use Rattle.laws.specs.Bits.{set-within}
+use Rattle.laws.specs.Sums.Lists.{all-mono}
+use Rattle.laws.specs.Sums.Bits.{set-within}
 use Rattle.append.specs.Masks.{complement}
 use Rattle.append.specs.Steps.{next-free, Found, ends-few, put-steps}
 use Rattle.append.proofs.steps.place_next.Statement.{statement}

@@ -4,7 +4,7 @@ use native.Mathlib.Omega.{arith}
 use mathlib.Core.Path.{sym, _∙_}
 use lib.ListN.{length}
 use borrow.Author.Tests.{not-true, not-false}
-use Rattle.laws.specs.ChartEdges.{EndsUpTo, ends-start, ends-next, ends-bad, ends-end, answer-odd, answer-outside, answer-within}
+use Rattle.chart.specs.Edges.{EndsUpTo, ends-start, ends-next, ends-bad, ends-end, answer-odd, answer-outside, answer-within}
 use Rattle.chart.proofs.edges.ask_ends.Statement.{statement}
 use Rattle.chart.proofs.edges.ask_ends.Tie as tie
 

@@ -1,6 +1,6 @@
 use native.Mathlib.Omega.{arith}
 use mathlib.Core.Path.{sym}
-use Rattle.laws.specs.ChartEdges.{edge-within, edge-outside}
+use Rattle.chart.specs.Edges.{edge-within, edge-outside}
 use Rattle.chart.proofs.edges.is_edge.Statement.{statement}
 use Rattle.chart.proofs.edges.is_edge.Tie as tie
 

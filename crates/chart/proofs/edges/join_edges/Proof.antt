@@ -5,8 +5,8 @@ use mathlib.Core.Path.{sym, _∙_}
 use mathlib.Core.Bool.{false≢true}
 use lib.ListN.{length, getD}
 use Rattle.model.specs.Charts.{asked, refuse}
-use Rattle.laws.specs.ChartEdges.{Ends}
-use Rattle.laws.specs.ChartWords.{JoinedUpTo, joined-start, joined-ends, joined-next, joined-repeat, joined-words, joined-once, answer-once, answer-repeat}
+use Rattle.chart.specs.Edges.{Ends}
+use Rattle.chart.specs.Words.{JoinedUpTo, joined-start, joined-ends, joined-next, joined-repeat, joined-words, joined-once, answer-once, answer-repeat}
 use Rattle.chart.proofs.edges.join_edges.Statement.{statement}
 use Rattle.chart.proofs.edges.join_edges.Tie as tie
 

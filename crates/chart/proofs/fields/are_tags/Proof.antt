@@ -3,7 +3,7 @@ use mathlib.Core.Path.{sym}
 use mathlib.Core.Bool.{and-true}
 use lib.Dec.{eqb}
 use Rattle.model.specs.Charts.{sameList}
-use Rattle.laws.specs.ChartFields.{rightTags}
+use Rattle.chart.specs.Fields.{rightTags}
 use Rattle.chart.proofs.fields.are_tags.Statement.{statement}
 use Rattle.chart.proofs.fields.are_tags.Tie as tie
 

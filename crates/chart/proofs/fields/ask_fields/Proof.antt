@@ -1,6 +1,6 @@
 use borrow.Author.Needs.{needs}
 use mathlib.Core.Path.{sym, _∙_}
-use Rattle.laws.specs.ChartFields.{division-long, division-cut, division-whole}
+use Rattle.chart.specs.Fields.{division-long, division-cut, division-whole}
 use Rattle.chart.proofs.fields.ask_fields.Statement.{statement}
 use Rattle.chart.proofs.fields.ask_fields.Tie as tie
 

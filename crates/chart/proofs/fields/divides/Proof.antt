@@ -4,7 +4,7 @@ use native.Mathlib.Omega.{arith}
 use mathlib.Core.Path.{sym, ap, _∙_}
 use lib.ListN.{length, drop}
 use Rattle.model.specs.Charts.{fieldFound}
-use Rattle.laws.specs.ChartFields.{field-there, field-none, DividedUpTo, divided-start, divided-next, divided-end}
+use Rattle.chart.specs.Fields.{field-there, field-none, DividedUpTo, divided-start, divided-next, divided-end}
 use Rattle.chart.proofs.fields.divides.Statement.{statement}
 use Rattle.chart.proofs.fields.divides.Tie as tie
 

@@ -1,7 +1,7 @@
 use borrow.Author.Needs.{needs}
 use mathlib.Core.Path.{_∙_, ap}
 use Rattle.model.specs.Charts.{fieldAnswer}
-use Rattle.laws.specs.ChartFields.{rest-whole}
+use Rattle.chart.specs.Fields.{rest-whole}
 use Rattle.chart.proofs.fields.field_at.Statement.{statement}
 use Rattle.chart.proofs.fields.field_at.Tie as tie
 

@@ -5,7 +5,7 @@ use mathlib.Core.Path.{_≡_, sym, ap, _∙_}
 use mathlib.Core.Bool.{false}
 use lib.ListN.{length, drop}
 use Rattle.model.specs.Charts.{startsWithField, fieldFound}
-use Rattle.laws.specs.ChartFields.{FieldThere, field-there, field-none, field-inside, no-field, one-field, two-fields, four-fields, three-wrong, three-right}
+use Rattle.chart.specs.Fields.{FieldThere, field-there, field-none, field-inside, no-field, one-field, two-fields, four-fields, three-wrong, three-right}
 use Rattle.chart.proofs.fields.find_bodies.Statement.{statement}
 use Rattle.chart.proofs.fields.find_bodies.Tie as tie
 

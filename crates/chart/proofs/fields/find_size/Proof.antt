@@ -1,6 +1,6 @@
 use borrow.Author.Needs.{needs}
 use native.Mathlib.Omega.{arith}
-use Rattle.laws.specs.ChartFields.{size-long, size-large, size-right}
+use Rattle.chart.specs.Fields.{size-long, size-large, size-right}
 use Rattle.chart.proofs.fields.find_size.Statement.{statement}
 use Rattle.chart.proofs.fields.find_size.Tie as tie
 

@@ -1,7 +1,7 @@
 use borrow.Author.Needs.{needs}
 use native.Mathlib.Omega.{arith}
 use Rattle.model.specs.Charts.{bodyLength}
-use Rattle.laws.specs.ChartFields.{answer-field, answer-short, answer-cut}
+use Rattle.chart.specs.Fields.{answer-field, answer-short, answer-cut}
 use Rattle.chart.proofs.fields.first_field.Statement.{statement}
 use Rattle.chart.proofs.fields.first_field.Tie as tie
 

@@ -1,7 +1,7 @@
 use borrow.Author.Needs.{needs}
 use native.Mathlib.Omega.{arith}
 use mathlib.Core.Path.{sym, _∙_}
-use Rattle.laws.specs.ChartOrder.{answer-length, answer-places, answer-misplaced}
+use Rattle.chart.specs.Order.{answer-length, answer-places, answer-misplaced}
 use Rattle.chart.proofs.order.ask_order.Statement.{statement}
 use Rattle.chart.proofs.order.ask_order.Tie as tie
 

@@ -1,7 +1,7 @@
 use Prim.Native.Nat.{_-_}
 use native.Mathlib.Omega.{arith}
 use lib.ListN.{length}
-use Rattle.laws.specs.ChartOrder.{CopiedUpTo, copied-start, copied-next, copied-end}
+use Rattle.chart.specs.Order.{CopiedUpTo, copied-start, copied-next, copied-end}
 use Rattle.chart.proofs.order.copy_order.Statement.{statement}
 use Rattle.chart.proofs.order.copy_order.Tie as tie
 

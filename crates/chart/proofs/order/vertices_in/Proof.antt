@@ -2,7 +2,7 @@ use borrow.Author.Needs.{needs}
 use Prim.Native.Nat.{_-_}
 use native.Mathlib.Omega.{arith}
 use lib.ListN.{length}
-use Rattle.laws.specs.ChartOrder.{SetUpTo, set-start, set-next, set-end}
+use Rattle.chart.specs.Order.{SetUpTo, set-start, set-next, set-end}
 use Rattle.chart.proofs.order.vertices_in.Statement.{statement}
 use Rattle.chart.proofs.order.vertices_in.Tie as tie
 

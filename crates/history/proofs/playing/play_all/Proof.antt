@@ -2,7 +2,7 @@ use Prim.Native.Nat.{_-_}
 use native.Mathlib.Omega.{arith}
 use mathlib.Core.Path.{_≡_}
 use lib.ListN.{length}
-use Rattle.laws.specs.Writing.{written-size}
+use Rattle.laws.specs.Buffers.Writing.{written-size}
 use Rattle.history.specs.CallLists.{calls-fit}
 use Rattle.history.specs.PlayLoops.{PlayedUpTo, played-start, played-next, played-all}
 use Rattle.history.proofs.playing.play_all.Statement.{statement}

@@ -2,8 +2,8 @@ use borrow.Author.Needs.{needs}
 use mathlib.Core.Path.{_≡_, sym, _∙_}
 use Rattle.model.specs.Checks.{refusal}
 use Rattle.model.specs.Edits.{linkChecks, withBit, atBothEnds, withEdges, linkOf}
-use Rattle.laws.specs.Refusals.{within-capacity, link-pair, changed-refused, changed-accepted}
-use Rattle.laws.specs.EdgeEdits.{set-changes, edges-recounted}
+use Rattle.laws.specs.Layouts.Refusals.{within-capacity, link-pair, changed-refused, changed-accepted}
+use Rattle.laws.specs.Layouts.EdgeEdits.{set-changes, edges-recounted}
 use Rattle.layout.proofs.edges.add_edge.Statement.{statement}
 use Rattle.layout.proofs.edges.add_edge.Tie as tie
 

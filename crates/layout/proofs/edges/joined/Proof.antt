@@ -3,7 +3,7 @@ use native.Mathlib.Omega.{arith}
 use mathlib.Core.Path.{ap₂}
 use lib.ListN.{set}
 use Rattle.model.specs.Edits.{atBothEnds}
-use Rattle.laws.specs.Bits.{set-within}
+use Rattle.laws.specs.Sums.Bits.{set-within}
 use borrow.Author.Needs.{needs}
 use Rattle.layout.proofs.edges.joined.Statement.{statement}
 use Rattle.layout.proofs.edges.joined.Tie as tie

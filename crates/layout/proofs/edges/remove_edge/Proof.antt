@@ -2,8 +2,8 @@ use borrow.Author.Needs.{needs}
 use mathlib.Core.Path.{_≡_, sym, _∙_}
 use Rattle.model.specs.Checks.{refusal}
 use Rattle.model.specs.Edits.{unlinkChecks, withoutBit, atBothEnds, withEdges, unlinkOf}
-use Rattle.laws.specs.Refusals.{within-capacity, unlink-pair, changed-refused, changed-accepted}
-use Rattle.laws.specs.EdgeEdits.{clear-changes, edges-recounted}
+use Rattle.laws.specs.Layouts.Refusals.{within-capacity, unlink-pair, changed-refused, changed-accepted}
+use Rattle.laws.specs.Layouts.EdgeEdits.{clear-changes, edges-recounted}
 use Rattle.layout.proofs.edges.remove_edge.Statement.{statement}
 use Rattle.layout.proofs.edges.remove_edge.Tie as tie
 

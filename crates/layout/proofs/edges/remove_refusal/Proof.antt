@@ -4,7 +4,7 @@ use Prim.Native.Nat.{_<_}
 use mathlib.Core.Path.{_≡_, ap, sym, _∙_}
 use mathlib.Core.Bool.{Bool, not, cond}
 use Rattle.model.specs.Crossings.{linked}
-use Rattle.laws.specs.Refusals.{pair-passed, within-capacity, unlink-last, unlink-before}
+use Rattle.laws.specs.Layouts.Refusals.{pair-passed, within-capacity, unlink-last, unlink-before}
 use Rattle.layout.proofs.edges.remove_refusal.Statement.{statement}
 use Rattle.layout.proofs.edges.remove_refusal.Tie as tie
 

@@ -6,9 +6,9 @@ use lib.ListN.{length}
 use lib.Seq.{length-take-le}
 use Rattle.model.specs.Edits.{moveChecks, movedAfter, moveOf}
 use Rattle.model.specs.Layouts.{vertexOrder, reordered}
-use Rattle.laws.specs.Validity.{sound}
-use Rattle.laws.specs.Refusals.{Pair, pair-passed, changed-refused, changed-accepted}
-use Rattle.laws.specs.MovedPlaces.{moved-array, move-recounted}
+use Rattle.laws.specs.Layouts.Validity.{sound}
+use Rattle.laws.specs.Layouts.Refusals.{Pair, pair-passed, changed-refused, changed-accepted}
+use Rattle.layout.specs.MovedPlaces.{moved-array, move-recounted}
 use Rattle.layout.proofs.moves.move_after.Statement.{statement}
 use Rattle.layout.proofs.moves.move_after.Tie as tie
 

@@ -4,7 +4,7 @@ use native.Mathlib.Omega.{arith}
 use mathlib.Core.Path.{_≡_, ap, _∙_}
 use lib.ListN.{length, getD}
 use borrow.Author.Tests.{lt-ltb, le-ltb}
-use Rattle.laws.specs.MovedPlaces.{ShiftedUpTo, shifted-start, shifted-next, shifted-end}
+use Rattle.layout.specs.MovedPlaces.{ShiftedUpTo, shifted-start, shifted-next, shifted-end}
 use Rattle.layout.proofs.moves.moved.Statement.{statement}
 use Rattle.layout.proofs.moves.moved.Tie as tie
 

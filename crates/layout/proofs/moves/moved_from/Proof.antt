@@ -4,7 +4,7 @@ use native.Mathlib.Omega.{arith}
 use native.Mathlib.Numerals.{add-one}
 use mathlib.Core.Path.{sym, _∙_}
 use borrow.Author.Tests.{lt-ltb, le-ltb, le-leb, lt-leb, eq-eqb, ne-eqb}
-use Rattle.laws.specs.Moving.{movedFrom}
+use Rattle.laws.specs.Orders.Moves.{movedFrom}
 use Rattle.layout.proofs.moves.moved_from.Statement.{statement}
 use Rattle.layout.proofs.moves.moved_from.Tie as tie
 

@@ -3,7 +3,7 @@ use native.Mathlib.Omega.{arith}
 use mathlib.Core.Path.{_≡_}
 use lib.ListN.{length, getD}
 use borrow.Author.Count.{below-more}
-use Rattle.laws.specs.MovedPlaces.{NotBefore, place-found, place-missing}
+use Rattle.layout.specs.MovedPlaces.{NotBefore, place-found, place-missing}
 use Rattle.layout.proofs.moves.place_of.Statement.{statement}
 use Rattle.layout.proofs.moves.place_of.Tie as tie
 

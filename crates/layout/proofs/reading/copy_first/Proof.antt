@@ -4,7 +4,7 @@ use native.Mathlib.Nat.{le-antisymm}
 use mathlib.Core.Path.{_≡_, refl, ap, sym, _∙_}
 use mathlib.Core.List.{List}
 use lib.ListN.{length, getD, set, length-set}
-use Rattle.laws.specs.Copying.{overlaid, overlaid-next}
+use Rattle.layout.specs.Copying.{overlaid, overlaid-next}
 use Rattle.layout.proofs.reading.copy_first.Statement.{statement}
 use Rattle.layout.proofs.reading.copy_first.Tie as tie
 

@@ -1,7 +1,7 @@
 use borrow.Author.Needs.{needs}
 use Rattle.model.specs.Checks.{checked, byRefusal, refusal, isValid}
 use Rattle.model.specs.Reading.{countOf}
-use Rattle.laws.specs.Indicators.{passed, failed}
+use Rattle.laws.specs.Sums.Indicators.{passed, failed}
 use Rattle.layout.proofs.reading.count.Statement.{statement}
 use Rattle.layout.proofs.reading.count.Tie as tie
 

@@ -4,12 +4,12 @@ use mathlib.Core.Path.{_≡_, subst, sym}
 use lib.ListN.{length}
 use lib.Dec.{T}
 use denote.Ref.{now}
-use Rattle.laws.specs.Validity.{sound}
+use Rattle.laws.specs.Layouts.Validity.{sound}
 use borrow.Author.Tests.{le-leb, lt-leb}
 use Rattle.model.specs.Checks.{checked, byRefusal, refusal, isValid, bufferFits}
 use Rattle.model.specs.Reading.{orderChecks, orderRefusal, orderBytes}
 use Rattle.model.specs.Layouts.{vertexOrder}
-use Rattle.laws.specs.Indicators.{passed, failed}
+use Rattle.laws.specs.Sums.Indicators.{passed, failed}
 use Rattle.layout.proofs.reading.order.Statement.{statement}
 use Rattle.layout.proofs.reading.order.Tie as tie
 

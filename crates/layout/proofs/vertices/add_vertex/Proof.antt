@@ -8,8 +8,8 @@ use Rattle.model.specs.declared.Layout.{Layout}
 use Rattle.model.specs.declared.Added.{Added}
 use Rattle.model.specs.Checks.{checked, byRefusal, refusal, isValid, hasRoom}
 use Rattle.model.specs.Edits.{addOf, addChecks}
-use Rattle.laws.specs.Indicators.{passed, failed}
-use Rattle.laws.specs.VertexEdits.{added-recounted}
+use Rattle.laws.specs.Sums.Indicators.{passed, failed}
+use Rattle.laws.specs.Layouts.VertexEdits.{added-recounted}
 use Rattle.layout.proofs.vertices.add_vertex.Statement.{statement}
 use Rattle.layout.proofs.vertices.add_vertex.Tie as tie
 

@@ -3,7 +3,7 @@ use native.Mathlib.Omega.{arith}
 use mathlib.Core.List.{[], _∷_, flatMap}
 use Rattle.model.specs.Lists.{upto}
 use Rattle.model.specs.Listing.{text, line, spaced}
-use Rattle.laws.specs.Writing.{Written, written-none, written-size, written-step}
+use Rattle.laws.specs.Buffers.Writing.{Written, written-none, written-size, written-step}
 use Rattle.listing.proofs.lines.put_order_line.Statement.{statement}
 use Rattle.listing.proofs.lines.put_order_line.Tie as tie
 

@@ -4,8 +4,8 @@ use native.Mathlib.Omega.{arith}
 use native.Mathlib.Nat.{min-eq-left}
 use mathlib.Core.Path.{_≡_, ap, _∙_}
 use lib.ListN.{getD}
-use Rattle.laws.specs.Bits.{maskedOnes, maskedOnes-le}
-use Rattle.laws.specs.EdgeTotals.{OnesUpTo, ones-none, ones-next, ones-all}
+use Rattle.laws.specs.Sums.Bits.{maskedOnes, maskedOnes-le}
+use Rattle.listing.specs.EdgeTotals.{OnesUpTo, ones-none, ones-next, ones-all}
 use Rattle.listing.proofs.listings.edge_count.Statement.{statement}
 use Rattle.listing.proofs.listings.edge_count.Tie as tie
 

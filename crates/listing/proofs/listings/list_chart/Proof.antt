@@ -9,9 +9,9 @@ use denote.Ref.{now}
 use Rattle.model.specs.declared.ChartRead.{ChartRead}
 use Rattle.model.specs.Lists.{upto}
 use Rattle.model.specs.Listing.{text, line, spaced, listingOf, listedLength, listedBytes}
-use Rattle.laws.specs.ChartLaws.{read-valid}
-use Rattle.laws.specs.Writing.{Written, written-none, written-step, written-whole}
-use Rattle.laws.specs.ListingText.{listing-refused, listing-accepted, listed-length, listed-bytes}
+use Rattle.chart.specs.Laws.{read-valid}
+use Rattle.laws.specs.Buffers.Writing.{Written, written-none, written-step, written-whole}
+use Rattle.listing.specs.Text.{listing-refused, listing-accepted, listed-length, listed-bytes}
 use Rattle.listing.proofs.listings.list_chart.Statement.{statement}
 use Rattle.listing.proofs.listings.list_chart.Tie as tie
 

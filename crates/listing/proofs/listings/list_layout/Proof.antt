@@ -7,9 +7,9 @@ use mathlib.Core.List.{List, flatMap}
 use lib.ListN.{length, take}
 use lib.Seq.{length-take-le}
 use Rattle.model.specs.Listing.{text, line, spaced, listing}
-use Rattle.laws.specs.Validity.{sound}
-use Rattle.laws.specs.Writing.{Written, written-size, written-step, written-whole}
-use Rattle.laws.specs.ListingText.{edges-halved, listed, listing-text}
+use Rattle.laws.specs.Layouts.Validity.{sound}
+use Rattle.laws.specs.Buffers.Writing.{Written, written-size, written-step, written-whole}
+use Rattle.listing.specs.Text.{edges-halved, listed, listing-text}
 use Rattle.listing.proofs.listings.list_layout.Statement.{statement}
 use Rattle.listing.proofs.listings.list_layout.Tie as tie
 

@@ -5,7 +5,7 @@ use mathlib.Core.Path.{_≡_, sym, ap, ap₂, subst, _∙_}
 use mathlib.Core.List.{List, [], _∷_}
 use lib.ListN.{length, length-append}
 use Rattle.model.specs.Listing.{decimal}
-use Rattle.laws.specs.Writing.{written, written-more, decimal-digit, decimal-more}
+use Rattle.laws.specs.Buffers.Writing.{written, written-more, decimal-digit, decimal-more}
 use borrow.Fn.Kinds.{In}
 use borrow.Fn.PlainCycle.{Measures, is, falls, and}
 use Rattle.listing.proofs.writing.put_decimal.Reads as put-decimal

@@ -3,7 +3,7 @@ use native.Mathlib.Omega.{arith}
 use mathlib.Core.List.{[], _∷_}
 use Rattle.model.specs.Lists.{upto}
 use Rattle.model.specs.Listing.{text, spaced}
-use Rattle.laws.specs.Writing.{Written, written-none, written-step}
+use Rattle.laws.specs.Buffers.Writing.{Written, written-none, written-step}
 use Rattle.listing.proofs.writing.put_line.Statement.{statement}
 use Rattle.listing.proofs.writing.put_line.Tie as tie
 

@@ -5,7 +5,7 @@ use mathlib.Core.List.{List, flatMap}
 use lib.ListN.{length, getD, take}
 use lib.Seq.{take-all}
 use Rattle.model.specs.Listing.{spaced}
-use Rattle.laws.specs.Writing.{Written, written-none, written-size, written-step, flatMap-next}
+use Rattle.laws.specs.Buffers.Writing.{Written, written-none, written-size, written-step, flatMap-next}
 use Rattle.listing.proofs.writing.put_order.Statement.{statement}
 use Rattle.listing.proofs.writing.put_order.Tie as tie
 

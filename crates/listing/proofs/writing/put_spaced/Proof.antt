@@ -7,7 +7,7 @@ use lib.ListN.{length}
 use lib.Dec.{lit<}
 use Rattle.model.specs.Lists.{upto}
 use Rattle.model.specs.Listing.{text, decimal, spaced}
-use Rattle.laws.specs.Writing.{Written, written-none, written-step, decimal-length}
+use Rattle.laws.specs.Buffers.Writing.{Written, written-none, written-step, decimal-length}
 use Rattle.listing.proofs.writing.put_spaced.Statement.{statement}
 use Rattle.listing.proofs.writing.put_spaced.Tie as tie
 

@@ -8,7 +8,7 @@ use Rattle.model.specs.declared.Converged.{Converged}
 use Rattle.model.specs.Checks.{refusal, isValid, limitFits}
 use Rattle.model.specs.Layouts.{valid}
 use Rattle.model.specs.Sifting.{settleChecks, settleRefused, settleOf, roundsUpTo}
-use Rattle.laws.specs.Refusals.{passed, when-accepted, when-refused}
+use Rattle.laws.specs.Layouts.Refusals.{passed, when-accepted, when-refused}
 use Rattle.sifting.proofs.convergence.converge.Statement.{statement}
 use Rattle.sifting.proofs.convergence.converge.Tie as tie
 

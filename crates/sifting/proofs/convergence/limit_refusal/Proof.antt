@@ -2,7 +2,7 @@ use borrow.Author.Needs.{needs}
 use borrow.Author.Tests.{le-leb, lt-leb}
 use Rattle.model.specs.Checks.{refusal, isValid, limitFits}
 use Rattle.model.specs.Sifting.{settleChecks}
-use Rattle.laws.specs.Indicators.{passed, failed}
+use Rattle.laws.specs.Sums.Indicators.{passed, failed}
 use Rattle.sifting.proofs.convergence.limit_refusal.Statement.{statement}
 use Rattle.sifting.proofs.convergence.limit_refusal.Tie as tie
 

@@ -1,6 +1,6 @@
 use Prim.Native.Nat.{ℕ, _-_}
 use native.Mathlib.Omega.{arith}
-use Rattle.laws.specs.SiftingLoops.{SettlingUpTo, settling-start, settling-next, settling-still, settling-limit, settling-bounds}
+use Rattle.sifting.specs.Loops.{SettlingUpTo, settling-start, settling-next, settling-still, settling-limit, settling-bounds}
 use Rattle.sifting.proofs.convergence.run_rounds.Statement.{statement}
 use Rattle.sifting.proofs.convergence.run_rounds.Tie as tie
 

@@ -1,7 +1,7 @@
 use Prim.Native.Nat.{ℕ, _-_}
 use native.Mathlib.Omega.{arith}
-use Rattle.laws.specs.Validity.{crossings-bound}
-use Rattle.laws.specs.SiftingLoops.{RoundUpTo, ready, round-start, round-next, round-end}
+use Rattle.laws.specs.Layouts.Validity.{crossings-bound}
+use Rattle.sifting.specs.Loops.{RoundUpTo, ready, round-start, round-next, round-end}
 use Rattle.sifting.proofs.rounds.sift_all.Statement.{statement}
 use Rattle.sifting.proofs.rounds.sift_all.Tie as tie
 

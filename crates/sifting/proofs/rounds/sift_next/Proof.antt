@@ -11,8 +11,8 @@ use Rattle.model.specs.declared.Rounded.{Rounded}
 use Rattle.model.specs.Lists.{one}
 use Rattle.model.specs.Layouts.{crossingsOf}
 use Rattle.model.specs.Sifting.{sifted, reduction, moves}
-use Rattle.laws.specs.Indicators.{one-le}
-use Rattle.laws.specs.SiftingLoops.{siftNext, moves-saving}
+use Rattle.laws.specs.Sums.Indicators.{one-le}
+use Rattle.sifting.specs.Loops.{siftNext, moves-saving}
 use Rattle.sifting.proofs.rounds.sift_next.Statement.{statement}
 use Rattle.sifting.proofs.rounds.sift_next.Tie as tie
 

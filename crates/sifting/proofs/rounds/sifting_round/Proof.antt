@@ -4,7 +4,7 @@ use lib.Dec.{T}
 use Rattle.model.specs.Checks.{checked, byRefusal, refusal, isValid}
 use Rattle.model.specs.Layouts.{valid}
 use Rattle.model.specs.Sifting.{roundOf}
-use Rattle.laws.specs.Indicators.{passed, failed}
+use Rattle.laws.specs.Sums.Indicators.{passed, failed}
 use Rattle.sifting.proofs.rounds.sifting_round.Statement.{statement}
 use Rattle.sifting.proofs.rounds.sifting_round.Tie as tie
 

@@ -6,8 +6,8 @@ use lib.Dec.{T}
 use Rattle.model.specs.declared.Sifted.{Sifted}
 use Rattle.model.specs.Layouts.{valid}
 use Rattle.model.specs.Sifting.{siftChecks, siftAnswer, siftRefused, siftOf}
-use Rattle.laws.specs.Refusals.{when-refused, vertex-passed}
-use Rattle.laws.specs.SiftingCalls.{sift-accepted}
+use Rattle.laws.specs.Layouts.Refusals.{when-refused, vertex-passed}
+use Rattle.laws.specs.Sifting.Calls.{sift-accepted}
 use Rattle.sifting.proofs.sifts.sift.Statement.{statement}
 use Rattle.sifting.proofs.sifts.sift.Tie as tie
 

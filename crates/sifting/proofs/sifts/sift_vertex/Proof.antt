@@ -5,8 +5,8 @@ use Rattle.model.specs.declared.Layout.{Layout}
 use Rattle.model.specs.declared.Sifted.{Sifted}
 use Rattle.model.specs.Layouts.{vertexOrder, crossingsOf}
 use Rattle.model.specs.Sifting.{sifted, reduction}
-use Rattle.laws.specs.Recount.{drawn}
-use Rattle.laws.specs.SiftingLoops.{sifted-recounted, sifted-saves}
+use Rattle.laws.specs.Layouts.Recount.{drawn}
+use Rattle.sifting.specs.Loops.{sifted-recounted, sifted-saves}
 use Rattle.sifting.proofs.sifts.sift_vertex.Statement.{statement}
 use Rattle.sifting.proofs.sifts.sift_vertex.Tie as tie
 

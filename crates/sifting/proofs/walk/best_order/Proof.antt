@@ -8,9 +8,9 @@ use lib.ListN.{length, take, drop}
 use Rattle.model.specs.Crossings.{crossings}
 use lib.Seq.{length-take-le}
 use Rattle.model.specs.Lists.{place}
-use Rattle.laws.specs.Permutations.{place-below}
-use Rattle.laws.specs.Recount.{counted, counted-crossings}
-use Rattle.laws.specs.SiftingWalk.{candidate, WalkUpTo, walk-start, walk-better, walk-same, walk-end, candidate-array, candidate-counted}
+use Rattle.laws.specs.Orders.Permutations.{place-below}
+use Rattle.laws.specs.Layouts.Recount.{counted, counted-crossings}
+use Rattle.sifting.specs.Walk.{candidate, WalkUpTo, walk-start, walk-better, walk-same, walk-end, candidate-array, candidate-counted}
 use Rattle.sifting.proofs.walk.best_order.Statement.{statement}
 use Rattle.sifting.proofs.walk.best_order.Tie as tie
 

@@ -1,7 +1,7 @@
 use borrow.Author.Needs.{needs}
 use borrow.Author.Tests.{lt-ltb, le-ltb}
 use Prim.Native.Nat.{_+_}
-use Rattle.laws.specs.SiftingWalk.{turned}
+use Rattle.sifting.specs.Walk.{turned}
 use Rattle.sifting.proofs.walk.turned.Statement.{statement}
 use Rattle.sifting.proofs.walk.turned.Tie as tie
 

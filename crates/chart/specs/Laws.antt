@@ -1,0 +1,126 @@
+-- What reading a chart gives: a valid layout with its true crossings, whatever the sequence in which the edges are written.
+use Prim.Native.Nat.{ℕ}
+use native.Mathlib.Decide.{ℕ-discrete}
+use mathlib.Core.Path.{_≡_, refl, sym, ap, ap₂, _∙_, subst}
+use mathlib.Core.Bool.{Bool, true, _&&_, _||_}
+use mathlib.Core.List.{List, [], _∷_, flatMap}
+use lib.ListN.{length}
+use lib.Dec.{T, eqb, leb, lit<}
+use borrow.Author.Tests.{leb-true, eqb-true}
+use Rattle.model.specs.declared.Edge.{Edge}
+use Rattle.model.specs.declared.ChartRead.{ChartRead}
+use Rattle.model.specs.declared.Layout.{Layout}
+use Rattle.model.specs.Lists.{one, upto, every, any, keep, sumPairs}
+use Rattle.model.specs.Crossings.{edges, crossings}
+use Rattle.model.specs.Layouts.{emptyLayout, vertexOrder, crossingsOf, eachOnce, zeroFrom, symmetric, loopless, bitsBelow, valid}
+use Rattle.model.specs.Checks.{refusal}
+use Rattle.model.specs.Charts.{bodyOf, chartSize, chartEdges, chartOrder, sameEdge, joins, chartChecks, sizeChecks, endChecks, repeatChecks, placeChecks}
+use Rattle.model.specs.Charts.{chartLayout, readOf}
+use Rattle.laws.specs.Sums.Lists.{All, none, also}
+use Rattle.laws.specs.Layouts.Sizes.{Sized, empty-sized}
+use Rattle.laws.specs.Layouts.Refusals.{checked-either, Numbered, all-pass, when-accepted, when-refused, checked-number}
+use Rattle.laws.specs.Sums.Indicators.{both-left, both-right, eqb-swap}
+use Rattle.chart.specs.Edges.{edge}
+use Rattle.chart.specs.Order.{padded-length}
+use Rattle.chart.specs.Words.{adjacencyOf, adjacency-length, adjacency-bit, adjacency-lt, adjacency-ext}
+use Rattle.chart.specs.Reading.{layoutFrom, Accepted, valid-read, count-true, refusedRead}
+
+-- ---- an accepted chart
+
+abbrev pub readAnswer : List ℕ → ChartRead
+readAnswer s = record { refusal = 0; layout = chartLayout s }
+
+read-number : (s : List ℕ) → readOf s .refusal ≡ refusal (chartChecks s)
+unfolding readOf refusedRead
+read-number s = checked-number (chartChecks s) (readAnswer s) refusedRead (λ (r : ChartRead). r .refusal) refl (λ r. refl)
+
+read-is : (s : List ℕ) → readOf s .refusal ≡ 0 → readOf s ≡ readAnswer s
+unfolding readOf refusedRead
+read-is s e = when-accepted (chartChecks s) (readAnswer s) refusedRead (sym (read-number s) ∙ e)
+
+numbered : (s : List ℕ) → Numbered (chartChecks s)
+unfolding chartChecks sizeChecks endChecks repeatChecks placeChecks
+numbered s = also (lit< tt) (also (lit< tt) (also (lit< tt) (also (lit< tt) (also (lit< tt) (also (lit< tt) (also (lit< tt) (also (lit< tt) none)))))))
+
+pub accepted : (s : List ℕ) → readOf s .refusal ≡ 0 → Accepted (chartSize s) (bodyOf s 1) (bodyOf s 2)
+unfolding chartChecks sizeChecks endChecks repeatChecks placeChecks chartEdges chartOrder chartSize
+accepted s e = from (all-pass (numbered s) (sym (read-number s) ∙ e))
+  where
+    from : All (λ c. c .passes ≡ true) (chartChecks s) → Accepted (chartSize s) (bodyOf s 1) (bodyOf s 2)
+    from (also _ (also _ (also _ (also size (also _ (also ends (also _ (also places none)))))))) =
+        record {
+          few = leb-true (chartSize s) 64 (both-right (eqb (length (bodyOf s 0)) 1) (leb (chartSize s) 64) size);
+          within = ends;
+          long = eqb-true (length (bodyOf s 2)) (chartSize s) (both-left (eqb (length (bodyOf s 2)) (chartSize s)) (eachOnce (chartSize s) (bodyOf s 2)) places);
+          each = both-right (eqb (length (bodyOf s 2)) (chartSize s)) (eachOnce (chartSize s) (bodyOf s 2)) places;
+        }
+
+layout-is : (s : List ℕ) → chartLayout s ≡ layoutFrom (chartSize s) (bodyOf s 1) (bodyOf s 2)
+unfolding chartLayout layoutFrom chartEdges chartOrder
+layout-is s = refl
+
+-- "a ring read from a chart its true crossings"
+pub read-valid : (s : List ℕ) → readOf s .refusal ≡ 0 → T (valid (readOf s .layout)) × (readOf s .layout .count ≡ crossingsOf (readOf s .layout))
+read-valid s e =
+    subst (λ (l : Layout). T (valid l) × (l .count ≡ crossingsOf l)) (sym (ap (λ (r : ChartRead). r .layout) (read-is s e) ∙ layout-is s))
+    (valid-read (accepted s e), count-true (accepted s e))
+
+-- ---- a refused chart gives the empty layout, which is valid with its true crossings too
+
+pub empty-valid : T (valid emptyLayout)
+unfolding valid emptyLayout vertexOrder eachOnce zeroFrom symmetric loopless bitsBelow every keep upto
+empty-valid = tt
+
+pub empty-count : emptyLayout .count ≡ crossingsOf emptyLayout
+unfolding emptyLayout crossingsOf vertexOrder crossings edges sumPairs upto flatMap
+empty-count = refl
+
+pub read-refused : (s : List ℕ) → (readOf s .refusal ≡ 0 → ⊥) → readOf s ≡ refusedRead (readOf s .refusal)
+unfolding readOf refusedRead
+read-refused s d = when-refused (chartChecks s) (readAnswer s) refusedRead (read-number s) d
+
+-- so reading gives such a layout in any case
+pub read-right : (s : List ℕ) → T (valid (readOf s .layout)) × (readOf s .layout .count ≡ crossingsOf (readOf s .layout))
+unfolding refusedRead
+read-right s =
+    elim (ℕ-discrete (readOf s .refusal) 0) [
+      | yes e ↦ read-valid s e
+      | no d ↦
+          subst (λ (r : ChartRead). T (valid (r .layout)) × (r .layout .count ≡ crossingsOf (r .layout))) (sym (read-refused s d)) (empty-valid, empty-count)
+    ]
+
+-- and its arrays have their places
+pub read-sized : (s : List ℕ) → Sized (readOf s .layout)
+unfolding readOf chartLayout refusedRead
+read-sized s =
+    checked-either (chartChecks s) (readAnswer s) refusedRead (λ (r : ChartRead). Sized (r .layout))
+    (λ e. record { places = padded-length (chartOrder s); words = adjacency-length (chartEdges s) }) (λ k. empty-sized)
+
+-- ---- the same edges, in another sequence or with ends exchanged
+
+sameEdge-swap : (e f : Edge) → sameEdge e f ≡ sameEdge f e
+unfolding sameEdge
+sameEdge-swap e f = ap₂ (λ (x y : Bool). x && y) (eqb-swap (e .low) (f .low)) (eqb-swap (e .high) (f .high))
+
+joins-member : (u v : ℕ) (es : List Edge) → any (joins u v) es ≡ any (sameEdge (edge u v)) es
+unfolding any joins edge
+joins-member u v [] = refl
+joins-member u v (e ∷ es) = ap₂ (λ (x y : Bool). x || y) (sameEdge-swap e (edge u v)) (joins-member u v es)
+
+pub same-words : (es fs : List Edge) → ((e : Edge) → any (sameEdge e) es ≡ any (sameEdge e) fs) → adjacencyOf es ≡ adjacencyOf fs
+same-words es fs h =
+    adjacency-ext (adjacencyOf es) fs (adjacency-length es) (adjacency-lt es)
+    (λ u v a b. adjacency-bit es u v a b ∙ ap one (joins-member u v es ∙ h (edge u v) ∙ sym (joins-member u v fs)))
+
+same-layouts : (s t : List ℕ) → chartSize s ≡ chartSize t → chartOrder s ≡ chartOrder t → adjacencyOf (chartEdges s) ≡ adjacencyOf (chartEdges t)
+    → chartLayout s ≡ chartLayout t
+unfolding chartLayout
+same-layouts s t sizes orders words = rw (sizes, orders, words)
+
+-- two accepted charts of the same vertices, order and edges give the same layout
+pub same-charts : (s t : List ℕ) → readOf s .refusal ≡ 0 → readOf t .refusal ≡ 0 → chartSize s ≡ chartSize t → chartOrder s ≡ chartOrder t
+    → ((e : Edge) → any (sameEdge e) (chartEdges s) ≡ any (sameEdge e) (chartEdges t)) → readOf s ≡ readOf t
+same-charts s t p q sizes orders edges =
+    read-is s p
+    ∙ ap (λ (l : Layout). record { refusal = 0; layout = l }) (same-layouts s t sizes orders (same-words (chartEdges s) (chartEdges t) edges))
+    ∙ sym (read-is t q)

@@ -1,0 +1,7 @@
+-- The passes of the reader, and what an accepted chart gives: Laws has what others cite.
+pub mod Fields
+pub mod Edges
+pub mod Words
+pub mod Order
+pub mod Reading
+pub mod Laws

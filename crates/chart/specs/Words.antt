@@ -1,0 +1,258 @@
+-- The adjacency words that a list of edges gives, and what one edge more does to them.
+use Prim.Native.Nat.{ℕ, zero, suc, _+_, _*_, _^_, _≤_, _<_}
+use native.Mathlib.Nat.{add-zero, lt-of-lt-of-le, not-suc-le-zero, pow-suc, zero-lt-suc}
+use native.Mathlib.Decide.{ℕ-discrete, decLt}
+use native.Mathlib.Omega.{arith}
+use mathlib.Core.Path.{_≡_, refl, sym, ap, ap₂, _∙_, subst}
+use mathlib.Core.Bool.{Bool, true, false, not, cond, _&&_}
+use mathlib.Core.List.{List, [], _∷_, _++_, map, append-assoc, append-nil}
+use lib.ListN.{length, getD, drop, replicate, length-set, length-map}
+use lib.Seq.{ext-getD}
+use lib.Dec.{eqb}
+use lib.Pow.{pow-mono}
+use Rattle.model.specs.declared.Edge.{Edge}
+use Rattle.model.specs.declared.Asked.the-variants as asks
+use Rattle.model.specs.Lists.{one, upto, every, any, sumOver, noRepeats}
+use Rattle.model.specs.Crossings.{bit, linked}
+use Rattle.model.specs.Edits.{withBit, atBothEnds}
+use Rattle.model.specs.Checks.{refusal, byRefusal, checked}
+use Rattle.model.specs.Charts.{edgesIn, edgeWithin, joins, sameEdge, wordIn, asked, answer, repeatChecks}
+use Rattle.laws.specs.Sums.Indicators.{less, same, more, order}
+use Rattle.laws.specs.Sums.Ranges.{sum}
+use Rattle.laws.specs.Sums.Lists.{length-upto, map-upto-at, sumOver-upto}
+use Rattle.laws.specs.Sums.Bits.{bit-beyond, bits-ext, set-same, set-other}
+use Rattle.laws.specs.Layouts.EdgeEdits.{both, set-changes, words-lt, joined-to, joined-back, bits-kept}
+use Rattle.laws.specs.Sums.Any.{any-new, any-old, noRepeats-last, noRepeats-more}
+use Rattle.chart.specs.Edges.{edge, edge-swap, same-edge, other-edge, Ends, edge-ends, edges-next, edges-last, EndsUpTo, ends-start, ends-next}
+use Rattle.chart.specs.Edges.{ends-known}
+
+-- ---- a word made of its bits
+
+-- the word with the bits that pass, among the first k
+unfoldable pub wordOf : (ℕ → Bool) → ℕ → ℕ
+wordOf p k = sum k (λ v. cond (p v) (2 ^ v) 0)
+
+pub wordOf-lt : (p : ℕ → Bool) (k : ℕ) → wordOf p k < 2 ^ k
+unfolding wordOf sum
+wordOf-lt p zero = zero-lt-suc 0
+wordOf-lt p (suc k) = rw (pow-suc 2 k) (by-test (p k) (wordOf-lt p k))
+  where
+    by-test : (b : Bool) → wordOf p k < 2 ^ k → wordOf p k + cond b (2 ^ k) 0 < 2 ^ k * 2
+    by-test true h = omega arith
+    by-test false h = omega arith
+
+-- a bit above all others
+set-above : (k w : ℕ) → w < 2 ^ k → withBit w k ≡ w + 2 ^ k
+unfolding withBit
+set-above k w h = rw (bit-beyond k w k h (omega arith)) (omega arith)
+
+pub wordOf-bit : (p : ℕ → Bool) (k v : ℕ) → v < k → bit (wordOf p k) v ≡ one (p v)
+unfolding wordOf sum one
+wordOf-bit p zero v h = absurd (not-suc-le-zero h)
+wordOf-bit p (suc k) v h =
+    elim (order v k) [
+      | less l ↦ lower (λ z. omega arith) (p k) ∙ wordOf-bit p k v l
+      | same e ↦ ap (bit (wordOf p k + cond (p k) (2 ^ k) 0)) e ∙ top (p k) ∙ ap (λ (x : ℕ). one (p x)) (sym e)
+      | more l ↦ absurd (omega arith)
+    ]
+  where
+    lower : (v ≡ k → ⊥) → (b : Bool) → bit (wordOf p k + cond b (2 ^ k) 0) v ≡ bit (wordOf p k) v
+    lower d true = ap (λ (x : ℕ). bit x v) (sym (set-above k (wordOf p k) (wordOf-lt p k))) ∙ set-other (wordOf p k) k v d
+    lower d false = ap (λ (x : ℕ). bit x v) (add-zero (wordOf p k))
+
+    top : (b : Bool) → bit (wordOf p k + cond b (2 ^ k) 0) k ≡ one b
+    top true = ap (λ (x : ℕ). bit x k) (sym (set-above k (wordOf p k) (wordOf-lt p k))) ∙ set-same (wordOf p k) k
+    top false = ap (λ (x : ℕ). bit x k) (add-zero (wordOf p k)) ∙ bit-beyond k (wordOf p k) k (wordOf-lt p k) (omega arith)
+
+-- no bit from n on
+pub wordOf-below : (p : ℕ → Bool) (n k : ℕ) → n ≤ k → ((v : ℕ) → n ≤ v → p v ≡ false) → wordOf p k < 2 ^ n
+unfolding one
+wordOf-below p n k h none =
+    subst (λ (w : ℕ). w < 2 ^ n)
+    (bits-ext k (wordOf p n) (wordOf p k) (lt-of-lt-of-le (wordOf-lt p n) (pow-mono h)) (wordOf-lt p k) bits) (wordOf-lt p n)
+  where
+    bits : (v : ℕ) → v < k → bit (wordOf p n) v ≡ bit (wordOf p k) v
+    bits v l =
+        elim (decLt v n) [
+          | yes b ↦ wordOf-bit p n v b ∙ sym (wordOf-bit p k v l)
+          | no b ↦ bit-beyond n (wordOf p n) v (wordOf-lt p n) (omega arith) ∙ sym (wordOf-bit p k v l ∙ ap one (none v (omega arith)))
+        ]
+
+-- two words with the same bits
+pub wordOf-ext : (w : ℕ) (p : ℕ → Bool) (k : ℕ) → w < 2 ^ k → ((v : ℕ) → v < k → bit w v ≡ one (p v)) → w ≡ wordOf p k
+wordOf-ext w p k h e = bits-ext k w (wordOf p k) h (wordOf-lt p k) (λ v l. e v l ∙ sym (wordOf-bit p k v l))
+
+-- ---- the words of some edges
+
+pub word-is : (es : List Edge) (u : ℕ) → wordIn es u ≡ wordOf (λ v. any (joins u v) es) 64
+unfolding wordIn wordOf
+word-is es u = sumOver-upto (λ v. cond (any (joins u v) es) (2 ^ v) 0) 64
+
+-- the words as a list
+abbrev pub adjacencyOf : List Edge → List ℕ
+adjacencyOf es = map (wordIn es) (upto 64)
+
+pub adjacency-length : (es : List Edge) → length (adjacencyOf es) ≡ 64
+adjacency-length es = length-map (upto 64) (wordIn es) ∙ length-upto 64
+
+pub adjacency-at : (es : List Edge) (u : ℕ) → u < 64 → getD (adjacencyOf es) u 0 ≡ wordOf (λ v. any (joins u v) es) 64
+adjacency-at es u h =
+    map-upto-at (wordIn es) 64 u h ∙ word-is es u
+
+pub adjacency-bit : (es : List Edge) (u v : ℕ) → u < 64 → v < 64 → bit (getD (adjacencyOf es) u 0) v ≡ one (any (joins u v) es)
+adjacency-bit es u v h l = ap (λ (w : ℕ). bit w v) (adjacency-at es u h) ∙ wordOf-bit (λ v. any (joins u v) es) 64 v l
+
+pub adjacency-lt : (es : List Edge) (u : ℕ) → u < 64 → getD (adjacencyOf es) u 0 < 2 ^ 64
+adjacency-lt es u h = rw (adjacency-at es u h) (wordOf-lt (λ v. any (joins u v) es) 64)
+
+-- words with the bits of some edges are their words
+pub adjacency-ext : (adj : List ℕ) (es : List Edge) → length adj ≡ 64 → ((u : ℕ) → u < 64 → getD adj u 0 < 2 ^ 64)
+    → ((u v : ℕ) → u < 64 → v < 64 → bit (getD adj u 0) v ≡ one (any (joins u v) es)) → adj ≡ adjacencyOf es
+adjacency-ext adj es n h e =
+    ext-getD 0 adj (adjacencyOf es) (n ∙ sym (adjacency-length es))
+    (λ u l.
+    (let below : u < 64 = omega arith in
+    wordOf-ext (getD adj u 0) (λ v. any (joins u v) es) 64 (h u below) (λ v b. e u v below b) ∙ sym (adjacency-at es u below)))
+
+pub no-edges : replicate 64 0 ≡ adjacencyOf []
+unfolding wordIn any sumOver upto
+no-edges = refl
+
+-- bit v of the word of u says whether an edge joins them
+pub adjacency-linked : (es : List Edge) (u v : ℕ) → u < 64 → v < 64 → linked (adjacencyOf es) u v ≡ any (joins u v) es
+unfolding linked one
+adjacency-linked es u v h l = ap (λ (x : ℕ). eqb x 1) (adjacency-bit es u v h l) ∙ as-test (any (joins u v) es)
+  where
+    as-test : (t : Bool) → eqb (one t) 1 ≡ t
+    as-test true = refl
+    as-test false = refl
+
+-- ---- one edge more
+
+joins-edge : (u v a b : ℕ) → joins u v (edge a b) ≡ sameEdge (edge a b) (edge u v)
+unfolding joins edge
+joins-edge u v a b = refl
+
+module _ (es : List Edge) (a b : ℕ) (first : a < 64) (second : b < 64) (differ : a ≡ b → ⊥) where
+  joined : List ℕ
+  joined = atBothEnds withBit (adjacencyOf es) a b
+
+  joined-length : length joined ≡ 64
+  unfolding joined atBothEnds
+  joined-length = simp length-set (adjacency-length es)
+
+  in-first : a < length (adjacencyOf es)
+  in-first = rw (adjacency-length es) first
+
+  in-second : b < length (adjacencyOf es)
+  in-second = rw (adjacency-length es) second
+
+  bits : (u v : ℕ) → u < 64 → v < 64 → bit (getD joined u 0) v ≡ one (any (joins u v) (es ++ (edge a b ∷ [])))
+  unfolding joined one
+  bits u v hu hv =
+      elim (both (ℕ-discrete u a) (ℕ-discrete v b)) [
+        | yes p ↦
+            rw (p .0, p .1)
+            (joined-to withBit (adjacencyOf es) a b in-first in-second differ 1 set-changes
+            ∙ sym (ap one (any-new (joins a b) es (edge a b) (joins-edge a b a b ∙ same-edge a b))))
+        | no p ↦
+            elim (both (ℕ-discrete u b) (ℕ-discrete v a)) [
+              | yes q ↦
+                  rw (q .0, q .1)
+                  (joined-back withBit (adjacencyOf es) a b in-first in-second differ 1 set-changes
+                  ∙ sym (ap one (any-new (joins b a) es (edge a b) (joins-edge b a a b ∙ ap (sameEdge (edge a b)) (edge-swap b a) ∙ same-edge a b))))
+              | no q ↦
+                  bits-kept withBit (adjacencyOf es) a b in-first in-second differ 1 set-changes u v (λ e f. p (e, f)) (λ e f. q (e, f))
+                  ∙ adjacency-bit es u v hu hv
+                  ∙ sym (ap one (any-old (joins u v) es (edge a b) (joins-edge u v a b ∙ other-edge a b u v (λ z. p (sym (z .0), sym (z .1))) (λ z. q (sym (z .1), sym (z .0))))))
+            ]
+      ]
+
+  small : (u : ℕ) → u < 64 → getD joined u 0 < 2 ^ 64
+  unfolding joined
+  small u hu =
+      words-lt withBit (adjacencyOf es) a b in-first in-second differ 1 set-changes 64 first second
+      (λ w l. adjacency-lt es w (rw (adjacency-length es) at l)) u (rw (adjacency-length es) hu)
+
+  -- both bits set
+  pub edge-joined : atBothEnds withBit (adjacencyOf es) a b ≡ adjacencyOf (es ++ (edge a b ∷ []))
+  unfolding joined
+  edge-joined = adjacency-ext joined (es ++ (edge a b ∷ [])) joined-length small bits
+
+-- ---- question 7: the edges joined one after the other
+
+pub record JoinedUpTo (s adj : List ℕ) (i : ℕ) : Type 0 where
+  pub ends : EndsUpTo 64 s i
+  pub done : List Edge
+  pub split : edgesIn s ≡ done ++ edgesIn (drop i s)
+  pub once : noRepeats sameEdge done ≡ true
+  pub words : adj ≡ adjacencyOf done
+
+-- a pair is written already exactly when its bit is set
+set-already : (es : List Edge) (a b : ℕ) → a < 64 → b < 64 → eqb (bit (getD (adjacencyOf es) a 0) b) 1 ≡ any (λ e. sameEdge e (edge a b)) es
+unfolding joins edge linked
+set-already es a b h l = adjacency-linked es a b h l
+
+module _ {s adj : List ℕ} where
+  pub joined-start : adj ≡ replicate 64 0 → JoinedUpTo s adj 0
+  unfolding noRepeats
+  joined-start e = record { ends = ends-start; done = []; split = refl; once = refl; words = e ∙ no-edges }
+
+  module _ {i : ℕ} (r : JoinedUpTo s adj i) where
+    all : length s ≤ i + 1 → edgesIn s ≡ r .done
+    all h = r .split ∙ ap (λ (x : List Edge). r .done ++ x) (edges-last s i h) ∙ append-nil (r .done)
+
+    pub joined-words : length s ≤ i + 1 → adj ≡ adjacencyOf (edgesIn s)
+    joined-words h = r .words ∙ ap adjacencyOf (sym (all h))
+
+    pub joined-once : length s ≤ i + 1 → noRepeats sameEdge (edgesIn s) ≡ true
+    joined-once h = ap (noRepeats sameEdge) (all h) ∙ r .once
+
+    module _ (h : i + 1 < length s) (within : every (edgeWithin 64) (edgesIn s) ≡ true) where
+      pub joined-ends : Ends 64 (getD s i 0) (getD s (i + 1) 0)
+      joined-ends = edge-ends 64 (getD s i 0) (getD s (i + 1) 0) (ends-known (r .ends) h within)
+
+      new : Edge
+      new = edge (getD s i 0) (getD s (i + 1) 0)
+
+      -- one edge further
+      further : edgesIn s ≡ (r .done ++ (new ∷ [])) ++ edgesIn (drop (i + 2) s)
+      unfolding new
+      further = r .split ∙ ap (λ (x : List Edge). r .done ++ x) (edges-next s i h) ∙ sym (append-assoc (r .done) (new ∷ []) (edgesIn (drop (i + 2) s)))
+
+      -- its bit, and whether it is a repeat
+      repeats : {t : Bool} → eqb (bit (getD adj (getD s i 0) 0) (getD s (i + 1) 0)) 1 ≡ t → noRepeats sameEdge (r .done ++ (new ∷ [])) ≡ not t
+      unfolding new
+      repeats {t} e =
+          noRepeats-last sameEdge (r .done) new
+          ∙ ap₂ (λ (x y : Bool). x && not y) (r .once)
+          (sym (set-already (r .done) (getD s i 0) (getD s (i + 1) 0) (joined-ends .first) (joined-ends .second))
+          ∙ ap (λ (x : List ℕ). eqb (bit (getD x (getD s i 0) 0) (getD s (i + 1) 0)) 1) (sym (r .words))
+          ∙ e)
+
+      pub joined-next : eqb (bit (getD adj (getD s i 0) 0) (getD s (i + 1) 0)) 1 ≡ false → {next : List ℕ}
+          → next ≡ atBothEnds withBit adj (getD s i 0) (getD s (i + 1) 0) → JoinedUpTo s next (i + 2)
+      unfolding new
+      joined-next e q =
+          record {
+            ends = ends-next (r .ends) h (ends-known (r .ends) h within);
+            done = r .done ++ (new ∷ []);
+            split = further;
+            once = repeats e;
+            words =
+                q ∙ ap (λ (x : List ℕ). atBothEnds withBit x (getD s i 0) (getD s (i + 1) 0)) (r .words)
+                ∙ edge-joined (r .done) (getD s i 0) (getD s (i + 1) 0) (joined-ends .first) (joined-ends .second) (joined-ends .differ);
+          }
+
+      pub joined-repeat : eqb (bit (getD adj (getD s i 0) 0) (getD s (i + 1) 0)) 1 ≡ true → noRepeats sameEdge (edgesIn s) ≡ false
+      joined-repeat e =
+          ap (noRepeats sameEdge) further ∙ noRepeats-more sameEdge (r .done ++ (new ∷ [])) (edgesIn (drop (i + 2) s)) (repeats e)
+
+module _ (s : List ℕ) where
+  pub answer-once : noRepeats sameEdge (edgesIn s) ≡ true → asked asks.Passed ≡ answer (repeatChecks s) []
+  unfolding repeatChecks answer checked byRefusal refusal asked
+  answer-once e = rw e
+
+  pub answer-repeat : noRepeats sameEdge (edgesIn s) ≡ false → asked (asks.Refused 7) ≡ answer (repeatChecks s) []
+  unfolding repeatChecks answer checked byRefusal refusal asked
+  answer-repeat e = rw e

@@ -1,0 +1,2 @@
+-- The counter's loops.
+pub mod Loops

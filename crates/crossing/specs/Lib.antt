@@ -1,0 +1,2 @@
+-- The search for a crossing pair.
+pub mod Search

@@ -1,0 +1,13 @@
+-- Valid layouts, the checks of a call, and the edits: what a valid layout has, what an accepted call may count on, and that every call keeps a valid
+-- layout valid and a right count right. Others cite sound and sound-valid, crossings-bound, checked-either, recounted-changed, Keeps with add-keeps,
+-- link-keeps, unlink-keeps and move-keeps, and Sized.
+pub mod Validity
+pub mod Complete
+pub mod Refusals
+pub mod Recount
+pub mod EdgeEdits
+pub mod VertexEdits
+pub mod Reordering
+pub mod FirstCrossing
+pub mod Sizes
+pub mod EditCalls

@@ -1,0 +1,73 @@
+-- The carried count of a changed layout, by the counter's formula and by the definition; and that edits keep an order and edges that can be counted.
+use Prim.Native.Nat.{ℕ, _+_, _-_, _%_, _≤_, _<_}
+use native.Mathlib.Nat.{mod-eq-of-lt, mod-add-mod, add-mod-right, lt-of-lt-of-le}
+use native.Mathlib.Omega.{arith}
+use mathlib.Core.Path.{_≡_, sym, ap, ap₂, _∙_}
+use mathlib.Core.Bool.{cond}
+use mathlib.Core.List.{List}
+use lib.ListN.{take}
+use lib.Seq.{getD-take}
+use lib.Dec.{T, leb}
+use borrow.Author.Tests.{le-leb}
+use Rattle.model.specs.declared.Layout.{Layout}
+use Rattle.model.specs.Crossings.{crossings}
+use Rattle.model.specs.Layouts.{modulus, vertexOrder, crossingsOf, valid, carried, changed}
+use Rattle.laws.specs.Orders.Permutations.{Permutation, at-lt}
+use Rattle.laws.specs.Sums.Pairs.{Symmetric}
+use Rattle.laws.specs.Crossings.Edges.{weight}
+use Rattle.laws.specs.Crossings.Masks.{vertexAt, countOn, countOn-crossings}
+use Rattle.laws.specs.Layouts.Validity.{sound}
+
+-- an order that holds each vertex once, and symmetric edges
+pub record Drawn (n : ℕ) (order adj : List ℕ) : Type 0 where
+  pub small : n ≤ 64
+  pub permutation : Permutation n (take n order)
+  pub symmetry : Symmetric n (weight adj)
+
+pub drawn : (l : Layout) → T (valid l) → Drawn (l .n) (l .order) (l .adjacency)
+unfolding vertexOrder
+drawn l t = record { small = sound l t .small; permutation = sound l t .permutation; symmetry = sound l t .symmetry }
+
+-- what the counter answers
+unfoldable pub counted : ℕ → List ℕ → List ℕ → ℕ
+counted n order adj = cond (leb n 64) (countOn n order adj) 0
+
+pub counted-crossings : {n : ℕ} {order adj : List ℕ} → Drawn n order adj → counted n order adj ≡ crossings n (take n order) adj
+unfolding counted vertexAt
+counted-crossings {n} {order} {adj} d =
+    rw (le-leb n 64 (d .small))
+    (countOn-crossings n order (take n order) (d .small) (d .permutation)
+    (λ j h. ap (λ (x : ℕ). x % 64) (sym (getD-take n order j 0 h)) ∙ mod-eq-of-lt (lt-of-lt-of-le (at-lt (d .permutation) j h) (d .small)))
+    adj (d .symmetry))
+
+-- a layout changed and its count carried on, by the counter's answers
+unfoldable pub recounted : Layout → ℕ → List ℕ → List ℕ → Layout
+recounted l n order adj =
+    record {
+      n = n;
+      order = order;
+      adjacency = adj;
+      count = carried (l .count) (counted (l .n) (l .order) (l .adjacency)) (counted n order adj);
+    }
+
+pub recounted-changed : (l : Layout) (n : ℕ) (order adj : List ℕ) → T (valid l) → Drawn n order adj → recounted l n order adj ≡ changed l n order adj
+unfolding recounted changed crossingsOf vertexOrder
+recounted-changed l n order adj t d =
+    ap₂ (λ (x y : ℕ). record { n = n; order = order; adjacency = adj; count = carried (l .count) x y })
+    (counted-crossings (drawn l t)) (counted-crossings d)
+
+-- wrapping add and subtract carry the count on
+pub carried-wrapping : (count before after sum difference : ℕ) → before < modulus → difference < modulus
+    → sum ≡ (count + after) % modulus → (difference + before) % modulus ≡ sum → difference ≡ carried count before after
+unfolding carried
+carried-wrapping count before after sum difference b d s e =
+    sym (mod-eq-of-lt d)
+    ∙ sym (add-mod-right difference modulus)
+    ∙ ap (λ (x : ℕ). x % modulus) (shift difference before (omega arith))
+    ∙ sym (mod-add-mod (difference + before) modulus (modulus - before))
+    ∙ ap (λ (x : ℕ). (x + (modulus - before)) % modulus) (e ∙ s)
+    ∙ mod-add-mod (count + after) modulus (modulus - before)
+    ∙ ap (λ (x : ℕ). (count + after + (modulus - x)) % modulus) (sym (mod-eq-of-lt b))
+  where
+    shift : (d b : ℕ) → b ≤ modulus → d + modulus ≡ d + b + (modulus - b)
+    shift d b h = omega arith

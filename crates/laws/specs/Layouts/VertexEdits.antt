@@ -1,0 +1,92 @@
+-- Adding a vertex: the order holds one more, and it has no edges.
+use Prim.Native.Nat.{ℕ, suc, _+_, _<_}
+use native.Mathlib.Nat.{lt-of-lt-of-le}
+use native.Mathlib.Decide.{ℕ-discrete}
+use native.Mathlib.Numerals.{add-one}
+use native.Mathlib.Omega.{arith}
+use mathlib.Core.Path.{_≡_, sym, ap, _∙_}
+use mathlib.Core.List.{List, [], _∷_, _++_}
+use lib.ListN.{length, getD, take, set, length-append}
+use lib.Dec.{T, eqb}
+use lib.Seq.{take-suc-set, getD-set-other}
+use lib.Pow.{pow-mono}
+use Rattle.model.specs.declared.Layout.{Layout}
+use Rattle.model.specs.Lists.{one, occurrences}
+use Rattle.model.specs.Layouts.{vertexOrder, valid, changed}
+use Rattle.model.specs.Edits.{added}
+use Rattle.laws.specs.Sums.Indicators.{less, same, more, order, one-eq, one-ne}
+use Rattle.laws.specs.Orders.Permutations.{occurrences-nil, occurrences-cons, occurrences-append, Permutation, none-beyond}
+use Rattle.laws.specs.Sums.Pairs.{Symmetric}
+use Rattle.laws.specs.Sums.Bits.{bit-beyond}
+use Rattle.laws.specs.Crossings.Edges.{weight}
+use Rattle.laws.specs.Crossings.Masks.{weight-bit}
+use Rattle.laws.specs.Layouts.Validity.{sound, sound-valid}
+use Rattle.laws.specs.Layouts.Recount.{recounted, recounted-changed}
+
+-- one more vertex at the end
+pub permutation-more : {n : ℕ} {o : List ℕ} → Permutation n o → Permutation (suc n) (o ++ (n ∷ []))
+permutation-more {n} {o} p =
+    record {
+      size = length-append o (n ∷ []) ∙ omega (arith, p .size);
+      once = λ v h.
+          occurrences-append v o (n ∷ []) ∙ ap (λ (x : ℕ). occurrences v o + x) (occurrences-cons v n []) ∙ ap (λ (x : ℕ). occurrences v o + (one (eqb v n) + x)) (occurrences-nil v)
+          ∙ elim (order v n) [
+            | less l ↦ omega (arith, p .once v l, one-ne v n (λ e. omega arith))
+            | same e ↦ omega (arith, none-beyond p v (omega arith), one-eq v n e)
+            | more l ↦ absurd (omega arith)
+          ];
+    }
+
+module _ (l : Layout) (t : T (valid l)) (room : l .n < 64) where
+  -- the new vertex has no edge, either way
+  no-edge-from : (v : ℕ) → weight (l .adjacency) (l .n) v ≡ 0
+  no-edge-from v =
+      weight-bit (l .adjacency) (l .n) v
+      ∙ bit-beyond 0 (getD (l .adjacency) (l .n) 0) v (omega (arith, sound l t .unused (l .n) (omega arith) room)) (omega arith)
+
+  no-edge-to : (u : ℕ) → u < 64 → weight (l .adjacency) u (l .n) ≡ 0
+  no-edge-to u h = weight-bit (l .adjacency) u (l .n) ∙ bit-beyond (l .n) (getD (l .adjacency) u 0) (l .n) (sound l t .bits u h) (omega arith)
+
+  symmetric-more : Symmetric (suc (l .n)) (weight (l .adjacency))
+  symmetric-more =
+      record {
+        swap = λ u v a b.
+            elim (ℕ-discrete u (l .n)) [
+              | yes e ↦ rw e (no-edge-from v ∙ sym (no-edge-to v (omega arith)))
+              | no du ↦
+                  elim (ℕ-discrete v (l .n)) [
+                    | yes e ↦ rw e (no-edge-to u (omega arith) ∙ sym (no-edge-from u))
+                    | no dv ↦ sound l t .symmetry .swap u v (omega arith) (omega arith)
+                  ]
+            ];
+        diagonal = λ v a.
+            elim (ℕ-discrete v (l .n)) [ yes e ↦ rw e (no-edge-from (l .n)) | no d ↦ sound l t .symmetry .diagonal v (omega arith) ];
+      }
+
+  module _ (size : length (l .order) ≡ 64) where
+    permutation-added : Permutation (suc (l .n)) (take (suc (l .n)) (set (l .order) (l .n) (l .n)))
+    unfolding vertexOrder
+    permutation-added = rw (take-suc-set (l .order) (l .n) (l .n) (omega arith)) (permutation-more (sound l t .permutation))
+
+    -- the layout with the vertex added is valid
+    pub added-valid : T (valid (added l))
+    unfolding added changed vertexOrder
+    added-valid =
+        let s = sound l t in
+        sound-valid (added l)
+        (record {
+          small = room;
+          permutation = permutation-added;
+          places = λ i h b. getD-set-other (l .order) (l .n) i (l .n) 0 (λ e. omega arith) ∙ s .places i (omega arith) b;
+          symmetry = symmetric-more;
+          bits = λ v b. lt-of-lt-of-le (s .bits v b) (pow-mono (omega arith));
+          unused = λ v h b. s .unused v (omega arith) b;
+        })
+
+    -- by the counter
+    pub added-recounted : {places : List ℕ} → places ≡ set (l .order) (l .n) (l .n) → recounted l (l .n + 1) places (l .adjacency) ≡ added l
+    unfolding added
+    added-recounted e =
+        rw (e, add-one (l .n))
+        (recounted-changed l (suc (l .n)) (set (l .order) (l .n) (l .n)) (l .adjacency) t
+        (record { small = room; permutation = permutation-added; symmetry = symmetric-more }))

@@ -1,0 +1,103 @@
+-- The parts of a listing, from what the calls answer.
+use Prim.Native.Nat.{ℕ, _-_, _/_, _^_, _≤_}
+use native.Mathlib.Nat.{mul-div-cancel-left}
+use native.Mathlib.Omega.{arith}
+use mathlib.Core.Path.{_≡_, sym, ap, ap₂, _∙_}
+use mathlib.Core.Bool.{Bool, true, false, cond}
+use mathlib.Core.List.{List, _++_, flatMap}
+use lib.ListN.{length, getD, take, drop, length-append}
+use borrow.Author.Tests.{le-ltb}
+use lib.Dec.{T, ltb}
+use Rattle.model.specs.declared.Layout.{Layout}
+use Rattle.model.specs.declared.Converged.{Converged}
+use Rattle.model.specs.Crossings.{edges}
+use Rattle.model.specs.Layouts.{vertexOrder, crossingsOf, valid}
+use Rattle.model.specs.Sifting.{settleOf}
+use Rattle.model.specs.declared.ChartRead.{ChartRead}
+use Rattle.model.specs.Checks.{byRefusal}
+use Rattle.model.specs.Charts.{readOf}
+use Rattle.model.specs.Listing.{text, line, spaced, listing, listingRoom, listingOf, listedLength, listedBytes}
+use Rattle.laws.specs.Sums.Ranges.{sum}
+use Rattle.laws.specs.Sums.Bits.{maskedOnes}
+use Rattle.laws.specs.Layouts.Refusals.{by-number}
+use Rattle.laws.specs.Layouts.Validity.{sound}
+use Rattle.listing.specs.EdgeTotals.{edges-twice}
+use Rattle.laws.specs.Layouts.Reordering.{CountRight}
+use Rattle.laws.specs.Sifting.Rounds.{settling}
+use Rattle.laws.specs.Sifting.Calls.{settle-accepted, settle-keeps}
+
+-- the number of edges, from the ones of the words
+pub edges-halved : (l : Layout) → T (valid l) → {r : ℕ} → r ≡ sum (l .n) (λ v. maskedOnes (getD (l .adjacency) v 0) (2 ^ l .n - 1)) / 2
+    → r ≡ length (edges (l .n) (l .adjacency))
+edges-halved l t e =
+    e
+    ∙ ap (λ (x : ℕ). x / 2) (edges-twice (l .n) (l .adjacency) (sound l t .small) (sound l t .symmetry))
+    ∙ mul-div-cancel-left (length (edges (l .n) (l .adjacency))) (omega arith)
+
+-- the settled layout is valid, has the same vertices and the right count
+pub record Settled (l : Layout) (r : Converged) : Type 0 where
+  pub is-valid : T (valid (r .layout))
+  pub same-n : r .layout .n ≡ l .n
+  pub right : CountRight (r .layout)
+
+pub settled-fifty : (l : Layout) → T (valid l) → CountRight l → {r : Converged} → r ≡ settleOf l 50 → Settled l r
+settled-fifty l t c e =
+    let s = settling 50 l t in
+    rw e
+    (record {
+      is-valid = settle-keeps l 50 t .0;
+      same-n = ap (λ (x : Converged). x .layout .n) (settle-accepted l 50 t (omega arith) (omega arith)) ∙ s .improved .same-n;
+      right = settle-keeps l 50 t .1 c;
+    })
+
+-- the text of a listing, from its numbers and an order of n places
+abbrev pub listed : ℕ → ℕ → ℕ → ℕ → ℕ → Converged → List ℕ
+listed n m before after places r =
+    line "devices" (spaced n)
+    ++ line "links" (spaced m)
+    ++ line "before" (spaced before)
+    ++ line "after" (spaced after)
+    ++ line "rounds" (spaced (r .rounds))
+    ++ line "settled" (text (cond (r .converged) " yes" " no"))
+    ++ line "order" (flatMap spaced (take places (r .layout .order)))
+
+pub listing-text : (l : Layout) → T (valid l) → CountRight l → {r : Converged} → r ≡ settleOf l 50 → {m : ℕ} → m ≡ length (edges (l .n) (l .adjacency))
+    → listed (l .n) m (l .count) (r .layout .count) (l .n) r ≡ listing l
+unfolding listing vertexOrder
+listing-text l t c {r} e {m} k =
+    let s = settled-fifty l t c e in
+    ap (λ (z : ℕ). listed (l .n) m (l .count) (r .layout .count) z r) (sym (s .same-n))
+    ∙ ap₂ (λ (x y : ℕ). listed (l .n) x y (r .layout .count) (r .layout .n) r) k c
+    ∙ ap (λ (z : ℕ). listed (l .n) (length (edges (l .n) (l .adjacency))) (crossingsOf l) z (r .layout .n) r) (s .right)
+    ∙ ap (λ (x : Converged). listed (l .n) (length (edges (l .n) (l .adjacency))) (crossingsOf l) (crossingsOf (x .layout)) (x .layout .n) x) e
+
+-- ---- a chart's listing
+
+module _ (s : List ℕ) {r : ChartRead} (e : r ≡ readOf s) where
+  pub listing-refused : (r .refusal ≡ 0 → ⊥) → listingOf s ≡ line "refused" (spaced (r .refusal))
+  unfolding listingOf
+  listing-refused d = rw (← e) (by-number (r .refusal) (listing (r .layout)) (λ refused. line "refused" (spaced refused)) d)
+
+  pub listing-accepted : r .refusal ≡ 0 → listingOf s ≡ listing (r .layout)
+  unfolding listingOf byRefusal
+  listing-accepted z = rw (← e, z)
+
+-- into a buffer with room
+module _ (s buffer : List ℕ) (room : 1024 ≤ length buffer) where
+  pub listed-length : listedLength s buffer ≡ length (listingOf s)
+  unfolding listedLength
+  listed-length = rw (le-ltb (length buffer) 1024 room)
+
+  pub listed-bytes : listedBytes s buffer ≡ listingOf s ++ drop (length (listingOf s)) buffer
+  unfolding listedBytes
+  listed-bytes = rw (le-ltb (length buffer) 1024 room)
+
+-- the listing is no longer than the buffer that holds it
+pub listed-fits : (s buffer : List ℕ) {after : List ℕ} → after ≡ listedBytes s buffer → length after ≡ length buffer → listedLength s buffer ≤ length buffer
+unfolding listedLength listedBytes
+listed-fits s buffer {after} e size = by-test (ltb (length buffer) listingRoom) (ap length (sym e) ∙ size)
+  where
+    by-test : (b : Bool) → length (cond b buffer (listingOf s ++ drop (length (listingOf s)) buffer)) ≡ length buffer
+        → cond b 0 (length (listingOf s)) ≤ length buffer
+    by-test true k = omega arith
+    by-test false k = omega (arith, length-append (listingOf s) (drop (length (listingOf s)) buffer))

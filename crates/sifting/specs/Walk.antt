@@ -1,0 +1,225 @@
+-- A sift that goes through its candidates one by one and keeps the first with fewest crossings.
+use Prim.Native.Nat.{ℕ, suc, _+_, _-_, _≤_, _<_, min}
+use native.Mathlib.Nat.{le-refl, min-comm, min-le-left, min-le-right, min-eq-left, min-eq-right}
+use native.Mathlib.Numerals.{add-one}
+use native.Mathlib.Omega.{arith}
+use mathlib.Core.Path.{_≡_, refl, sym, ap, ap₂, _∙_}
+use mathlib.Core.Bool.{Bool, true, false, cond, _||_, _&&_}
+use mathlib.Core.List.{List, [], _∷_, _++_}
+use lib.ListN.{length, getD, take, drop, length-map, take-append-drop, List·getD-map}
+use lib.Seq.{take-suc, take-all, take-at}
+use lib.Dec.{T, eqb, ltb}
+use borrow.Author.Tests.{lt-ltb, le-ltb, eq-eqb, ne-eqb}
+use Rattle.model.specs.Lists.{any, firstWith, place}
+use Rattle.model.specs.Crossings.{crossings}
+use Rattle.model.specs.Edits.{movedAfter}
+use Rattle.model.specs.Sifting.{clockwiseFrom, candidates, least, leastCrossings, improves, siftedOrder}
+use Rattle.laws.specs.Sums.Indicators.{less, same, more, order}
+use Rattle.laws.specs.Orders.Permutations.{at, Permutation, at-lt, place-below, place-of-at}
+use Rattle.laws.specs.Sums.Pairs.{Symmetric}
+use Rattle.laws.specs.Crossings.Edges.{weight}
+use Rattle.laws.specs.Layouts.Recount.{counted, counted-crossings}
+use Rattle.laws.specs.Orders.Moves.{moved-permutation}
+use Rattle.layout.specs.MovedPlaces.{shifted, shifted-moved}
+use Rattle.laws.specs.Sifting.LocalSearch.{least-default, least-some}
+use Rattle.laws.specs.Sifting.Candidates.{clockwise-length, clockwise-behind, clockwise-before}
+
+-- ---- the first with the fewest, of the entries so far
+
+module _ (f : List ℕ → ℕ) (o : List ℕ) where
+  least-snoc : (d : ℕ) (xs : List (List ℕ)) (x : List ℕ) → least f d (xs ++ (x ∷ [])) ≡ min (least f d xs) (f x)
+  unfolding least
+  least-snoc d [] x = min-comm (f x) d
+  least-snoc d (y ∷ ys) x = rw (least-snoc d ys x) (omega arith)
+
+  first-snoc : (p : List ℕ → Bool) (xs : List (List ℕ)) (x : List ℕ) → T (any p xs) → firstWith p o (xs ++ (x ∷ [])) ≡ firstWith p o xs
+  unfolding firstWith any
+  first-snoc p [] x t = absurd t
+  first-snoc p (y ∷ ys) x t = by-test (p y) t (first-snoc p ys x)
+    where
+      by-test : (b : Bool) → T (b || any p ys) → (T (any p ys) → firstWith p o (ys ++ (x ∷ [])) ≡ firstWith p o ys)
+          → cond b y (firstWith p o (ys ++ (x ∷ []))) ≡ cond b y (firstWith p o ys)
+      by-test true s r = refl
+      by-test false s r = r s
+
+  -- a value below the least is new
+  first-new : (xs : List (List ℕ)) (x : List ℕ) → f x < least f (f o) xs → firstWith (λ c. eqb (f c) (f x)) o (xs ++ (x ∷ [])) ≡ x
+  unfolding firstWith least
+  first-new [] x h = rw (eq-eqb (f x) (f x) refl)
+  first-new (y ∷ ys) x h =
+      rw (ne-eqb (f y) (f x) (λ e. omega (arith, min-le-left (f y) (least f (f o) ys))))
+      (first-new ys x (omega (arith, min-le-right (f y) (least f (f o) ys))))
+
+  pub record BestSoFar (xs : List (List ℕ)) (best : List ℕ) (fewest : ℕ) : Type 0 where
+    pub fewest-is : fewest ≡ least f (f o) xs
+    pub chosen : best ≡ cond (ltb fewest (f o)) (firstWith (λ c. eqb (f c) fewest) o xs) o
+
+  pub best-none : BestSoFar [] o (f o)
+  unfolding least
+  best-none = record { fewest-is = refl; chosen = sym (ap (λ (t : Bool). cond t (firstWith (λ c. eqb (f c) (f o)) o []) o) (le-ltb (f o) (f o) (le-refl (f o)))) }
+
+  pub best-better : {xs : List (List ℕ)} {best : List ℕ} {fewest : ℕ} → BestSoFar xs best fewest → (x : List ℕ) → f x < fewest
+      → BestSoFar (xs ++ (x ∷ [])) x (f x)
+  best-better {xs} {best} {fewest} b x h =
+      record {
+        fewest-is = sym (least-snoc (f o) xs x ∙ min-eq-right (omega (arith, b .fewest-is)));
+        chosen =
+            sym
+            (ap (λ (t : Bool). cond t (firstWith (λ c. eqb (f c) (f x)) o (xs ++ (x ∷ []))) o)
+            (lt-ltb (f x) (f o) (omega (arith, b .fewest-is, least-default f (f o) xs)))
+            ∙ first-new xs x (omega (arith, b .fewest-is)));
+      }
+
+  pub best-same : {xs : List (List ℕ)} {best : List ℕ} {fewest : ℕ} → BestSoFar xs best fewest → (x : List ℕ) → fewest ≤ f x
+      → BestSoFar (xs ++ (x ∷ [])) best fewest
+  best-same {xs} {best} {fewest} b x h =
+      record {
+        fewest-is = b .fewest-is ∙ sym (least-snoc (f o) xs x ∙ min-eq-left (omega (arith, b .fewest-is)));
+        chosen =
+            b .chosen
+            ∙ elim (order fewest (f o)) [
+              | less l ↦
+                  ap (cond' (ltb fewest (f o))) (sym (first-snoc (λ c. eqb (f c) fewest) xs x (least-some f (f o) xs fewest (sym (b .fewest-is)) l)))
+              | same e ↦ both-stay (omega arith)
+              | more l ↦ both-stay (omega arith)
+            ];
+      }
+    where
+      cond' : Bool → List ℕ → List ℕ
+      cond' t c = cond t c o
+
+      both-stay : f o ≤ fewest → cond (ltb fewest (f o)) (firstWith (λ c. eqb (f c) fewest) o xs) o ≡ cond (ltb fewest (f o)) (firstWith (λ c. eqb (f c) fewest) o (xs ++ (x ∷ []))) o
+      both-stay l = rw (le-ltb fewest (f o) l)
+
+-- ---- the candidates, one by one
+
+-- the place of the vertex j behind the next one clockwise from place p
+unfoldable pub turned : ℕ → ℕ → ℕ → ℕ
+turned n p j = cond (ltb (p + 1 + j) n) (p + 1 + j) (p + 1 + j - n)
+
+-- candidate j of a sift of u, for the vertices in the first n places
+unfoldable pub candidate : ℕ → List ℕ → ℕ → ℕ → List ℕ
+candidate n places u j = movedAfter u (at (clockwiseFrom u (take n places)) j) (take n places)
+
+-- after j candidates: the array holds the first with fewest crossings, before the unused places
+pub record WalkUpTo (n : ℕ) (places adj : List ℕ) (u : ℕ) (best : List ℕ) (fewest j : ℕ) : Type 0 where
+  pub inside : j < n
+  pub list : List ℕ
+  pub array : best ≡ list ++ drop n places
+  pub so-far : BestSoFar (λ c. crossings n c adj) (take n places) (take j (candidates u (take n places))) list fewest
+
+module _ (n : ℕ) (places adj : List ℕ) (size : length places ≡ 64) (small : n ≤ 64) (perm : Permutation n (take n places)) (u : ℕ) (h : u < n) where
+  abbrev p : ℕ
+  p = place (take n places) u
+
+  -- q is the place of the vertex j behind the next one clockwise from u
+  abbrev pub Clockwise : ℕ → ℕ → Type 0
+  Clockwise j q = (q < n) × (place (take n places) u ≡ q → ⊥) × (at (clockwiseFrom u (take n places)) j ≡ at (take n places) q)
+
+  pub turned-vertex : (j : ℕ) → j + 1 < n → Clockwise j (turned n (place (take n places) u) j)
+  unfolding turned
+  turned-vertex j l =
+      let below : p < n = place-below perm u h in
+      elim (order (p + 1 + j) n) [ less b ↦ behind b | same e ↦ before below (omega arith) | more b ↦ before below (omega arith) ]
+    where
+      behind : p + 1 + j < n → Clockwise j (cond (ltb (p + 1 + j) n) (p + 1 + j) (p + 1 + j - n))
+      behind b =
+          rw (lt-ltb (p + 1 + j) n b)
+          (b, λ e. omega arith, clockwise-behind perm u h j (omega arith) ∙ ap (λ (x : ℕ). at (take n places) (x + j)) (sym (add-one p)))
+
+      before : p < n → n ≤ p + 1 + j → Clockwise j (cond (ltb (p + 1 + j) n) (p + 1 + j) (p + 1 + j - n))
+      before below b =
+          rw (le-ltb (p + 1 + j) n b) (
+            omega arith,
+            λ e. omega arith,
+            ap (at (clockwiseFrom u (take n places))) (omega arith) ∙ clockwise-before perm u h (p + 1 + j - n) (omega arith),
+          )
+
+  -- the array that moving by places makes of candidate j
+  pub candidate-array : (j : ℕ) {r q : ℕ} {xs : List ℕ} → j + 1 < n → r ≡ place (take n places) u → q ≡ turned n r j
+      → xs ≡ cond (ltb r 64 && ltb q 64) (shifted places r q) places → xs ≡ candidate n places u j ++ drop n places
+  unfolding candidate
+  candidate-array j {r} {q} {xs} l d e x =
+      let t = turned-vertex j l in
+      let here : q ≡ turned n p j = e ∙ ap (λ (y : ℕ). turned n y j) d in
+      let below : p < n = place-below perm u h in
+      let q-below : q < n = rw here (t .0) in
+      x
+      ∙ ap (λ (b : Bool). cond b (shifted places r q) places) (ap₂ _&&_ (lt-ltb r 64 (omega arith)) (lt-ltb q 64 (omega arith)))
+      ∙ ap₂ (shifted places) d (sym (place-of-at perm q q-below))
+      ∙ shifted-moved n places size small perm u (at (take n places) q) h (at-lt perm q q-below)
+      (λ k. t .1 (ap (place (take n places)) k ∙ place-of-at perm q q-below ∙ here))
+      ∙ ap (λ (v : ℕ). movedAfter u v (take n places) ++ drop n places) (ap (at (take n places)) here ∙ sym (t .2))
+
+  candidate-at : (j : ℕ) → getD (candidates u (take n places)) j (movedAfter u 0 (take n places)) ≡ candidate n places u j
+  unfolding candidates candidate
+  candidate-at j = List·getD-map (λ v. movedAfter u v (take n places)) (clockwiseFrom u (take n places)) j 0
+
+  candidates-length : suc (length (candidates u (take n places))) ≡ n
+  unfolding candidates
+  candidates-length = ap suc (length-map (clockwiseFrom u (take n places)) (λ v. movedAfter u v (take n places))) ∙ clockwise-length perm u h
+
+  -- ---- the walk
+
+  abbrev score : List ℕ → ℕ
+  score c = crossings n c adj
+
+  pub walk-start : {fewest : ℕ} → fewest ≡ crossings n (take n places) adj → WalkUpTo n places adj u places fewest 0
+  walk-start e =
+      record {
+        inside = omega arith;
+        list = take n places;
+        array = sym (take-append-drop n places);
+        so-far = rw e (best-none (λ c. crossings n c adj) (take n places));
+      }
+
+  next-candidates : (j : ℕ) → j + 1 < n → take (suc j) (candidates u (take n places)) ≡ take j (candidates u (take n places)) ++ (candidate n places u j ∷ [])
+  next-candidates j l =
+      take-suc (candidates u (take n places)) j (movedAfter u 0 (take n places)) (omega (arith, candidates-length))
+      ∙ ap (λ (c : List ℕ). take j (candidates u (take n places)) ++ (c ∷ [])) (candidate-at j)
+
+  module _ {best : List ℕ} {fewest j : ℕ} (w : WalkUpTo n places adj u best fewest j) (l : j + 1 < n) where
+    pub walk-better : {xs : List ℕ} {c : ℕ} → xs ≡ candidate n places u j ++ drop n places → c ≡ crossings n (candidate n places u j) adj → c < fewest → WalkUpTo n places adj u xs c (j + 1)
+    walk-better {xs} {c} x e b =
+        record {
+          inside = l;
+          list = candidate n places u j;
+          array = x;
+          so-far =
+              rw (e, add-one j, next-candidates j l) (best-better (λ c. crossings n c adj) (take n places) (w .so-far) (candidate n places u j) (rw e at b));
+        }
+
+    pub walk-same : {c : ℕ} → c ≡ crossings n (candidate n places u j) adj → fewest ≤ c → WalkUpTo n places adj u best fewest (j + 1)
+    walk-same {c} e b =
+        record {
+          inside = l;
+          list = w .list;
+          array = w .array;
+          so-far =
+              rw (add-one j, next-candidates j l) (best-same (λ c. crossings n c adj) (take n places) (w .so-far) (candidate n places u j) (rw e at b));
+        }
+
+  pub walk-end : {best : List ℕ} {fewest j : ℕ} → WalkUpTo n places adj u best fewest j → n ≤ j + 1
+      → (best ≡ siftedOrder n adj u (take n places) ++ drop n places) × (fewest ≡ leastCrossings n adj u (take n places))
+  unfolding siftedOrder improves leastCrossings
+  walk-end {best} {fewest} {j} w l =
+      let all : take j (candidates u (take n places)) ≡ candidates u (take n places) = take-all j (candidates u (take n places)) (omega (arith, candidates-length)) in
+      let found : fewest ≡ least score (score (take n places)) (candidates u (take n places)) = rw all at (w .so-far .fewest-is) in (
+        w .array ∙ ap (λ (x : List ℕ). x ++ drop n places) (rw (all, found) at (w .so-far .chosen)),
+        found,
+      )
+
+  -- what the counter answers for a candidate
+  pub candidate-counted : Symmetric n (weight adj) → (j : ℕ) {xs : List ℕ} → j + 1 < n → xs ≡ candidate n places u j ++ drop n places
+      → counted n xs adj ≡ crossings n (candidate n places u j) adj
+  unfolding candidate
+  candidate-counted s j l e =
+      let t = turned-vertex j l in
+      let v = at (take n places) (turned n (place (take n places) u) j) in
+      let moved : Permutation n (candidate n places u j) =
+      rw (t .2) (moved-permutation perm u h v (at-lt perm (turned n (place (take n places) u) j) (t .0))
+      (λ d. t .1 (ap (place (take n places)) d ∙ place-of-at perm (turned n (place (take n places) u) j) (t .0)))) in
+      let used : take n (candidate n places u j ++ drop n places) ≡ candidate n places u j = take-at (candidate n places u j) (drop n places) n (moved .size) in
+      ap (λ (x : List ℕ). counted n x adj) e
+      ∙ counted-crossings (record { small = small; permutation = rw used moved; symmetry = s })
+      ∙ ap (λ (x : List ℕ). crossings n x adj) used

@@ -1,0 +1,24 @@
+use borrow.Author.Needs.{needs}
+use borrow.Author.Tests.{lt-ltb, le-ltb}
+use Rattle.model.specs.Checks.{refusal, isValid, isVertex}
+use Rattle.laws.specs.Sums.Indicators.{passed, failed}
+use Rattle.validity.proofs.checks.vertex_refusal.Statement.{statement}
+use Rattle.validity.proofs.checks.vertex_refusal.Tie as tie
+
+is-valid-requires : tie.Need-is-valid-requires
+is-valid-requires c κs = search needs
+
+returns : tie.Need-returns
+unfolding refusal isValid isVertex
+returns c = rw (failed (c .before .is-valid .ensures) (c .if1 .taken))
+
+returns-2 : tie.Need-returns-2
+unfolding refusal isValid isVertex
+returns-2 c = rw (passed (c .before .before .is-valid .ensures) (c .before .if1 .left), le-ltb (c .before .before .before .args .v) (c .before .before .before .args .l .n) (c .if2 .taken))
+
+returns-3 : tie.Need-returns-3
+unfolding refusal isValid isVertex
+returns-3 c = rw (passed (c .before .before .is-valid .ensures) (c .before .if1 .left), lt-ltb (c .before .before .before .args .v) (c .before .before .before .args .l .n) (c .if2 .left))
+
+pub vertex-refusal-spec : {M : Type 1} → statement M
+vertex-refusal-spec = tie.close (tie.spec is-valid-requires returns returns-2 returns-3)

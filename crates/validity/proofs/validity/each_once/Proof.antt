@@ -1,0 +1,70 @@
+use borrow.Author.Needs.{needs}
+use Prim.Native.Nat.{ℕ, _-_, _<_}
+use native.Mathlib.Omega.{arith}
+use mathlib.Core.Path.{_≡_, refl, sym, _∙_}
+use Rattle.laws.specs.Sums.Bits.{set-within}
+use Rattle.validity.specs.Passes.{SeenUpTo, seen-none, seen-next, seen-all, seen-again, not-a-vertex}
+use Rattle.validity.proofs.validity.each_once.Statement.{statement}
+use Rattle.validity.proofs.validity.each_once.Tie as tie
+
+abbrev Inv-loop : tie.InvT-loop
+Inv-loop n order seen₀ p₀ seen p = SeenUpTo n order seen p
+
+abbrev μ-loop : tie.MeasureT-loop
+μ-loop n order seen₀ p₀ seen p = n - p
+
+loop-holds : tie.Need-loop-holds Inv-loop μ-loop
+loop-holds c = seen-none (c .before .args .n) (c .before .args .order .now)
+
+shared-slice-read-v : tie.Need-shared-slice-read-v Inv-loop μ-loop
+shared-slice-read-v c = omega arith
+
+cast-v : tie.Need-cast-v Inv-loop μ-loop
+cast-v c = omega (arith, c .shared-slice-known2 .given (c .before .before .loop .p))
+
+returns : tie.Need-returns Inv-loop μ-loop
+returns c = not-a-vertex (c .before .before .before .before .before .args .n) (c .before .before .before .before .before .args .order .now) (omega arith) (c .before .before .loop-test .taken) (c .if1 .taken)
+
+is-set-requires : tie.Need-is-set-requires Inv-loop μ-loop
+is-set-requires c κs = search needs
+
+returns-2 : tie.Need-returns-2 Inv-loop μ-loop
+returns-2 c =
+    seen-again (c .before .before .before .before .before .before .before .args .n) (c .before .before .before .before .before .before .before .args .order .now) (omega arith) (c .before .before .before .before .before .loop .inv) (c .before .before .before .before .loop-test .taken) refl (c .before .before .if1 .left)
+    (sym (c .before .is-set .ensures) ∙ c .if2 .taken)
+
+set-requires : tie.Need-set-requires Inv-loop μ-loop
+set-requires c κs = search needs
+
+add-p : tie.Need-add-p Inv-loop μ-loop
+add-p c = omega arith
+
+loop-less : tie.Need-loop-less Inv-loop μ-loop
+loop-less c = omega arith
+
+loop-again : tie.Need-loop-again Inv-loop μ-loop
+loop-again c =
+    seen-next (c .before .before .before .before .before .before .before .before .args .n) (c .before .before .before .before .before .before .before .before .args .order .now) (c .before .before .before .before .before .before .loop .inv) (c .before .before .before .before .before .loop-test .taken) refl (c .before .before .before .if1 .left)
+    (set-within _ _ (omega arith) (c .set .ensures))
+    (sym (c .before .before .is-set .ensures) ∙ c .before .if2 .left)
+
+returns-3 : tie.Need-returns-3 Inv-loop μ-loop
+returns-3 c = seen-all (c .before .before .before .args .n) (c .before .before .before .args .order .now) (omega arith) (c .before .loop .inv) (c .loop-test .left)
+
+pub each-once-spec : {M : Type 1} → statement M
+each-once-spec =
+    tie.close
+    (tie.spec
+    Inv-loop
+    μ-loop
+    loop-holds
+    shared-slice-read-v
+    cast-v
+    returns
+    is-set-requires
+    returns-2
+    set-requires
+    add-p
+    loop-less
+    loop-again
+    returns-3)

@@ -1,0 +1,66 @@
+use borrow.Author.Needs.{needs}
+use Prim.Native.Nat.{ℕ, _-_, _<_}
+use native.Mathlib.Omega.{arith}
+use mathlib.Core.Path.{_≡_, ap}
+use mathlib.Core.Bool.{Bool, not}
+use mathlib.Core.List.{List}
+use Rattle.laws.specs.Sums.Every.{PassedUpTo, passed-none, passed-next, passed-all, failed-at}
+use Rattle.model.specs.Layouts.{loopless}
+use Rattle.model.specs.Crossings.{linked}
+use Rattle.validity.proofs.validity.loopless.Statement.{statement}
+use Rattle.validity.proofs.validity.loopless.Tie as tie
+
+abbrev passes : List ℕ → ℕ → Bool
+passes adj v = not (linked adj v v)
+
+abbrev Inv-loop : tie.InvT-loop
+Inv-loop n adjacency v₀ v = PassedUpTo (passes adjacency) n v
+
+abbrev μ-loop : tie.MeasureT-loop
+μ-loop n adjacency v₀ v = n - v
+
+loop-holds : tie.Need-loop-holds Inv-loop μ-loop
+loop-holds c = passed-none (passes (c .before .args .adjacency .now)) (c .before .args .n)
+
+mul-is-set : tie.Need-mul-is-set Inv-loop μ-loop
+mul-is-set c = omega arith
+
+shared-slice-read-is-set : tie.Need-shared-slice-read-is-set Inv-loop μ-loop
+shared-slice-read-is-set c = omega arith
+
+is-set-requires : tie.Need-is-set-requires Inv-loop μ-loop
+is-set-requires c κs = search needs
+
+returns : tie.Need-returns Inv-loop μ-loop
+unfolding loopless linked
+returns c = failed-at (passes (c .before .before .before .before .before .before .args .adjacency .now)) (c .before .before .before .loop-test .taken) (ap not (c .before .is-set .ensures)) (ap not (c .if1 .taken))
+
+add-v : tie.Need-add-v Inv-loop μ-loop
+add-v c = omega arith
+
+loop-less : tie.Need-loop-less Inv-loop μ-loop
+loop-less c = omega arith
+
+loop-again : tie.Need-loop-again Inv-loop μ-loop
+unfolding linked
+loop-again c = passed-next (passes (c .before .before .before .before .before .before .args .adjacency .now)) (c .before .before .before .before .loop .inv) (c .before .before .before .loop-test .taken) (ap not (c .before .is-set .ensures)) (ap not (c .if1 .left))
+
+returns-2 : tie.Need-returns-2 Inv-loop μ-loop
+unfolding loopless
+returns-2 c = passed-all (passes (c .before .before .before .args .adjacency .now)) (c .before .loop .inv) (c .loop-test .left)
+
+pub loopless-spec : {M : Type 1} → statement M
+loopless-spec =
+    tie.close
+    (tie.spec
+    Inv-loop
+    μ-loop
+    loop-holds
+    mul-is-set
+    shared-slice-read-is-set
+    is-set-requires
+    returns
+    add-v
+    loop-less
+    loop-again
+    returns-2)

@@ -1,0 +1,2 @@
+-- The passes that ask for validity.
+pub mod Passes
