@@ -1,18 +1,16 @@
 -- One pass over the placed vertices counts the crossings at both ends.
 use Prim.Native.Nat.{ℕ, _+_, _*_, _≤_, _<_}
-use native.Mathlib.Nat.{mul-le-mul}
+use native.Mathlib.Nat.{mul-le-mul, le-of-suc-le-suc}
 use native.Mathlib.Numerals.{add-one}
 use native.Mathlib.Omega.{arith}
 use mathlib.Core.Path.{_≡_, refl, sym, ap, ap₂, _∙_}
 use mathlib.Core.List.{List, [], _∷_, _++_}
 use lib.ListN.{length, getD, take}
 use lib.Seq.{take-suc, take-all, length-take-le}
-use lib.Dec.{eqb}
 use Rattle.model.specs.Lists.{one, sumOver, sumPairs}
 use Rattle.model.specs.Crossings.{bit}
-use Rattle.laws.specs.Sums.Indicators.{one-le}
 use Rattle.laws.specs.Sums.Lists.{sumOver-scale, sumOver-scale-right, sumOver-last, sumPairs-last}
-use Rattle.laws.specs.Sums.Bits.{maskedOnes, maskedOnes-le}
+use Rattle.laws.specs.Sums.Bits.{bit-lt, maskedOnes, maskedOnes-le}
 use Rattle.append.specs.declared.ends.Ends.{Ends}
 
 -- ---- sums of small numbers
@@ -39,20 +37,17 @@ passedOf met c o =
       opening = met .opening + o;
     }
 
--- the closing edge to p, by the word of the vertex to be placed, and the open edges from q, to the vertices of a set
-unfoldable pub closingTo : ℕ → ℕ → ℕ
-closingTo word p = one (eqb (bit word p) 1)
-
+-- the open edges from q, to the vertices of a set
 unfoldable pub openFrom : List ℕ → ℕ → ℕ → ℕ
 openFrom adj others q = maskedOnes (getD adj q 0) others
 
--- all of it, from the definition's sums
+-- all of it, by sums: word is that of the vertex to be placed, so that its bits are the closing edges
 unfoldable pub endsOf : List ℕ → ℕ → ℕ → List ℕ → Ends
 endsOf adj word others xs =
     record {
-      front = sumPairs (λ q p. closingTo word p * openFrom adj others q) xs;
-      back = sumPairs (λ p q. closingTo word p * openFrom adj others q) xs;
-      closing = sumOver (closingTo word) xs;
+      front = sumPairs (λ q p. bit word p * openFrom adj others q) xs;
+      back = sumPairs (λ p q. bit word p * openFrom adj others q) xs;
+      closing = sumOver (bit word) xs;
       opening = sumOver (openFrom adj others) xs;
     }
 
@@ -62,16 +57,16 @@ module _ (adj : List ℕ) (word others : ℕ) where
   ends-none = refl
 
   ends-last : (xs : List ℕ) (x : ℕ)
-      → endsOf adj word others (xs ++ (x ∷ [])) ≡ passedOf (endsOf adj word others xs) (closingTo word x) (openFrom adj others x)
+      → endsOf adj word others (xs ++ (x ∷ [])) ≡ passedOf (endsOf adj word others xs) (bit word x) (openFrom adj others x)
   unfolding endsOf passedOf
   ends-last xs x =
       rw (
-        sumPairs-last x (λ q p. closingTo word p * openFrom adj others q) xs,
-        sumPairs-last x (λ p q. closingTo word p * openFrom adj others q) xs,
-        sumOver-last x (closingTo word) xs,
+        sumPairs-last x (λ q p. bit word p * openFrom adj others q) xs,
+        sumPairs-last x (λ p q. bit word p * openFrom adj others q) xs,
+        sumOver-last x (bit word) xs,
         sumOver-last x (openFrom adj others) xs,
-        sumOver-scale (closingTo word x) (openFrom adj others) xs,
-        sumOver-scale-right (openFrom adj others x) (closingTo word) xs,
+        sumOver-scale (bit word x) (openFrom adj others) xs,
+        sumOver-scale-right (openFrom adj others x) (bit word) xs,
       )
 
 -- ---- the numbers stay small
@@ -87,9 +82,8 @@ pub products-small : {met : Ends} {c o : ℕ} → Small met 64 → c ≤ 1 → o
 products-small s h k = (mul-le-mul {n₂ = 1} {m₂ = 4096} h (s .opening), mul-le-mul {n₂ = 64} {m₂ = 64} (s .closing) k)
 
 module _ (adj : List ℕ) (word others : ℕ) where
-  closing-most : (p : ℕ) → closingTo word p ≤ 1
-  unfolding closingTo
-  closing-most p = one-le (eqb (bit word p) 1)
+  closing-most : (p : ℕ) → bit word p ≤ 1
+  closing-most p = le-of-suc-le-suc (bit-lt word p)
 
   open-most : (q : ℕ) → openFrom adj others q ≤ 64
   unfolding openFrom
@@ -99,13 +93,13 @@ module _ (adj : List ℕ) (word others : ℕ) where
   unfolding endsOf
   ends-small xs h =
       record {
-        front = sumPairs-most (λ q p. closingTo word p * openFrom adj others q) (λ q p. product p q) xs h;
-        back = sumPairs-most (λ p q. closingTo word p * openFrom adj others q) product xs h;
-        closing = omega (arith, sumOver-most 1 (closingTo word) closing-most xs);
+        front = sumPairs-most (λ q p. bit word p * openFrom adj others q) (λ q p. product p q) xs h;
+        back = sumPairs-most (λ p q. bit word p * openFrom adj others q) product xs h;
+        closing = omega (arith, sumOver-most 1 (bit word) closing-most xs);
         opening = sumOver-most 64 (openFrom adj others) open-most xs;
       }
     where
-      product : (p q : ℕ) → closingTo word p * openFrom adj others q ≤ 64
+      product : (p q : ℕ) → bit word p * openFrom adj others q ≤ 64
       product p q = mul-le-mul {n₂ = 1} {m₂ = 64} (closing-most p) (open-most q)
 
 -- ---- the loop over the placed vertices
@@ -132,7 +126,7 @@ module _ {adj : List ℕ} {word others : ℕ} {xs : List ℕ} where
       })
 
   pub ends-next : {met next : Ends} {i c o : ℕ} → EndsUpTo adj word others xs met i → i < length xs
-      → c ≡ closingTo word (getD xs i 0) → o ≡ openFrom adj others (getD xs i 0) → next ≡ passedOf met c o
+      → c ≡ bit word (getD xs i 0) → o ≡ openFrom adj others (getD xs i 0) → next ≡ passedOf met c o
       → EndsUpTo adj word others xs next (i + 1)
   ends-next {met} {next} {i} {c} {o} e h hc ho n =
       rw (add-one i)

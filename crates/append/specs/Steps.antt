@@ -9,12 +9,13 @@ use lib.ListN.{length, getD, length-append}
 use lib.Dec.{ltb}
 use borrow.Author.Tests.{lt-ltb, le-ltb}
 use Rattle.model.specs.Lists.{occurrences}
-use Rattle.model.specs.Crossings.{linked}
+use Rattle.model.specs.Crossings.{bit}
 use Rattle.model.specs.Edits.{withBit}
 use Rattle.model.specs.GreedyAppend.{Placing, unplaced, degreeIn, nextVertex, closing, open′, frontCrossings, backCrossings, placeVertex, placeMore, placeAll}
 use Rattle.laws.specs.Sums.Indicators.{less, same, more, order}
 use Rattle.laws.specs.Sums.Lists.{sumPairs-ext}
 use Rattle.laws.specs.Orders.Permutations.{Permutation, occurrences-nil}
+use Rattle.laws.specs.Crossings.Masks.{weight-bit}
 use Rattle.laws.specs.Append.Order.{Placed, placed-start, placed-front, placed-back, placed-all, next-unplaced, unplaced-front}
 use Rattle.append.specs.declared.line.Line.{Line}
 use Rattle.append.specs.declared.ends.Ends.{Ends}
@@ -22,7 +23,7 @@ use Rattle.append.specs.declared.steps.Partial.{Partial}
 use Rattle.append.specs.Lines.{entries, Centred, entries-length, aloneAt, alone-centred, alone-entries, atFront, front-centred, front-entries, atBack}
 use Rattle.append.specs.Lines.{back-centred, back-entries}
 use Rattle.append.specs.Masks.{complement, Held, held-none, held-front, held-back, Words, outside-count}
-use Rattle.append.specs.Ends.{closingTo, openFrom, endsOf, ends-small}
+use Rattle.append.specs.Ends.{openFrom, endsOf, ends-small}
 use Rattle.append.specs.Choices.{bestBelow, best-next}
 
 -- ---- what a step is
@@ -90,16 +91,16 @@ module _ {n : ℕ} {adj : List ℕ} {s : Partial} (w : Words n adj) (u : Underwa
         outside-count w (placed-front (u .placed) below free) (held-front v (u .held) free (f .fits) (f .set)) q l
         ∙ ap (degreeIn adj q) (unplaced-front n (entries (s .line)) v)
 
-    closing-right : (p : ℕ) → closingTo (getD adj v 0) p ≡ closing n adj (entries (s .line)) v p
-    unfolding closingTo closing linked
-    closing-right p = refl
+    closing-right : (p : ℕ) → bit (getD adj v 0) p ≡ closing n adj (entries (s .line)) v p
+    unfolding closing
+    closing-right p = sym (weight-bit adj v p)
 
     front-right : ends .front ≡ frontCrossings n adj (entries (s .line)) v
     unfolding endsOf frontCrossings
     front-right =
         ap (λ (e : Ends). e .front) (f .counted)
         ∙ sumPairs-ext
-        (λ q p. closingTo (getD adj v 0) p * openFrom adj (complement next) q)
+        (λ q p. bit (getD adj v 0) p * openFrom adj (complement next) q)
         (λ q p. closing n adj (entries (s .line)) v p * open′ n adj (entries (s .line)) v q)
         (u .placed .below)
         (λ q p a b. ap₂ (λ (x y : ℕ). x * y) (closing-right p) (open-right q a))
@@ -109,7 +110,7 @@ module _ {n : ℕ} {adj : List ℕ} {s : Partial} (w : Words n adj) (u : Underwa
     back-right =
         ap (λ (e : Ends). e .back) (f .counted)
         ∙ sumPairs-ext
-        (λ p q. closingTo (getD adj v 0) p * openFrom adj (complement next) q)
+        (λ p q. bit (getD adj v 0) p * openFrom adj (complement next) q)
         (λ p q. closing n adj (entries (s .line)) v p * open′ n adj (entries (s .line)) v q)
         (u .placed .below)
         (λ p q a b. ap₂ (λ (x y : ℕ). x * y) (closing-right p) (open-right q b))

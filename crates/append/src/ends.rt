@@ -1,9 +1,6 @@
 // The crossings that the next vertex makes at either end.
 ghost use mathlib.Core.Path.{_≡_};
 ghost use Prim.Native.Nat.{_≤_, _<_};
-ghost use lib.Dec.{eqb};
-ghost use Rattle.model.specs.Lists.{one};
-ghost use Rattle.model.specs.Crossings.{bit};
 ghost use Rattle.laws.specs.Sums.Lists.{All};
 ghost use Rattle.append.specs.Lines.{entries, Centred};
 ghost use Rattle.append.specs.Ends.{passedOf, endsOf, Small};
@@ -36,7 +33,8 @@ pub(crate) fn end_crossings(l: Line, adjacency: &[u64; 64], word: u64, others: u
     let mut i = 0;
     while i < size {
         let p = places[first + i] as usize;
-        met = passed(met, closing_at(word, p), words::count(adjacency[p], others));
+        let closing = (word >> p) % 2;
+        met = passed(met, closing as u32, words::count(adjacency[p], others));
         i += 1;
     }
     met
@@ -53,11 +51,4 @@ fn passed(met: Ends, closing: u32, opening: u32) -> Ends
         closing: met.closing + closing,
         opening: met.opening + opening,
     }
-}
-
-// 1 if the word has an edge to p.
-fn closing_at(word: u64, p: usize) -> u32
-    ensures { λ r. ⌜ r ≡ one (eqb (bit word p) 1) ⌝ }
-{
-    if words::is_set(word, p) { 1 } else { 0 }
 }

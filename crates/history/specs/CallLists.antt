@@ -12,7 +12,7 @@ use Rattle.model.specs.declared.Call.the-variants as call
 use Rattle.model.specs.declared.Decoded.{Decoded}
 use Rattle.model.specs.declared.Decoded.the-variants as decoded
 use Rattle.model.specs.Playing.{callOf, firstCall, followed, callsIn, callsOf}
-use Rattle.laws.specs.Sums.Indicators.{Order, less, same, more, order}
+use Rattle.laws.specs.Sums.Indicators.{less, same, more, order}
 
 -- the call at place i, or none where the list ends there
 unfoldable pub callThere : List ℕ → ℕ → List Call

@@ -1,15 +1,15 @@
 -- Calls played one after the other, and their answers in the table.
-use Prim.Native.Nat.{ℕ, zero, suc, _+_, _*_, _≤_, _<_}
+use Prim.Native.Nat.{ℕ, _+_, _*_, _≤_, _<_}
 use native.Mathlib.Omega.{arith}
 use mathlib.Core.Path.{_≡_, refl, sym, ap, ap₂, _∙_, subst}
 use mathlib.Core.List.{List, [], _∷_, _++_, flatMap, append-assoc}
-use lib.ListN.{length, take, drop, set, length-append}
+use lib.ListN.{length, take, drop, set}
 use lib.Seq.{take-all}
 use Rattle.model.specs.declared.Layout.{Layout}
 use Rattle.model.specs.declared.Outcome.{Outcome}
 use Rattle.model.specs.declared.Call.{Call}
-use Rattle.model.specs.Histories.{Step, answerOf, steps, played}
 use Rattle.model.specs.declared.Decoded.the-variants as decoded
+use Rattle.model.specs.Histories.{answerOf, steps, played}
 use Rattle.model.specs.Playing.{firstCall, callsOf, answerNumbers, answersOf}
 use Rattle.laws.specs.Buffers.Writing.{written, Written, written-none, written-nothing, written-byte, written-step, written-size, written-whole}
 use Rattle.history.specs.CallLists.{callThere, there-next, there-end, next-call, there-size}
@@ -36,7 +36,7 @@ answer-written a table at h =
 
 -- ---- calls behind calls
 
-pub played-append : (l : Layout) (xs ys : List Call) → played l (xs ++ ys) ≡ played (played l xs) ys
+played-append : (l : Layout) (xs ys : List Call) → played l (xs ++ ys) ≡ played (played l xs) ys
 unfolding played
 played-append l [] ys = refl
 played-append l (x ∷ xs) ys = played-append (answerOf l x .layout) xs ys

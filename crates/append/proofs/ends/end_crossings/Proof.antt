@@ -2,11 +2,11 @@ use Prim.Native.Nat.{_+_, _-_, _<_}
 use native.Mathlib.Omega.{arith}
 use mathlib.Core.Path.{_≡_, ap, _∙_}
 use lib.ListN.{length, getD}
-use Rattle.laws.specs.Sums.Indicators.{one-le}
+use Rattle.model.specs.Crossings.{bit}
 use Rattle.laws.specs.Sums.Lists.{all-at}
 use Rattle.laws.specs.Sums.Bits.{maskedOnes-le}
 use Rattle.append.specs.Lines.{entries, entries-length, entry-at}
-use Rattle.append.specs.Ends.{closingTo, openFrom, EndsUpTo, ends-start, so-far-small, ends-next, ends-end}
+use Rattle.append.specs.Ends.{openFrom, EndsUpTo, ends-start, so-far-small, ends-next, ends-end}
 use Rattle.append.proofs.ends.end_crossings.Statement.{statement}
 use Rattle.append.proofs.ends.end_crossings.Tie as tie
 
@@ -44,27 +44,26 @@ array-read-p c = omega (arith, start c .pre .0 .left, start c .pre .0 .few)
 cast-p : tie.Need-cast-p Inv-loop μ-loop
 cast-p c = omega (arith, vertex c)
 
-closing-at-requires : tie.Need-closing-at-requires Inv-loop μ-loop
-closing-at-requires c κs = tt
+shr-closing : tie.Need-shr-closing Inv-loop μ-loop
+shr-closing c = omega (arith, vertex c)
+
+cast-passed : tie.Need-cast-passed Inv-loop μ-loop
+cast-passed c = omega arith
 
 mul-count : tie.Need-mul-count Inv-loop μ-loop
-mul-count c = omega (arith, vertex (c .before))
+mul-count c = omega (arith, vertex c)
 
 element-copy-out-count : tie.Need-element-copy-out-count Inv-loop μ-loop
-element-copy-out-count c = vertex (c .before)
+element-copy-out-count c = vertex c
 
 count-requires : tie.Need-count-requires Inv-loop μ-loop
 count-requires c κs = tt
 
 passed-requires : tie.Need-passed-requires Inv-loop μ-loop
 passed-requires c κs =
-    let closed = c .before .before in
-    let turn = closed .before in
-    let l = start turn .pre .0 in (
-      so-far-small (turn .before .loop .inv) (omega (arith, entries-length l, l .few)),
-      rw (closed .closing-at .ensures) (one-le _),
-      rw (c .count .ensures) (maskedOnes-le _ _),
-    )
+    let turn = c .before .before in
+    let l = start turn .pre .0 in
+    (so-far-small (turn .before .loop .inv) (omega (arith, entries-length l, l .few)), omega arith, rw (c .count .ensures) (maskedOnes-le _ _))
 
 add-i : tie.Need-add-i Inv-loop μ-loop
 add-i c = omega arith
@@ -73,14 +72,12 @@ loop-less : tie.Need-loop-less Inv-loop μ-loop
 loop-less c = omega arith
 
 loop-again : tie.Need-loop-again Inv-loop μ-loop
-unfolding closingTo openFrom
+unfolding bit openFrom
 loop-again c =
     let counted = c .before in
-    let closed = counted .before .before in
-    let turn = closed .before in
+    let turn = counted .before .before in
     let s = start turn .args in
-    ends-next (turn .before .loop .inv) (inside turn)
-    (closed .closing-at .ensures ∙ ap (closingTo (s .word)) (entry turn))
+    ends-next (turn .before .loop .inv) (inside turn) (ap (bit (s .word)) (entry turn))
     (counted .count .ensures ∙ ap (openFrom (s .adjacency .now) (s .others)) (entry turn))
     (c .passed .ensures)
 
@@ -99,7 +96,8 @@ end-crossings-spec =
     add-p
     array-read-p
     cast-p
-    closing-at-requires
+    shr-closing
+    cast-passed
     mul-count
     element-copy-out-count
     count-requires
