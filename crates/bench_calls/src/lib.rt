@@ -4,6 +4,7 @@
 // number.
 use model::FirstCrossing;
 use model::Layout;
+use model::Origin;
 
 // The crossings, from nothing.
 #[no_mangle]
@@ -145,6 +146,21 @@ pub extern "C" fn bench_chart(
 }
 
 #[no_mangle]
+pub extern "C" fn bench_lay(
+    n: &mut usize,
+    order: &mut [u8; 64],
+    adjacency: &mut [u64; 64],
+    count: &mut u32,
+    start: usize,
+    tally: &mut u32,
+) -> u8 {
+    let answer = append::greedy_append(taken(*n, order, adjacency, *count), start);
+    give_back(answer.layout, n, order, adjacency, count);
+    *tally = answer.tally;
+    answer.refusal
+}
+
+#[no_mangle]
 pub extern "C" fn bench_sift(
     n: &mut usize,
     order: &mut [u8; 64],
@@ -192,6 +208,22 @@ pub extern "C" fn bench_settle(
     *rounds = answer.rounds;
     *converged = answer.converged;
     answer.refusal
+}
+
+// Plays a list of calls from the empty layout, and answers how many were played.
+#[no_mangle]
+pub extern "C" fn bench_play(
+    calls: &[u64],
+    table: &mut [u64],
+    n: &mut usize,
+    order: &mut [u8; 64],
+    adjacency: &mut [u64; 64],
+    count: &mut u32,
+) -> usize {
+    let no_chart = [0u8; 1];
+    let played = history::play(Origin::Empty, &no_chart, calls, table);
+    give_back(played.layout, n, order, adjacency, count);
+    played.calls
 }
 
 fn taken(n: usize, order: &[u8; 64], adjacency: &[u64; 64], count: u32) -> Layout {
