@@ -56,6 +56,15 @@ putOf s v next ends =
     (record { line = atFront (s .line) v; placed = next; tally = s .tally + ends .front })
     (record { line = atBack (s .line) v; placed = next; tally = s .tally + ends .back })
 
+-- the line has room for v, and the tally for the crossings
+pub record Fitting (s : Partial) (v : ℕ) (ends : Ends) : Type 0 where
+  pub centred : Centred (s .line)
+  pub room : s .line .size < 64
+  pub vertex : v < 64
+  pub tally : s .tally ≤ 16777216
+  pub front : ends .front ≤ 262144
+  pub back : ends .back ≤ 262144
+
 -- what the code has found before it puts v at an end: v, the set with it, and the crossings at both ends
 pub record Found (n : ℕ) (adj : List ℕ) (s : Partial) (v next : ℕ) (ends : Ends) : Type 0 where
   pub vertex : v ≡ bestBelow adj (s .placed) n .vertex
@@ -128,11 +137,22 @@ module _ {n : ℕ} {adj : List ℕ} {s : Partial} (w : Words n adj) (u : Underwa
     at-back = record { placed = entries (s .line) ++ (v ∷ []); tally = s .tally + back }
 
     -- the crossings of a step are few
-    pub ends-few : (ends .front ≤ 262144) × (ends .back ≤ 262144)
+    ends-few : (ends .front ≤ 262144) × (ends .back ≤ 262144)
     ends-few =
         let size = entries-length (u .centred) in
         let small = ends-small adj (getD adj v 0) (complement next) (entries (s .line)) (omega (arith, u .centred .few)) in
         rw (f .counted) (omega (arith, small .front, u .centred .few), omega (arith, small .back, u .centred .few))
+
+    pub put-fits : Fitting s v ends
+    put-fits =
+        record {
+          centred = u .centred;
+          room = room;
+          vertex = omega (arith, below, w .small);
+          tally = omega (arith, u .bounded, w .small);
+          front = ends-few .0;
+          back = ends-few .1;
+        }
 
     -- a line with v in it, and the tally with the crossings of an end
     module _ {line : Line} (c : Centred line) {ys : List ℕ} (e : entries line ≡ ys) (one-more : length ys ≡ suc (length (entries (s .line)))) where

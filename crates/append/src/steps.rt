@@ -1,9 +1,8 @@
 // The steps of greedy append: each puts the next vertex at the end where it makes fewer crossings.
 ghost use mathlib.Core.Path.{_≡_};
-ghost use Prim.Native.Nat.{_≤_, _<_};
-ghost use Rattle.append.specs.Lines.{Centred};
+ghost use Prim.Native.Nat.{_<_};
 ghost use Rattle.append.specs.Masks.{Words};
-ghost use Rattle.append.specs.Steps.{Underway, Stepped, Finished, putOf};
+ghost use Rattle.append.specs.Steps.{Underway, Stepped, Fitting, putOf, Finished};
 use super::choice::next_vertex;
 use super::ends::Ends;
 use super::ends::end_crossings;
@@ -51,7 +50,7 @@ fn place_next(n: usize, adjacency: &[u64; 64], s: Partial) -> Partial
 
 // v at the end where it makes fewer crossings; on a tie, at the back. placed has it already.
 fn put(s: Partial, v: usize, placed: u64, ends: Ends) -> Partial
-    requires { ⌜ Centred (s .line) × (s .line .size < 64) × (v < 64) × (s .tally ≤ 16777216) × (ends .front ≤ 262144) × (ends .back ≤ 262144) ⌝ }
+    requires { ⌜ Fitting s v ends ⌝ }
     ensures { λ r. ⌜ r ≡ putOf s v placed ends ⌝ }
 {
     if ends.front < ends.back {

@@ -5,7 +5,7 @@ use native.Mathlib.Omega.{arith}
 use Rattle.laws.specs.Sums.Lists.{all-mono}
 use Rattle.laws.specs.Sums.Bits.{set-within}
 use Rattle.append.specs.Masks.{complement}
-use Rattle.append.specs.Steps.{next-free, Found, ends-few, put-steps}
+use Rattle.append.specs.Steps.{next-free, Found, put-fits, put-steps}
 use Rattle.append.proofs.steps.place_next.Statement.{statement}
 use Rattle.append.proofs.steps.place_next.Tie as tie
 
@@ -51,17 +51,8 @@ end-crossings-requires c κs =
 
 put-requires : tie.Need-put-requires
 put-requires c κs =
-    let chosen = c .before .before .before in
-    let start = chosen .before in
-    let small = start .pre .0 .small in
-    let few = ends-few (start .pre .0) (start .pre .1) (start .pre .2) (found c) in (
-      start .pre .1 .centred,
-      omega (arith, start .pre .2),
-      omega (arith, vertex-below chosen),
-      omega (arith, start .pre .1 .bounded, start .pre .2),
-      few .0,
-      few .1,
-    )
+    let start = c .before .before .before .before in
+    put-fits (start .pre .0) (start .pre .1) (start .pre .2) (found c)
 
 returns : tie.Need-returns
 returns c =
