@@ -3,7 +3,7 @@ use Prim.Native.Nat.{ℕ, suc, _-_, _^_}
 use native.Mathlib.Omega.{arith}
 use native.Mathlib.Nat.{min-eq-left}
 use lib.Pow.{pow-pos}
-use mathlib.Core.Path.{_≡_, refl, ap, _∙_}
+use mathlib.Core.Path.{_≡_, refl, ap}
 use mathlib.Core.Bool.{Bool}
 use mathlib.Core.List.{List}
 use lib.Dec.{ltb}
@@ -29,7 +29,7 @@ low-bits-requires c κs = search needs
 full : (c : tie.At-loop Inv-loop μ-loop) → let n = c .before .before .before .args .n in suc (c .before .low-bits .result) ≡ 2 ^ n
 full c =
     let start = c .before .before .before in
-    ap suc (c .before .low-bits .ensures ∙ ap (λ (m : ℕ). 2 ^ m - 1) (min-eq-left (start .pre .0))) ∙ omega (arith, pow-pos (start .args .n))
+    omega (arith, c .before .low-bits .ensures, ap (λ (m : ℕ). 2 ^ m) (min-eq-left (start .pre .0)), pow-pos (start .args .n))
 
 loop-holds : tie.Need-loop-holds Inv-loop μ-loop
 loop-holds c = passed-none
