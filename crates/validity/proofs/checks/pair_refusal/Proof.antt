@@ -1,4 +1,5 @@
 use borrow.Author.Needs.{needs}
+use native.Mathlib.Omega.{arith}
 use borrow.Author.Tests.{lt-ltb, le-ltb, eq-eqb, ne-eqb}
 use mathlib.Core.Bool.{true}
 use mathlib.Core.Path.{_≡_}
@@ -22,7 +23,9 @@ accepted c = passed (c .before .is-valid .ensures) (c .if1 .left)
 
 returns-2 : tie.Need-returns-2
 unfolding moveChecks refusal isValid isVertex differ
-returns-2 c = rw (accepted (c .before), le-ltb _ _ (c .if2 .taken))
+returns-2 c =
+    let s = c .before .before .before .args in
+    rw (accepted (c .before), le-ltb (s .a) (s .l .n) (omega arith))
 
 returns-3 : tie.Need-returns-3
 unfolding moveChecks refusal isValid isVertex differ

@@ -1,4 +1,5 @@
 use borrow.Author.Needs.{needs}
+use native.Mathlib.Omega.{arith}
 use borrow.Author.Tests.{lt-ltb, le-ltb}
 use mathlib.Core.Bool.{true}
 use mathlib.Core.Path.{_≡_}
@@ -21,11 +22,15 @@ accepted c = passed (c .before .is-valid .ensures) (c .if1 .left)
 
 returns-2 : tie.Need-returns-2
 unfolding refusal isValid isVertex
-returns-2 c = rw (accepted (c .before), le-ltb _ _ (c .if2 .taken))
+returns-2 c =
+    let s = c .before .before .before .args in
+    rw (accepted (c .before), le-ltb (s .v) (s .l .n) (omega arith))
 
 returns-3 : tie.Need-returns-3
 unfolding refusal isValid isVertex
-returns-3 c = rw (accepted (c .before), lt-ltb _ _ (c .if2 .left))
+returns-3 c =
+    let s = c .before .before .before .args in
+    rw (accepted (c .before), lt-ltb (s .v) (s .l .n) (omega arith))
 
 pub vertex-refusal-spec : {M : Type 1} → statement M
 vertex-refusal-spec = tie.close (tie.spec is-valid-requires returns returns-2 returns-3)
