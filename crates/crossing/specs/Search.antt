@@ -1,6 +1,6 @@
 -- The search for a crossing pair: the edges listed in two arrays, the places of the vertices, and how far the search is.
 use Prim.Native.Nat.{ℕ, zero, suc, _+_, _-_, _≤_, _<_}
-use native.Mathlib.Nat.{le-refl, not-suc-le-zero, le-antisymm}
+use native.Mathlib.Nat.{le-refl, le-trans, not-suc-le-zero, le-antisymm}
 use native.Mathlib.Numerals.{add-one}
 use native.Mathlib.Omega.{arith}
 use mathlib.Core.Path.{_≡_, refl, sym, ap, ap₂, _∙_, subst}
@@ -15,7 +15,7 @@ use Rattle.model.specs.declared.Layout.{Layout}
 use Rattle.model.specs.Lists.{one, upto, keep, noRepeats, place}
 use Rattle.model.specs.Crossings.{bit, linked, edges, alternate, crosses}
 use Rattle.model.specs.Layouts.{vertexOrder, valid}
-use Rattle.model.specs.Reading.{pairWith, orElse, firstPair, firstCrossingOf}
+use Rattle.model.specs.Reading.{Shown, pairWith, orElse, firstPair, firstCrossingOf}
 use Rattle.laws.specs.Sums.Indicators.{less, same, more, order as which}
 use Rattle.laws.specs.Sums.Ranges.{sum}
 use Rattle.laws.specs.Sums.Lists.{All, none, keep-append, all-at, flatMap-append, length-upto, upto-at}
@@ -26,6 +26,9 @@ use Rattle.laws.specs.Layouts.Validity.{sound}
 use Rattle.laws.specs.Layouts.FirstCrossing.{found, found-valid}
 
 -- ---- edges listed in two arrays, of their lower and their higher ends
+
+abbrev edgeTo : ℕ → ℕ → Edge
+edgeTo a b = record { low = a; high = b }
 
 unfoldable pub edgeAt : List ℕ → List ℕ → ℕ → Edge
 edgeAt lows highs i = record { low = getD lows i 0; high = getD highs i 0 }
@@ -69,7 +72,7 @@ module _ (lows highs : List ℕ) (k a b : ℕ) where
       at-j : edgeAt (set lows k a) (set highs k b) j ≡ edgeAt lows highs j
       at-j = rw (getD-set-other lows k j a 0 (λ e. omega arith), getD-set-other highs k j b 0 (λ e. omega arith))
 
-  put : k < length lows → k < length highs → listed (set lows k a) (set highs k b) (suc k) ≡ listed lows highs k ++ (record { low = a; high = b } ∷ [])
+  put : k < length lows → k < length highs → listed (set lows k a) (set highs k b) (suc k) ≡ listed lows highs k ++ (edgeTo a b ∷ [])
   unfolding edgeAt
   put h i =
       listed-next (set lows k a) (set highs k b) k
@@ -77,20 +80,24 @@ module _ (lows highs : List ℕ) (k a b : ℕ) where
 
 -- ---- the edges from a vertex to higher ones, listed one after the other
 
--- the edges from a to vertices below b, by the word of a
+-- v is higher than a, and joined to it by the word of a
+abbrev higher : ℕ → ℕ → ℕ → Bool
+higher word a v = ltb a v && eqb (bit word v) 1
+
+-- the edges from a to vertices below b
 unfoldable pub edgesFrom : ℕ → ℕ → ℕ → List Edge
-edgesFrom word a b = map (λ v. record { low = a; high = v }) (keep (λ v. ltb a v && eqb (bit word v) 1) (upto b))
+edgesFrom word a b = map (edgeTo a) (keep (higher word a) (upto b))
 
 module _ (word a : ℕ) where
-  edges-next : (b : ℕ) {t : Bool} → a < b → t ≡ eqb (bit word b) 1 → edgesFrom word a (suc b) ≡ edgesFrom word a b ++ cond t (record { low = a; high = b } ∷ []) []
+  edges-next : (b : ℕ) {t : Bool} → a < b → t ≡ eqb (bit word b) 1 → edgesFrom word a (suc b) ≡ edgesFrom word a b ++ cond t (edgeTo a b ∷ []) []
   unfolding edgesFrom upto keep
   edges-next b {t} l e =
-      ap (map (λ v. record { low = a; high = v })) (keep-append (λ v. ltb a v && eqb (bit word v) 1) (upto b) (b ∷ []))
-      ∙ map-append (λ v. record { low = a; high = v }) (keep (λ v. ltb a v && eqb (bit word v) 1) (upto b)) (keep (λ v. ltb a v && eqb (bit word v) 1) (b ∷ []))
+      ap (map (edgeTo a)) (keep-append (higher word a) (upto b) (b ∷ []))
+      ∙ map-append (edgeTo a) (keep (higher word a) (upto b)) (keep (higher word a) (b ∷ []))
       ∙ rw (lt-ltb a b l, ← e) (by-test t)
     where
       by-test : (t : Bool)
-          → edgesFrom word a b ++ map (λ v. record { low = a; high = v }) (cond t (b ∷ []) []) ≡ edgesFrom word a b ++ cond t (record { low = a; high = b } ∷ []) []
+          → edgesFrom word a b ++ map (edgeTo a) (cond t (b ∷ []) []) ≡ edgesFrom word a b ++ cond t (edgeTo a b ∷ []) []
       by-test true = refl
       by-test false = refl
 
@@ -98,8 +105,8 @@ module _ (word a : ℕ) where
   unfolding edgesFrom upto keep
   edges-none zero h = refl
   edges-none (suc b) h =
-      ap (map (λ v. record { low = a; high = v })) (keep-append (λ v. ltb a v && eqb (bit word v) 1) (upto b) (b ∷ []))
-      ∙ map-append (λ v. record { low = a; high = v }) (keep (λ v. ltb a v && eqb (bit word v) 1) (upto b)) (keep (λ v. ltb a v && eqb (bit word v) 1) (b ∷ []))
+      ap (map (edgeTo a)) (keep-append (higher word a) (upto b) (b ∷ []))
+      ∙ map-append (edgeTo a) (keep (higher word a) (upto b)) (keep (higher word a) (b ∷ []))
       ∙ rw (le-ltb a b (omega arith), edges-none b (omega arith))
 
 -- behind the first count entries, the edges from a to vertices below b
@@ -119,7 +126,7 @@ module _ {word a : ℕ} {lows₀ highs₀ : List ℕ} {count : ℕ} where
         room = omega arith;
         lows-size = refl;
         highs-size = refl;
-        listing = sym (ap (λ (es : List Edge). listed lows₀ highs₀ count ++ es) (edges-none word a (suc a) (le-refl (suc a))) ∙ append-nil (listed lows₀ highs₀ count));
+        listing = sym (ap (λ (es : List Edge). listed lows₀ highs₀ count ++ es) (edges-none word a (suc a) (le-refl (suc a))) ∙ append-nil _);
       })
 
   -- b is not joined to a
@@ -132,7 +139,9 @@ module _ {word a : ℕ} {lows₀ highs₀ : List ℕ} {count : ℕ} where
         room = omega (arith, r .room);
         lows-size = r .lows-size;
         highs-size = r .highs-size;
-        listing = r .listing ∙ ap (λ (es : List Edge). listed lows₀ highs₀ count ++ es) (sym (edges-next word a b (r .later) e ∙ rw f (append-nil (edgesFrom word a b))));
+        listing =
+            r .listing
+            ∙ ap (λ (es : List Edge). listed lows₀ highs₀ count ++ es) (sym (edges-next word a b (r .later) e ∙ rw f (append-nil (edgesFrom word a b))));
       })
 
   -- b is joined to a, and the edge is put behind the others
@@ -148,8 +157,8 @@ module _ {word a : ℕ} {lows₀ highs₀ : List ℕ} {count : ℕ} where
         highs-size = length-set highs end b ∙ r .highs-size;
         listing =
             put lows highs end a b h i
-            ∙ ap (λ (es : List Edge). es ++ (record { low = a; high = b } ∷ [])) (r .listing)
-            ∙ append-assoc (listed lows₀ highs₀ count) (edgesFrom word a b) (record { low = a; high = b } ∷ [])
+            ∙ ap (λ (es : List Edge). es ++ (edgeTo a b ∷ [])) (r .listing)
+            ∙ append-assoc (listed lows₀ highs₀ count) (edgesFrom word a b) (edgeTo a b ∷ [])
             ∙ ap (λ (es : List Edge). listed lows₀ highs₀ count ++ es) (sym (edges-next word a b (r .later) e ∙ rw f));
       })
 
@@ -157,6 +166,7 @@ module _ {word a : ℕ} {lows₀ highs₀ : List ℕ} {count : ℕ} where
 
 -- the edges with a lower end below a, for n vertices
 pub record EdgesListed (n : ℕ) (adj lows highs : List ℕ) (count a : ℕ) : Type 0 where
+  pub small : n ≤ 64
   pub inside : a ≤ n
   pub bounded : count ≤ sum a (λ i. 63 - i)
   pub lows-size : length lows ≡ 2016
@@ -168,15 +178,15 @@ pairs-most : (a : ℕ) → a ≤ 64 → sum a (λ i. 63 - i) ≤ 2016
 unfolding sum
 pairs-most a h = sum-more a 64 (λ i. 63 - i) h
 
-module _ {n : ℕ} {adj : List ℕ} (small : n ≤ 64) where
-  pub list-start : {lows highs : List ℕ} → length lows ≡ 2016 → length highs ≡ 2016 → EdgesListed n adj lows highs 0 0
+module _ {n : ℕ} {adj : List ℕ} where
+  pub list-start : {lows highs : List ℕ} → n ≤ 64 → length lows ≡ 2016 → length highs ≡ 2016 → EdgesListed n adj lows highs 0 0
   unfolding sum listed upto flatMap
-  list-start h i = record { inside = omega arith; bounded = omega arith; lows-size = h; highs-size = i; listing = refl }
+  list-start small h i = record { small = small; inside = omega arith; bounded = omega arith; lows-size = h; highs-size = i; listing = refl }
 
   -- there is room for every edge from a
   pub list-room : {lows highs : List ℕ} {count a : ℕ} → EdgesListed n adj lows highs count a → a < n → count + 63 ≤ 2016 + a
   unfolding sum
-  list-room {a = a} s l = omega (arith, s .bounded, pairs-most (suc a) (omega arith))
+  list-room {a = a} s l = omega (arith, s .bounded, pairs-most (suc a) (le-trans l (s .small)))
 
   pub list-next : {lows highs lows' highs' : List ℕ} {count end a : ℕ} → EdgesListed n adj lows highs count a → a < n
       → RowListed (getD adj a 0) a lows highs count lows' highs' end n → EdgesListed n adj lows' highs' end (a + 1)
@@ -184,6 +194,7 @@ module _ {n : ℕ} {adj : List ℕ} (small : n ≤ 64) where
   list-next {a = a} s l r =
       rw (add-one a)
       (record {
+        small = s .small;
         inside = l;
         bounded = omega (arith, s .bounded, r .room);
         lows-size = r .lows-size ∙ s .lows-size;
@@ -200,8 +211,10 @@ module _ {n : ℕ} {adj : List ℕ} (small : n ≤ 64) where
       → (listed lows highs count ≡ edges n adj) × (count ≤ 2016)
   unfolding edges edgesFrom linked
   list-end {a = a} s l =
-      let end : a ≡ n = le-antisymm (s .inside) l in
-      (s .listing ∙ ap (λ (k : ℕ). flatMap (λ u. edgesFrom (getD adj u 0) u n) (upto k)) end, omega (arith, s .bounded, pairs-most a (omega arith)))
+      let end : a ≡ n = le-antisymm (s .inside) l in (
+        s .listing ∙ ap (λ (k : ℕ). flatMap (λ u. edgesFrom (getD adj u 0) u n) (upto k)) end,
+        le-trans (s .bounded) (pairs-most a (le-trans (s .inside) (s .small))),
+      )
 
 -- ---- the place of each vertex
 
@@ -278,11 +291,14 @@ pub record Searchable (n : ℕ) (order : List ℕ) (count : ℕ) (lows highs : L
   pub highs-size : length highs ≡ 2016
   pub within : (i : ℕ) → i < count → Within n (edgeAt lows highs i)
 
-pub ends-below : {n : ℕ} {order : List ℕ} {count : ℕ} {lows highs : List ℕ} → Searchable n order count lows highs
-    → {i : ℕ} → i < count → {e : Edge} → e ≡ edgeAt lows highs i → (e .low < 64) × (e .high < 64)
-ends-below {n} s {i} h {e} at-i =
-    let ends : Within n e = rw at-i (s .within i h) in
-    (omega (arith, s .small), omega (arith, s .small))
+module _ {n : ℕ} {order : List ℕ} {count : ℕ} {lows highs : List ℕ} (s : Searchable n order count lows highs) {i : ℕ} (h : i < count) where
+  pub in-arrays : (i < length lows) × (i < length highs)
+  in-arrays = (omega (arith, s .fits, s .lows-size), omega (arith, s .fits, s .highs-size))
+
+  pub ends-below : {e : Edge} → e ≡ edgeAt lows highs i → (e .low < 64) × (e .high < 64)
+  ends-below {e} at-i =
+      let ends : Within n e = rw at-i (s .within i h) in
+      (omega (arith, s .small), omega (arith, s .small))
 
 -- no edge before place first crosses one behind it
 pub record FirstsPassed (n : ℕ) (order : List ℕ) (count : ℕ) (lows highs : List ℕ) (first : ℕ) : Type 0 where
@@ -310,8 +326,9 @@ module _ {n : ℕ} {order : List ℕ} {count : ℕ} {lows highs : List ℕ} wher
 
   -- what is left, by whether the edge at place first crosses one that is left for it
   row-left : {first second : ℕ} → FirstsPassed n order count lows highs first → SecondsPassed n order count lows highs first second → first < count
-      → firstPair (take n order) (listed lows highs count)
-      ≡ orElse (pairWith (take n order) (edgeAt lows highs first) (drop second (listed lows highs count))) (firstPair (take n order) (drop (suc first) (listed lows highs count)))
+      → let es = listed lows highs count in
+      firstPair (take n order) es
+      ≡ orElse (pairWith (take n order) (edgeAt lows highs first) (drop second es)) (firstPair (take n order) (drop (suc first) es))
   unfolding firstPair
   row-left {first} r q h =
       r .rest
@@ -331,7 +348,8 @@ module _ {n : ℕ} {order : List ℕ} {count : ℕ} {lows highs : List ℕ} wher
         ≡ cond t (e ∷ f ∷ []) (pairWith (take n order) e (drop (suc second) (listed lows highs count)))
     unfolding pairWith
     second-tested =
-        ap (pairWith (take n order) e) (listed-from lows highs count second j ∙ ap (λ (g : Edge). g ∷ drop (suc second) (listed lows highs count)) (sym at-second))
+        ap (pairWith (take n order) e)
+        (listed-from lows highs count second j ∙ ap (λ (g : Edge). g ∷ drop (suc second) (listed lows highs count)) (sym at-second))
         ∙ rw (test ∙ cross-places p (rw at-first (s .within first i)) (rw at-second (s .within second j)))
 
     pub seconds-next : SecondsPassed n order count lows highs first second → t ≡ false → SecondsPassed n order count lows highs first (second + 1)
@@ -368,6 +386,7 @@ module _ (l : Layout) (t : T (valid l)) where
         within = listed-within (l .n) (l .adjacency) lows highs listing;
       }
 
-  pub search-shown : {es : List Edge} → es ≡ edges (l .n) (l .adjacency) → found (firstPair (take (l .n) (l .order)) es) ≡ firstCrossingOf l
+  pub search-shown : {es : List Edge} {s : Shown} → es ≡ edges (l .n) (l .adjacency) → s ≡ found (firstPair (take (l .n) (l .order)) es)
+      → s ≡ firstCrossingOf l
   unfolding vertexOrder
-  search-shown listing = ap (λ (es : List Edge). found (firstPair (vertexOrder l) es)) listing ∙ found-valid l t
+  search-shown listing e = e ∙ ap (λ (es : List Edge). found (firstPair (vertexOrder l) es)) listing ∙ found-valid l t

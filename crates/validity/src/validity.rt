@@ -1,9 +1,10 @@
 // Is a layout valid (document 01: is the ring whole)? One function for each clause of it, for any
 // bytes at all.
 ghost use mathlib.Core.Path.{_≡_};
-ghost use mathlib.Core.Bool.{Bool};
+ghost use mathlib.Core.Bool.{_&&_};
 ghost use Prim.Native.Nat.{_≤_, _<_};
-ghost use lib.ListN.{length, getD, take};
+ghost use lib.Dec.{leb};
+ghost use lib.ListN.{length, take};
 ghost use Rattle.model.specs.Layouts.{valid, eachOnce, zeroFrom, symmetric as symmetricWords, loopless as looplessWords, bitsBelow};
 ghost use Rattle.model.specs.Crossings.{linked as linkedIn};
 ghost use Rattle.validity.specs.Passes.{symmetricRow};
@@ -15,25 +16,41 @@ pub fn is_valid(l: Layout) -> bool
     let n = l.n;
     let order = l.order;
     let adjacency = l.adjacency;
+    if !order_valid(n, &order) {
+        return false;
+    }
+    words_valid(n, &adjacency)
+}
+
+// The clauses on n and the order.
+fn order_valid(n: usize, order: &[u8]) -> bool
+    requires { ⌜ length (now order) ≡ 64 ⌝ }
+    ensures { λ r. ⌜ r ≡ (leb n 64 && eachOnce n (take n (now (order .entry))) && zeroFrom n (now (order .entry))) ⌝ }
+{
     if 64 < n {
         return false;
     }
-    if !each_once(n, &order) {
+    if !each_once(n, order) {
         return false;
     }
-    if !zero_bytes_from(n, &order) {
+    zero_bytes_from(n, order)
+}
+
+// The clauses on the words.
+fn words_valid(n: usize, adjacency: &[u64]) -> bool
+    requires { ⌜ (n ≤ 64) × (length (now adjacency) ≡ 64) ⌝ }
+    ensures { λ r. let a = now (adjacency .entry) in ⌜ r ≡ (symmetricWords n a && looplessWords n a && bitsBelow n a && zeroFrom n a) ⌝ }
+{
+    if !symmetric(n, adjacency) {
         return false;
     }
-    if !symmetric(n, &adjacency) {
+    if !loopless(n, adjacency) {
         return false;
     }
-    if !loopless(n, &adjacency) {
+    if !bits_below(n, adjacency) {
         return false;
     }
-    if !bits_below(n, &adjacency) {
-        return false;
-    }
-    zero_words_from(n, &adjacency)
+    zero_words_from(n, adjacency)
 }
 
 // Does the order hold each vertex once?

@@ -1,23 +1,24 @@
--- The shown crossing pair: when there is none, that the pair shown does cross, and the search for it over edges listed in two arrays.
+-- The shown crossing pair: when there is none, and that the pair shown are two edges of the layout that cross.
 use Prim.Native.Nat.{ℕ, zero, suc, _+_, _-_}
 use native.Mathlib.Nat.{zero-add}
 use native.Mathlib.Omega.{arith}
 use mathlib.Core.Path.{_≡_, refl, sym, ap, ap₂, _∙_, subst}
-use mathlib.Core.Bool.{Bool, true, false, cond, _&&_}
+use mathlib.Core.Bool.{Bool, true, false, cond, _&&_, _||_}
 use mathlib.Core.List.{List, [], _∷_}
 use lib.ListN.{length}
 use lib.Dec.{T, eqb}
 use borrow.Author.Tests.{eq-eqb, ne-eqb, eqb-true}
 use Rattle.model.specs.declared.Edge.{Edge}
 use Rattle.model.specs.declared.Layout.{Layout}
-use Rattle.model.specs.Lists.{one, sumOver, sumPairs}
+use Rattle.model.specs.Lists.{one, any, sumOver, sumPairs}
 use Rattle.model.specs.Crossings.{edges, crosses, crossings}
 use Rattle.model.specs.Layouts.{vertexOrder, crossingsOf, valid}
 use Rattle.model.specs.Checks.{refusal, byRefusal, checked, isValid}
+use Rattle.model.specs.Charts.{sameEdge}
 use Rattle.model.specs.Reading.{Shown, pairWith, orElse, firstPair, firstCrossingOf}
 use Rattle.laws.specs.Sums.Indicators.{T-true}
 use Rattle.laws.specs.Sums.Ranges.{sum}
-use Rattle.laws.specs.Sums.Lists.{none}
+use Rattle.laws.specs.Sums.Lists.{All, none, also, all-mono}
 
 -- ---- what is said of a pair
 
@@ -74,42 +75,62 @@ module _ (l : Layout) (t : T (valid l)) where
   pub none-to-say : crossingsOf l ≡ 0 → firstCrossingOf l .none ≡ true
   none-to-say e = none-exactly ∙ eq-eqb (crossingsOf l) 0 e
 
--- ---- a pair that is shown crosses
+-- ---- a pair that is shown crosses, and both are edges of the layout
 
--- no edge, or two that cross
-pub data Crossing (o : List ℕ) : List Edge → Type 0 where
-  nothing : Crossing o []
-  two : {e f : Edge} → T (crosses o e f) → Crossing o (e ∷ f ∷ [])
+-- the entries of a list are among its entries
+self-same : (e : Edge) → sameEdge e e ≡ true
+unfolding sameEdge
+self-same e = rw (eq-eqb (e .low) (e .low) refl, eq-eqb (e .high) (e .high) refl)
 
-module _ (o : List ℕ) where
-  pair-crosses : (e : Edge) (fs : List Edge) → Crossing o (pairWith o e fs)
+or-later : (a b : Bool) → T b → T (a || b)
+or-later true b t = tt
+or-later false b t = t
+
+all-entries : (es : List Edge) → All (λ f. T (any (sameEdge f) es)) es
+unfolding any
+all-entries [] = none
+all-entries (e ∷ es) = also {x = e} (rw (self-same e) tt) (all-mono (all-entries es) (λ f t. or-later (sameEdge f e) (any (sameEdge f) es) t))
+
+-- no edge, or two of es that cross
+pub data Crossing (o : List ℕ) (es : List Edge) : List Edge → Type 0 where
+  nothing : Crossing o es []
+  two : {e f : Edge} → T (crosses o e f) → T (any (sameEdge e) es) → T (any (sameEdge f) es) → Crossing o es (e ∷ f ∷ [])
+
+module _ (o : List ℕ) (es : List Edge) where
+  pair-crosses : (e : Edge) {fs : List Edge} → T (any (sameEdge e) es) → All (λ f. T (any (sameEdge f) es)) fs → Crossing o es (pairWith o e fs)
   unfolding pairWith
-  pair-crosses e [] = nothing
-  pair-crosses e (f ∷ fs) = by-test (crosses o e f) refl (pair-crosses e fs)
+  pair-crosses e in-e none = nothing
+  pair-crosses e in-e (also {x = f} {xs = fs} in-f in-fs) = by-test (crosses o e f) refl (pair-crosses e in-e in-fs)
     where
-      by-test : (b : Bool) → crosses o e f ≡ b → Crossing o (pairWith o e fs) → Crossing o (cond b (e ∷ f ∷ []) (pairWith o e fs))
-      by-test true h r = two (subst T (sym h) tt)
+      by-test : (b : Bool) → crosses o e f ≡ b → Crossing o es (pairWith o e fs) → Crossing o es (cond b (e ∷ f ∷ []) (pairWith o e fs))
+      by-test true h r = two (subst T (sym h) tt) in-e in-f
       by-test false h r = r
 
-  or-crosses : {p q : List Edge} → Crossing o p → Crossing o q → Crossing o (orElse p q)
+  or-crosses : {p q : List Edge} → Crossing o es p → Crossing o es q → Crossing o es (orElse p q)
   unfolding orElse
   or-crosses nothing s = s
-  or-crosses (two t) s = two t
+  or-crosses (two t i j) s = two t i j
 
-  first-crosses : (es : List Edge) → Crossing o (firstPair o es)
+  first-crosses : {fs : List Edge} → All (λ f. T (any (sameEdge f) es)) fs → Crossing o es (firstPair o fs)
   unfolding firstPair
-  first-crosses [] = nothing
-  first-crosses (e ∷ es) = or-crosses (pair-crosses e es) (first-crosses es)
+  first-crosses none = nothing
+  first-crosses (also {x = f} in-f in-fs) = or-crosses (pair-crosses f in-f in-fs) (first-crosses in-fs)
 
-  the-two : {e f : Edge} → Crossing o (e ∷ f ∷ []) → T (crosses o e f)
-  the-two (two t) = t
+-- two edges of a layout that cross
+pub record CrossingPair (l : Layout) (e f : Edge) : Type 0 where
+  pub cross : T (crosses (vertexOrder l) e f)
+  pub first : T (any (sameEdge e) (edges (l .n) (l .adjacency)))
+  pub second : T (any (sameEdge f) (edges (l .n) (l .adjacency)))
 
 module _ (l : Layout) (t : T (valid l)) where
-  pub shown-crossing : Crossing (vertexOrder l) (firstCrossingOf l .pair)
+  pub shown-crossing : Crossing (vertexOrder l) (edges (l .n) (l .adjacency)) (firstCrossingOf l .pair)
   unfolding found
   shown-crossing =
-      subst (λ (s : Shown). Crossing (vertexOrder l) (s .pair)) (found-valid l t)
-      (first-crosses (vertexOrder l) (edges (l .n) (l .adjacency)))
+      let es = edges (l .n) (l .adjacency) in
+      subst (λ (s : Shown). Crossing (vertexOrder l) es (s .pair)) (found-valid l t) (first-crosses (vertexOrder l) es (all-entries es))
 
-  pub shown-crosses : {e f : Edge} → firstCrossingOf l .pair ≡ e ∷ f ∷ [] → T (crosses (vertexOrder l) e f)
-  shown-crosses h = the-two (vertexOrder l) (subst (Crossing (vertexOrder l)) h shown-crossing)
+  pub shown-crosses : {e f : Edge} → firstCrossingOf l .pair ≡ e ∷ f ∷ [] → CrossingPair l e f
+  shown-crosses h = the-two (subst (Crossing (vertexOrder l) (edges (l .n) (l .adjacency))) h shown-crossing)
+    where
+      the-two : {e f : Edge} → Crossing (vertexOrder l) (edges (l .n) (l .adjacency)) (e ∷ f ∷ []) → CrossingPair l e f
+      the-two (two t i j) = record { cross = t; first = i; second = j }

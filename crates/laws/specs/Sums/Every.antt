@@ -1,12 +1,9 @@
 -- A test of every entry of a list, or of every number below n, against the entries one by one.
-use Prim.Native.Nat.{ℕ, _+_, _≤_, _<_}
-use native.Mathlib.Nat.{not-suc-le-zero}
-use native.Mathlib.Omega.{arith}
+use Prim.Native.Nat.{ℕ, _<_}
 use mathlib.Core.Path.{_≡_, refl, sym, ap, ap₂, _∙_, subst}
 use mathlib.Core.Bool.{Bool, true, false, cond, _&&_}
 use mathlib.Core.List.{List, [], _∷_}
 use lib.Dec.{T}
-use borrow.Author.Count.{below-more}
 use Rattle.model.specs.Lists.{upto, every, keep}
 use Rattle.laws.specs.Sums.Indicators.{T-true, not-T-false, both-left, both-right}
 use Rattle.laws.specs.Sums.Lists.{All, none, also, all-mono, all-upto, all-below}
@@ -46,22 +43,3 @@ every-keep p q (x ∷ xs) = by-test (q x) (every-keep p q xs)
         → every p (cond b (x ∷ keep q xs) (keep q xs)) ≡ (cond b (p x) true && every (λ y. cond (q y) (p y) true) xs)
     by-test true e = ap (λ (b : Bool). p x && b) e
     by-test false e = e
-
--- ---- a loop that tests one number after the other
-
--- every number below k has passed
-abbrev pub PassedUpTo : (ℕ → Bool) → ℕ → ℕ → Type 0
-PassedUpTo p n k = (k ≤ n) × ((i : ℕ) → i < k → T (p i))
-
-module _ (p : ℕ → Bool) where
-  pub passed-none : (n : ℕ) → PassedUpTo p n 0
-  passed-none n = (omega arith, λ i l. absurd (not-suc-le-zero l))
-
-  pub passed-next : {n k : ℕ} {t : Bool} → PassedUpTo p n k → k < n → t ≡ p k → t ≡ true → PassedUpTo p n (k + 1)
-  passed-next {n} {k} s l e t = (omega arith, below-more (λ i. T (p i)) k (s .1) (subst T (sym t ∙ e) tt))
-
-  pub passed-all : {n k : ℕ} → PassedUpTo p n k → n ≤ k → true ≡ every p (upto n)
-  passed-all {n} {k} s l = sym (T-true (every p (upto n)) (upto-every p n (λ i b. s .1 i (omega arith))))
-
-  pub failed-at : {n k : ℕ} {t : Bool} → k < n → t ≡ p k → t ≡ false → false ≡ every p (upto n)
-  failed-at {n} {k} l e f = sym (upto-fails p n k l (sym e ∙ f))

@@ -25,8 +25,8 @@ alternate-requires c κs = search needs
 returns : tie.Need-returns
 unfolding crossAt
 returns c =
-    let after-differ = c .before .before .before .before .before .before in
-    rw (sym (after-differ .differ .ensures) ∙ c .before .before .before .before .before .if1 .taken) (c .alternate .ensures)
+    let apart = c .before .before .before .before .before in
+    rw (sym (apart .before .differ .ensures) ∙ apart .if1 .taken) (c .alternate .ensures)
 
 returns-2 : tie.Need-returns-2
 unfolding crossAt

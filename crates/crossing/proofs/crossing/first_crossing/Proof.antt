@@ -1,6 +1,5 @@
 use borrow.Author.Needs.{needs}
-use mathlib.Core.Path.{_≡_, refl, sym, _∙_, subst}
-use lib.ListN.{length}
+use mathlib.Core.Path.{refl, sym, subst}
 use lib.Dec.{T}
 use Rattle.model.specs.Layouts.{valid}
 use Rattle.model.specs.Checks.{checked, byRefusal, refusal, isValid}
@@ -14,6 +13,10 @@ use Rattle.crossing.proofs.crossing.first_crossing.Tie as tie
 -- the layout is valid
 accepted : (c : tie.Else1) → T (valid (c .before .before .args .l))
 accepted c = subst T (sym (passed (c .before .is-valid .ensures) (c .if1 .left))) tt
+
+-- from where the edges are listed to where the check was passed
+abbrev past-check : tie.After-highs → tie.Else1
+past-check c = c .before .before .before .before .before
 
 is-valid-requires : tie.Need-is-valid-requires
 is-valid-requires c κs = search needs
@@ -32,11 +35,11 @@ slice-aggregate-list-edges-3 : tie.Need-slice-aggregate-list-edges-3
 slice-aggregate-list-edges-3 c = search needs
 
 list-edges-requires : tie.Need-list-edges-requires
-list-edges-requires c κs =
-    let past-check = c .before .before .before .before .before in
-    let l = past-check .before .before .args .l in
-    let size : length (l .adjacency) ≡ 64 = search needs in
-    (sound l (accepted past-check) .small, size, refl, refl)
+list-edges-requires c κs = (sound _ (accepted (past-check c)) .small, search needs, refl, refl)
+
+-- from where they are searched to where they were listed
+abbrev listing : tie.After-highs3 → tie.After-list-edges
+listing c = c .before .before .before .before .before
 
 slice-aggregate-first-pair : tie.Need-slice-aggregate-first-pair
 slice-aggregate-first-pair c = search needs
@@ -49,16 +52,15 @@ slice-aggregate-first-pair-3 c = search needs
 
 first-pair-requires : tie.Need-first-pair-requires
 first-pair-requires c κs =
-    let past-check = c .before .before .before .before .before .before .before .before .before .before .before in
-    let l = past-check .before .before .args .l in
-    let size : length (l .order) ≡ 64 = search needs in
-    let edges = c .before .before .before .before .before .list-edges in
-    searchable l (accepted past-check) (edges .ensures .0) size (edges .ensures .1) (edges .kept .1 .1 .0) (edges .kept .1 .1 .1 .0)
+    let listed = listing c in
+    let edges = listed .list-edges in
+    let sizes = edges .kept .1 .1 in
+    searchable _ (accepted (past-check (listed .before))) (edges .ensures .0) (search needs) (edges .ensures .1) (sizes .0) (sizes .1 .0)
 
 returns-2 : tie.Need-returns-2
 returns-2 c =
-    c .first-pair .ensures
-    ∙ search-shown (c .before .before .before .before .before .before .before .before .before .before .before .before .before .before .args .l) (accepted (c .before .before .before .before .before .before .before .before .before .before .before .before)) (c .before .before .before .before .before .before .list-edges .ensures .0)
+    let listed = listing (c .before) in
+    search-shown _ (accepted (past-check (listed .before))) (listed .list-edges .ensures .0) (c .first-pair .ensures)
 
 pub first-crossing-spec : {M : Type 1} → statement M
 first-crossing-spec =

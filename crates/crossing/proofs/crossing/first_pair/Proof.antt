@@ -3,7 +3,8 @@ use native.Mathlib.Omega.{arith}
 use mathlib.Core.Path.{sym}
 use Rattle.model.specs.Reading.{shown}
 use Rattle.laws.specs.Layouts.FirstCrossing.{found}
-use Rattle.crossing.specs.Search.{FirstsPassed, SecondsPassed, ends-below, firsts-start, firsts-end, firsts-next, seconds-start, seconds-next, pair-found}
+use Rattle.crossing.specs.Search.{FirstsPassed, SecondsPassed, in-arrays, ends-below, firsts-start, firsts-end, firsts-next}
+use Rattle.crossing.specs.Search.{seconds-start, seconds-next, pair-found}
 use Rattle.crossing.proofs.crossing.first_pair.Statement.{statement}
 use Rattle.crossing.proofs.crossing.first_pair.Tie as tie
 
@@ -19,6 +20,14 @@ Inv-search n order count lows highs places first₀ first = FirstsPassed n order
 abbrev μ-search : tie.MeasureT-search
 μ-search n order count lows highs places first₀ first = count - first
 
+-- the function's start
+abbrev start : tie.At-search Inv-loop μ-loop Inv-search μ-search → tie.Start Inv-loop μ-loop Inv-search μ-search
+start c = c .before .before .before .before .before
+
+-- from the inner loop to the test that the outer one goes on
+abbrev row-of : tie.At-loop Inv-loop μ-loop Inv-search μ-search → tie.Else1 Inv-loop μ-loop Inv-search μ-search
+row-of c = c .before .before
+
 places-of-requires : tie.Need-places-of-requires Inv-loop μ-loop Inv-search μ-search
 places-of-requires c κs =
     let given = c .before .before .before .pre in
@@ -28,9 +37,7 @@ search-holds : tie.Need-search-holds Inv-loop μ-loop Inv-search μ-search
 search-holds c = firsts-start
 
 edge-at-requires : tie.Need-edge-at-requires Inv-loop μ-loop Inv-search μ-search
-edge-at-requires c κs =
-    let given = c .before .before .before .before .before .before .pre in
-    (omega (arith, given .fits, given .lows-size), omega (arith, given .fits, given .highs-size))
+edge-at-requires c κs = in-arrays (start (c .before) .pre) (c .if1 .left)
 
 add-second : tie.Need-add-second Inv-loop μ-loop Inv-search μ-search
 add-second c = omega arith
@@ -39,20 +46,22 @@ loop-holds : tie.Need-loop-holds Inv-loop μ-loop Inv-search μ-search
 loop-holds c = seconds-start (c .before .if1 .left)
 
 edge-at-requires-2 : tie.Need-edge-at-requires-2 Inv-loop μ-loop Inv-search μ-search
-edge-at-requires-2 c κs =
-    let given = c .before .before .before .before .before .before .before .before .before .pre in
-    (omega (arith, given .fits, given .lows-size), omega (arith, given .fits, given .highs-size))
+edge-at-requires-2 c κs = in-arrays (start (row-of (c .before) .before) .pre) (c .loop-test .taken)
 
 slice-aggregate-cross : tie.Need-slice-aggregate-cross Inv-loop μ-loop Inv-search μ-search
-slice-aggregate-cross c = sym (c .before .before .before .before .before .before .before .places-of .ensures .size)
+slice-aggregate-cross c =
+    let row = row-of (c .before .before .before) in
+    sym (row .before .before .places-of .ensures .size)
 
 cross-requires : tie.Need-cross-requires Inv-loop μ-loop Inv-search μ-search
 cross-requires c κs =
-    let at-search = c .before .before .before .before .before .before in
-    let given = at-search .before .before .before .before .before .pre in
-    let first = ends-below given (c .before .before .before .before .before .if1 .left) (c .before .before .before .before .edge-at .ensures) in
-    let second = ends-below given (c .before .before .loop-test .taken) (c .before .edge-at2 .ensures) in
-    (at-search .before .places-of .ensures .size, first .0, first .1, second .0, second .1)
+    let f = c .before in
+    let e = f .before .before .before in
+    let row = e .before in
+    let given = start (row .before) .pre in
+    let first = ends-below given (row .if1 .left) (e .edge-at .ensures) in
+    let second = ends-below given (f .before .loop-test .taken) (f .edge-at2 .ensures) in
+    (row .before .before .places-of .ensures .size, first .0, first .1, second .0, second .1)
 
 add-second-2 : tie.Need-add-second-2 Inv-loop μ-loop Inv-search μ-search
 add-second-2 c = omega arith
@@ -62,11 +71,12 @@ loop-less c = omega arith
 
 loop-again : tie.Need-loop-again Inv-loop μ-loop Inv-search μ-search
 loop-again c =
-    let at-search = c .before .before .before .before .before .before .before .before in
-    let at-loop = c .before .before .before .before .before in
-    seconds-next (at-search .before .before .before .before .before .pre) (at-search .before .places-of .ensures) (c .before .before .before .before .before .before .before .if1 .left) (c .before .before .before .before .loop-test .taken)
-    (at-loop .before .edge-at .ensures) (c .before .before .before .edge-at2 .ensures) (c .before .cross .ensures)
-    (at-loop .loop .inv) (c .if2 .left)
+    let f = c .before .before .before in
+    let at-loop = f .before .before in
+    let e = at-loop .before in
+    let row = e .before in
+    seconds-next (start (row .before) .pre) (row .before .before .places-of .ensures) (row .if1 .left) (f .before .loop-test .taken)
+    (e .edge-at .ensures) (f .edge-at2 .ensures) (c .before .cross .ensures) (at-loop .loop .inv) (c .if2 .left)
 
 add-first : tie.Need-add-first Inv-loop μ-loop Inv-search μ-search
 add-first c = omega arith
@@ -76,8 +86,8 @@ search-less c = omega arith
 
 search-again : tie.Need-search-again Inv-loop μ-loop Inv-search μ-search
 search-again c =
-    let at-search = c .before .before .before .before in
-    firsts-next (at-search .search .inv) (c .before .loop .inv) (c .before .before .before .if1 .left) (c .loop-test .left)
+    let row = c .before .before .before in
+    firsts-next (row .before .search .inv) (c .before .loop .inv) (row .if1 .left) (c .loop-test .left)
 
 returns : tie.Need-returns Inv-loop μ-loop Inv-search μ-search
 unfolding shown found
@@ -86,12 +96,13 @@ returns c = rw (firsts-end (c .before .search .inv) (c .if1 .taken))
 returns-2 : tie.Need-returns-2 Inv-loop μ-loop Inv-search μ-search
 unfolding shown found
 returns-2 c =
-    let at-search = c .before .before .before .before .before .before .before .before in
-    let at-loop = c .before .before .before .before .before in
+    let f = c .before .before .before in
+    let at-loop = f .before .before in
+    let e = at-loop .before in
+    let row = e .before in
     rw
-    (pair-found (at-search .before .before .before .before .before .pre) (at-search .before .places-of .ensures) (c .before .before .before .before .before .before .before .if1 .left) (c .before .before .before .before .loop-test .taken)
-    (at-loop .before .edge-at .ensures) (c .before .before .before .edge-at2 .ensures) (c .before .cross .ensures)
-    (at-search .search .inv) (at-loop .loop .inv) (c .if2 .taken))
+    (pair-found (start (row .before) .pre) (row .before .before .places-of .ensures) (row .if1 .left) (f .before .loop-test .taken)
+    (e .edge-at .ensures) (f .edge-at2 .ensures) (c .before .cross .ensures) (row .before .search .inv) (at-loop .loop .inv) (c .if2 .taken))
 
 pub first-pair-spec : {M : Type 1} → statement M
 first-pair-spec =

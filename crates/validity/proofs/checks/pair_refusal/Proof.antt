@@ -1,5 +1,9 @@
 use borrow.Author.Needs.{needs}
+use native.Mathlib.Omega.{arith}
 use borrow.Author.Tests.{lt-ltb, le-ltb, eq-eqb, ne-eqb}
+use mathlib.Core.Bool.{true}
+use mathlib.Core.Path.{_≡_}
+use Rattle.model.specs.Layouts.{valid}
 use Rattle.model.specs.Checks.{refusal, isValid, isVertex, differ}
 use Rattle.model.specs.Edits.{moveChecks}
 use Rattle.laws.specs.Sums.Indicators.{passed, failed}
@@ -13,38 +17,31 @@ returns : tie.Need-returns
 unfolding moveChecks refusal isValid isVertex differ
 returns c = rw (failed (c .before .is-valid .ensures) (c .if1 .taken))
 
+-- the layout is valid
+accepted : (c : tie.Else1) → valid (c .before .before .args .l) ≡ true
+accepted c = passed (c .before .is-valid .ensures) (c .if1 .left)
+
 returns-2 : tie.Need-returns-2
 unfolding moveChecks refusal isValid isVertex differ
-returns-2 c = rw (passed (c .before .before .is-valid .ensures) (c .before .if1 .left), le-ltb (c .before .before .before .args .a) (c .before .before .before .args .l .n) (c .if2 .taken))
+returns-2 c =
+    let s = c .before .before .before .args in
+    rw (accepted (c .before), le-ltb (s .a) (s .l .n) (omega arith))
 
 returns-3 : tie.Need-returns-3
 unfolding moveChecks refusal isValid isVertex differ
-returns-3 c =
-    rw (
-      passed (c .before .before .before .is-valid .ensures) (c .before .before .if1 .left),
-      lt-ltb (c .before .before .before .before .args .a) (c .before .before .before .before .args .l .n) (c .before .if2 .left),
-      le-ltb (c .before .before .before .before .args .b) (c .before .before .before .before .args .l .n) (c .if3 .taken),
-    )
+returns-3 c = rw (accepted (c .before .before), lt-ltb _ _ (c .before .if2 .left), le-ltb _ _ (c .if3 .taken))
 
 returns-4 : tie.Need-returns-4
 unfolding moveChecks refusal isValid isVertex differ
 returns-4 c =
-    rw (
-      passed (c .before .before .before .before .is-valid .ensures) (c .before .before .before .if1 .left),
-      lt-ltb (c .before .before .before .before .before .args .a) (c .before .before .before .before .before .args .l .n) (c .before .before .if2 .left),
-      lt-ltb (c .before .before .before .before .before .args .b) (c .before .before .before .before .before .args .l .n) (c .before .if3 .left),
-      eq-eqb (c .before .before .before .before .before .args .a) (c .before .before .before .before .before .args .b) (c .if4 .taken),
-    )
+    let first = c .before .before in
+    rw (accepted (first .before), lt-ltb _ _ (first .if2 .left), lt-ltb _ _ (c .before .if3 .left), eq-eqb _ _ (c .if4 .taken))
 
 returns-5 : tie.Need-returns-5
 unfolding moveChecks refusal isValid isVertex differ
 returns-5 c =
-    rw (
-      passed (c .before .before .before .before .is-valid .ensures) (c .before .before .before .if1 .left),
-      lt-ltb (c .before .before .before .before .before .args .a) (c .before .before .before .before .before .args .l .n) (c .before .before .if2 .left),
-      lt-ltb (c .before .before .before .before .before .args .b) (c .before .before .before .before .before .args .l .n) (c .before .if3 .left),
-      ne-eqb (c .before .before .before .before .before .args .a) (c .before .before .before .before .before .args .b) (c .if4 .left),
-    )
+    let first = c .before .before in
+    rw (accepted (first .before), lt-ltb _ _ (first .if2 .left), lt-ltb _ _ (c .before .if3 .left), ne-eqb _ _ (c .if4 .left))
 
 pub pair-refusal-spec : {M : Type 1} → statement M
 pair-refusal-spec =

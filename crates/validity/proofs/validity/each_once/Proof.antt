@@ -14,7 +14,7 @@ abbrev μ-loop : tie.MeasureT-loop
 μ-loop n order seen₀ p₀ seen p = n - p
 
 loop-holds : tie.Need-loop-holds Inv-loop μ-loop
-loop-holds c = seen-none (c .before .args .n) (c .before .args .order .now)
+loop-holds c = seen-none
 
 shared-slice-read-v : tie.Need-shared-slice-read-v Inv-loop μ-loop
 shared-slice-read-v c = omega arith
@@ -23,15 +23,18 @@ cast-v : tie.Need-cast-v Inv-loop μ-loop
 cast-v c = omega (arith, c .shared-slice-known2 .given (c .before .before .loop .p))
 
 returns : tie.Need-returns Inv-loop μ-loop
-returns c = not-a-vertex (c .before .before .before .before .before .args .n) (c .before .before .before .before .before .args .order .now) (omega arith) (c .before .before .loop-test .taken) (c .if1 .taken)
+returns c =
+    let turn = c .before .before in
+    not-a-vertex (omega arith) (turn .before .loop .inv) (turn .loop-test .taken) (c .if1 .taken)
 
 is-set-requires : tie.Need-is-set-requires Inv-loop μ-loop
 is-set-requires c κs = search needs
 
 returns-2 : tie.Need-returns-2 Inv-loop μ-loop
 returns-2 c =
-    seen-again (c .before .before .before .before .before .before .before .args .n) (c .before .before .before .before .before .before .before .args .order .now) (omega arith) (c .before .before .before .before .before .loop .inv) (c .before .before .before .before .loop-test .taken) refl (c .before .before .if1 .left)
-    (sym (c .before .is-set .ensures) ∙ c .if2 .taken)
+    let vertex = c .before .before in
+    let turn = vertex .before .before in
+    seen-again (omega arith) (turn .before .loop .inv) (turn .loop-test .taken) refl (vertex .if1 .left) (sym (c .before .is-set .ensures) ∙ c .if2 .taken)
 
 set-requires : tie.Need-set-requires Inv-loop μ-loop
 set-requires c κs = search needs
@@ -44,12 +47,14 @@ loop-less c = omega arith
 
 loop-again : tie.Need-loop-again Inv-loop μ-loop
 loop-again c =
-    seen-next (c .before .before .before .before .before .before .before .before .args .n) (c .before .before .before .before .before .before .before .before .args .order .now) (c .before .before .before .before .before .before .loop .inv) (c .before .before .before .before .before .loop-test .taken) refl (c .before .before .before .if1 .left)
-    (set-within _ _ (omega arith) (c .set .ensures))
-    (sym (c .before .before .is-set .ensures) ∙ c .before .if2 .left)
+    let new = c .before in
+    let vertex = new .before .before in
+    let turn = vertex .before .before in
+    seen-next (turn .before .loop .inv) (turn .loop-test .taken) refl (vertex .if1 .left) (set-within _ _ (omega arith) (c .set .ensures))
+    (sym (new .before .is-set .ensures) ∙ new .if2 .left)
 
 returns-3 : tie.Need-returns-3 Inv-loop μ-loop
-returns-3 c = seen-all (c .before .before .before .args .n) (c .before .before .before .args .order .now) (omega arith) (c .before .loop .inv) (c .loop-test .left)
+returns-3 c = seen-all (omega arith) (c .before .loop .inv) (c .loop-test .left)
 
 pub each-once-spec : {M : Type 1} → statement M
 each-once-spec =

@@ -4,7 +4,7 @@ use native.Mathlib.Omega.{arith}
 use mathlib.Core.Path.{_≡_, ap}
 use mathlib.Core.Bool.{Bool, not}
 use mathlib.Core.List.{List}
-use Rattle.laws.specs.Sums.Every.{PassedUpTo, passed-none, passed-next, passed-all, failed-at}
+use Rattle.validity.specs.Passes.{PassedUpTo, passed-none, passed-next, passed-all, failed-at}
 use Rattle.model.specs.Layouts.{loopless}
 use Rattle.model.specs.Crossings.{linked}
 use Rattle.validity.proofs.validity.loopless.Statement.{statement}
@@ -20,7 +20,7 @@ abbrev μ-loop : tie.MeasureT-loop
 μ-loop n adjacency v₀ v = n - v
 
 loop-holds : tie.Need-loop-holds Inv-loop μ-loop
-loop-holds c = passed-none (passes (c .before .args .adjacency .now)) (c .before .args .n)
+loop-holds c = passed-none
 
 mul-is-set : tie.Need-mul-is-set Inv-loop μ-loop
 mul-is-set c = omega arith
@@ -33,7 +33,9 @@ is-set-requires c κs = search needs
 
 returns : tie.Need-returns Inv-loop μ-loop
 unfolding loopless linked
-returns c = failed-at (passes (c .before .before .before .before .before .before .args .adjacency .now)) (c .before .before .before .loop-test .taken) (ap not (c .before .is-set .ensures)) (ap not (c .if1 .taken))
+returns c =
+    let turn = c .before .before .before in
+    failed-at (turn .before .loop .inv) (turn .loop-test .taken) (ap not (c .before .is-set .ensures)) (ap not (c .if1 .taken))
 
 add-v : tie.Need-add-v Inv-loop μ-loop
 add-v c = omega arith
@@ -43,11 +45,13 @@ loop-less c = omega arith
 
 loop-again : tie.Need-loop-again Inv-loop μ-loop
 unfolding linked
-loop-again c = passed-next (passes (c .before .before .before .before .before .before .args .adjacency .now)) (c .before .before .before .before .loop .inv) (c .before .before .before .loop-test .taken) (ap not (c .before .is-set .ensures)) (ap not (c .if1 .left))
+loop-again c =
+    let turn = c .before .before .before in
+    passed-next (turn .before .loop .inv) (turn .loop-test .taken) (ap not (c .before .is-set .ensures)) (ap not (c .if1 .left))
 
 returns-2 : tie.Need-returns-2 Inv-loop μ-loop
 unfolding loopless
-returns-2 c = passed-all (passes (c .before .before .before .args .adjacency .now)) (c .before .loop .inv) (c .loop-test .left)
+returns-2 c = passed-all (c .before .loop .inv) (c .loop-test .left)
 
 pub loopless-spec : {M : Type 1} → statement M
 loopless-spec =

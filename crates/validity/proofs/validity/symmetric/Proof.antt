@@ -1,8 +1,7 @@
 use Prim.Native.Nat.{ℕ, _-_, _<_}
 use native.Mathlib.Omega.{arith}
 use mathlib.Core.Path.{_≡_, sym, _∙_}
-use Rattle.laws.specs.Sums.Every.{PassedUpTo, passed-none, passed-next, passed-all, failed-at}
-use Rattle.validity.specs.Passes.{symmetricRow, symmetric-rows}
+use Rattle.validity.specs.Passes.{PassedUpTo, passed-none, passed-next, passed-all, failed-at, symmetricRow, symmetric-rows}
 use borrow.Author.Tests.{not-true, not-false}
 use Rattle.validity.proofs.validity.symmetric.Statement.{statement}
 use Rattle.validity.proofs.validity.symmetric.Tie as tie
@@ -14,16 +13,16 @@ abbrev μ-loop : tie.MeasureT-loop
 μ-loop n adjacency u₀ u = n - u
 
 loop-holds : tie.Need-loop-holds Inv-loop μ-loop
-loop-holds c = passed-none (symmetricRow (c .before .args .adjacency .now)) (c .before .args .n)
+loop-holds c = passed-none
 
 symmetric-row-requires : tie.Need-symmetric-row-requires Inv-loop μ-loop
 symmetric-row-requires c κs = omega arith
 
 returns : tie.Need-returns Inv-loop μ-loop
 returns c =
-    failed-at (symmetricRow (c .before .before .before .before .before .args .adjacency .now)) (c .before .before .loop-test .taken) (c .before .symmetric-row .ensures)
-    (not-true (c .before .symmetric-row .result) (c .if1 .taken))
-    ∙ sym (symmetric-rows (c .before .before .before .before .before .args .n) (c .before .before .before .before .before .args .adjacency .now))
+    let turn = c .before .before in
+    failed-at (turn .before .loop .inv) (turn .loop-test .taken) (c .before .symmetric-row .ensures) (not-true _ (c .if1 .taken))
+    ∙ sym (symmetric-rows _ _)
 
 add-u : tie.Need-add-u Inv-loop μ-loop
 add-u c = omega arith
@@ -33,11 +32,11 @@ loop-less c = omega arith
 
 loop-again : tie.Need-loop-again Inv-loop μ-loop
 loop-again c =
-    passed-next (symmetricRow (c .before .before .before .before .before .args .adjacency .now)) (c .before .before .before .loop .inv) (c .before .before .loop-test .taken) (c .before .symmetric-row .ensures)
-    (not-false (c .before .symmetric-row .result) (c .if1 .left))
+    let turn = c .before .before in
+    passed-next (turn .before .loop .inv) (turn .loop-test .taken) (c .before .symmetric-row .ensures) (not-false _ (c .if1 .left))
 
 returns-2 : tie.Need-returns-2 Inv-loop μ-loop
-returns-2 c = passed-all (symmetricRow (c .before .before .before .args .adjacency .now)) (c .before .loop .inv) (c .loop-test .left) ∙ sym (symmetric-rows (c .before .before .before .args .n) (c .before .before .before .args .adjacency .now))
+returns-2 c = passed-all (c .before .loop .inv) (c .loop-test .left) ∙ sym (symmetric-rows _ _)
 
 pub symmetric-spec : {M : Type 1} → statement M
 symmetric-spec =

@@ -5,8 +5,7 @@ use mathlib.Core.Path.{_≡_, ap₂}
 use borrow.Author.Tests.{not-true, not-false}
 use mathlib.Core.Bool.{Bool, Bool·beq}
 use mathlib.Core.List.{List}
-use Rattle.laws.specs.Sums.Every.{PassedUpTo, passed-none, passed-next, passed-all, failed-at}
-use Rattle.validity.specs.Passes.{symmetricRow}
+use Rattle.validity.specs.Passes.{PassedUpTo, passed-none, passed-next, passed-all, failed-at, symmetricRow}
 use Rattle.model.specs.Crossings.{linked}
 use Rattle.validity.proofs.validity.symmetric_row.Statement.{statement}
 use Rattle.validity.proofs.validity.symmetric_row.Tie as tie
@@ -21,7 +20,7 @@ abbrev μ-loop : tie.MeasureT-loop
 μ-loop adjacency u v₀ v = u - v
 
 loop-holds : tie.Need-loop-holds Inv-loop μ-loop
-loop-holds c = passed-none (passes (c .before .args .adjacency .now) (c .before .args .u)) (c .before .args .u)
+loop-holds c = passed-none
 
 mul-is-set : tie.Need-mul-is-set Inv-loop μ-loop
 mul-is-set c = omega arith
@@ -44,9 +43,10 @@ is-set-requires-2 c κs = search needs
 returns : tie.Need-returns Inv-loop μ-loop
 unfolding symmetricRow linked
 returns c =
-    failed-at (passes (c .before .before .before .before .before .before .before .before .args .adjacency .now) (c .before .before .before .before .before .before .before .before .args .u)) (c .before .before .before .before .before .loop-test .taken)
-    (ap₂ Bool·beq (c .before .before .before .is-set .ensures) (c .before .is-set2 .ensures))
-    (not-true (Bool·beq (c .before .before .before .is-set .result) (c .before .is-set2 .result)) (c .if1 .taken))
+    let first = c .before .before .before in
+    let turn = first .before .before in
+    failed-at (turn .before .loop .inv) (turn .loop-test .taken)
+    (ap₂ Bool·beq (first .is-set .ensures) (c .before .is-set2 .ensures)) (not-true _ (c .if1 .taken))
 
 add-v : tie.Need-add-v Inv-loop μ-loop
 add-v c = omega arith
@@ -57,14 +57,14 @@ loop-less c = omega arith
 loop-again : tie.Need-loop-again Inv-loop μ-loop
 unfolding linked
 loop-again c =
-    passed-next (passes (c .before .before .before .before .before .before .before .before .args .adjacency .now) (c .before .before .before .before .before .before .before .before .args .u)) (c .before .before .before .before .before .before .loop .inv)
-    (c .before .before .before .before .before .loop-test .taken)
-    (ap₂ Bool·beq (c .before .before .before .is-set .ensures) (c .before .is-set2 .ensures))
-    (not-false (Bool·beq (c .before .before .before .is-set .result) (c .before .is-set2 .result)) (c .if1 .left))
+    let first = c .before .before .before in
+    let turn = first .before .before in
+    passed-next (turn .before .loop .inv) (turn .loop-test .taken)
+    (ap₂ Bool·beq (first .is-set .ensures) (c .before .is-set2 .ensures)) (not-false _ (c .if1 .left))
 
 returns-2 : tie.Need-returns-2 Inv-loop μ-loop
 unfolding symmetricRow
-returns-2 c = passed-all (passes (c .before .before .before .args .adjacency .now) (c .before .before .before .args .u)) (c .before .loop .inv) (c .loop-test .left)
+returns-2 c = passed-all (c .before .loop .inv) (c .loop-test .left)
 
 pub symmetric-row-spec : {M : Type 1} → statement M
 symmetric-row-spec =
