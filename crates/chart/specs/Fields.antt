@@ -12,6 +12,7 @@ use lib.Dec.{eqb, leb}
 use borrow.Author.Tests.{le-leb, lt-leb, leb-true, eq-eqb, ne-eqb}
 use Rattle.model.specs.declared.Asked.the-variants as asks
 use Rattle.model.specs.declared.FieldFound.the-variants as field
+use Rattle.model.specs.declared.BodiesFound.{BodiesFound}
 use Rattle.model.specs.declared.BodiesFound.the-variants as bodies
 use Rattle.model.specs.declared.SizeFound.the-variants as size
 use Rattle.model.specs.Checks.{refusal, byRefusal, checked}
@@ -316,7 +317,7 @@ module _ (s : List ℕ) where
             sized from size h = sym (length-take-le size (drop from s) (omega (arith, length-drop from s)))
 
 -- a part from a start to an end, by its size
-pub part-sized : (s : List ℕ) (start size : ℕ) → take (start + size - start) (drop start s) ≡ take size (drop start s)
+part-sized : (s : List ℕ) (start size : ℕ) → take (start + size - start) (drop start s) ≡ take size (drop start s)
 part-sized s start size = ap (λ (k : ℕ). take k (drop start s)) (add-sub-cancel-left start size)
 
 -- where the bodies stand
@@ -366,9 +367,9 @@ module _ (s : List ℕ) where
         inside = third .inside;
       })
 
-  pub bodies-at : (a b c : ℕ) → bodiesFound (bodies.Found a b c) ≡ bodiesAnswer s → BodiesAt s a b c
+  found-at : (a b c : ℕ) → bodiesFound (bodies.Found a b c) ≡ bodiesAnswer s → BodiesAt s a b c
   unfolding bodiesAnswer chartChecks answer checked byRefusal refusal bodiesFound rightTags tags-of accept refuse
-  bodies-at a b c = by-test (rightTags (tags-of (fieldsOf s .fields))) refl
+  found-at a b c = by-test (rightTags (tags-of (fieldsOf s .fields))) refl
     where
       by-test : (t : Bool) → rightTags (tags-of (fieldsOf s .fields)) ≡ t
           → accept (a ∷ b ∷ c ∷ []) ≡ byRefusal (cond t 0 3) (accept (length (bodyOf s 0) ∷ length (bodyOf s 1) ∷ length (bodyOf s 2) ∷ [])) refuse
@@ -380,6 +381,20 @@ module _ (s : List ℕ) where
           let r : c ≡ length (bodyOf s 2) = cc in
           rw (p, q, r) (standing (three-fields (fieldsOf s .fields) (three-tags (fieldsOf s .fields) e)) refl e)
       by-test false e x = absurd (true≢false (ap (λ (y : Answer). y .accepted) x))
+
+pub bodies-at : {s : List ℕ} {r : BodiesFound} {a b c : ℕ} → r ≡ bodies.Found a b c → bodiesFound r ≡ bodiesAnswer s → BodiesAt s a b c
+bodies-at {s} {r} {a} {b} {c} told said = found-at s a b c (ap bodiesFound (sym told) ∙ said)
+
+-- the parts of the input that are the bodies
+module _ {s : List ℕ} {a b c : ℕ} (at : BodiesAt s a b c) where
+  pub size-part : take (3 + a - 3) (drop 3 s) ≡ bodyOf s 0
+  size-part = part-sized s 3 a ∙ sym (at .size-body)
+
+  pub links-part : take (3 + a + 3 + b - (3 + a + 3)) (drop (3 + a + 3) s) ≡ bodyOf s 1
+  links-part = part-sized s (3 + a + 3) b ∙ sym (at .links-body)
+
+  pub order-part : take (3 + a + 3 + b + 3 + c - (3 + a + 3 + b + 3)) (drop (3 + a + 3 + b + 3) s) ≡ bodyOf s 2
+  order-part = part-sized s (3 + a + 3 + b + 3) c ∙ sym (at .order-body)
 
 -- ---- question 4
 
