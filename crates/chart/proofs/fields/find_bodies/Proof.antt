@@ -21,8 +21,11 @@ fields-1 c = let f = c .before .first .given .0 in fieldFrom (bytes c) 0 (f .0) 
 one : (c : tie.After-known-told) → FieldsUpTo (bytes c) (place-1 c) (fields-1 c)
 one c = fields-next (fields-start _) (c .before .first .given .1) (c .before .before .before .field-at .ensures)
 
+abbrev asked-2 : tie.After-known-told2 → tie.After-field-at2
+asked-2 c = c .before .before .before
+
 abbrev first-of : tie.After-known-told2 → tie.After-known-told
-first-of c = c .before .before .before .before
+first-of c = asked-2 c .before
 
 abbrev place-2 : tie.After-known-told2 → ℕ
 place-2 c = place-1 (first-of c) + 3 + c .before .second .given .0 .1 .0
@@ -33,10 +36,13 @@ fields-2 c =
     fields-1 (first-of c) ++ (fieldFrom (bytes (first-of c)) (place-1 (first-of c)) (f .0) (f .1 .0) ∷ [])
 
 two : (c : tie.After-known-told2) → FieldsUpTo (bytes (first-of c)) (place-2 c) (fields-2 c)
-two c = fields-next (one (first-of c)) (c .before .second .given .1) (c .before .before .before .field-at2 .ensures)
+two c = fields-next (one (first-of c)) (c .before .second .given .1) (asked-2 c .field-at2 .ensures)
+
+abbrev asked-3 : tie.After-known-told3 → tie.After-field-at3
+asked-3 c = c .before .before .before
 
 abbrev second-of : tie.After-known-told3 → tie.After-known-told2
-second-of c = let told = c .before .before .before in told .before
+second-of c = asked-3 c .before
 
 abbrev place-3 : tie.After-known-told3 → ℕ
 place-3 c = place-2 (second-of c) + 3 + c .before .third .given .0 .1 .0
@@ -47,7 +53,7 @@ fields-3 c =
     fields-2 (second-of c) ++ (fieldFrom (bytes (first-of (second-of c))) (place-2 (second-of c)) (f .0) (f .1 .0) ∷ [])
 
 three : (c : tie.After-known-told3) → FieldsUpTo (bytes (first-of (second-of c))) (place-3 c) (fields-3 c)
-three c = fields-next (two (second-of c)) (c .before .third .given .1) (c .before .before .before .field-at3 .ensures)
+three c = fields-next (two (second-of c)) (c .before .third .given .1) (asked-3 c .field-at3 .ensures)
 
 field-at-requires : tie.Need-field-at-requires
 field-at-requires c κs = search needs
