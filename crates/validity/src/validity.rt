@@ -1,7 +1,8 @@
 // Is a layout valid (document 01: is the ring whole)? One function for each clause of it, for any
 // bytes at all.
 ghost use mathlib.Core.Path.{_≡_};
-ghost use mathlib.Core.Bool.{Bool};
+ghost use mathlib.Core.Bool.{_&&_};
+ghost use lib.Dec.{leb};
 ghost use Prim.Native.Nat.{_≤_, _<_};
 ghost use lib.ListN.{length, getD, take};
 ghost use Rattle.model.specs.Layouts.{valid, eachOnce, zeroFrom, symmetric as symmetricWords, loopless as looplessWords, bitsBelow};
@@ -36,9 +37,22 @@ pub fn is_valid(l: Layout) -> bool
     zero_words_from(n, &adjacency)
 }
 
-// Does the order hold each vertex once?
+// Are n vertices few enough, and do the first n bytes hold each of them once?
+pub fn is_order(n: usize, bytes: &[u8]) -> bool
+    ensures { λ r. ⌜ r ≡ (leb n 64 && eachOnce n (take n (now (bytes .entry)))) ⌝ }
+{
+    if 64 < n {
+        return false;
+    }
+    if bytes.len() < n {
+        return false;
+    }
+    each_once(n, bytes)
+}
+
+// Do the first n places hold each vertex once?
 fn each_once(n: usize, order: &[u8]) -> bool
-    requires { ⌜ (n ≤ 64) × (length (now order) ≡ 64) ⌝ }
+    requires { ⌜ (n ≤ 64) × (n ≤ length (now order)) ⌝ }
     ensures { λ r. ⌜ r ≡ eachOnce n (take n (now (order .entry))) ⌝ }
 {
     let mut seen: u64 = 0;

@@ -1,5 +1,7 @@
 use borrow.Author.Needs.{needs}
 use borrow.Author.Tests.{le-leb, lt-leb}
+use native.Mathlib.Nat.{le-trans, le-of-eq}
+use mathlib.Core.Path.{sym}
 use Rattle.laws.specs.Sums.Indicators.{passed, failed}
 use Rattle.model.specs.Layouts.{valid, vertexOrder}
 use Rattle.validity.proofs.validity.is_valid.Statement.{statement}
@@ -13,7 +15,7 @@ slice-aggregate-each-once : tie.Need-slice-aggregate-each-once
 slice-aggregate-each-once c = search needs
 
 each-once-requires : tie.Need-each-once-requires
-each-once-requires c κs = search needs
+each-once-requires c κs = let few = c .before .if1 .left in (few, le-trans few (le-of-eq (sym (search needs))))
 
 returns-2 : tie.Need-returns-2
 unfolding valid vertexOrder
