@@ -5,13 +5,15 @@ use native.Mathlib.Decide.{ℕ-discrete}
 use native.Mathlib.Omega.{arith}
 use mathlib.Core.Path.{_≡_, refl, sym, ap, _∙_}
 use mathlib.Core.Bool.{Bool, true, false, cond, true≢false, false≢true, and-false}
-use mathlib.Core.List.{List, [], _∷_, map}
+use mathlib.Core.List.{List, [], _∷_, _++_, map, append-assoc, append-nil}
 use lib.ListN.{length, getD, take, drop, length-drop, length-map}
 use lib.Seq.{take-all, drop-drop, length-take-le}
 use lib.Dec.{eqb, leb}
-use borrow.Author.Tests.{le-leb, lt-leb, leb-true, eq-eqb, ne-eqb}
+use borrow.Author.Tests.{le-leb, lt-leb, leb-true, eq-eqb, ne-eqb, eqb-false}
 use Rattle.model.specs.declared.Asked.the-variants as asks
+use Rattle.model.specs.declared.FieldFound.{FieldFound}
 use Rattle.model.specs.declared.FieldFound.the-variants as field
+use Rattle.model.specs.declared.BodiesFound.{BodiesFound}
 use Rattle.model.specs.declared.BodiesFound.the-variants as bodies
 use Rattle.model.specs.declared.SizeFound.the-variants as size
 use Rattle.model.specs.Checks.{refusal, byRefusal, checked}
@@ -102,9 +104,9 @@ pub record FieldThere (s : List ℕ) (tag size : ℕ) : Type 0 where
   pub size-is : size ≡ bodyLength s
   pub fits : 3 + size ≤ length s
 
-pub field-there : (s : List ℕ) (tag size : ℕ) → fieldFound (field.Field tag size) ≡ fieldAnswer s → FieldThere s tag size
+pub field-there : {s : List ℕ} {r : FieldFound} {tag size : ℕ} → r ≡ field.Field tag size → fieldFound r ≡ fieldAnswer s → FieldThere s tag size
 unfolding fieldFound fieldAnswer accept refuse
-field-there s tag size = by-test (startsWithField s) refl
+field-there {s} {r} {tag} {size} told said = by-test (startsWithField s) refl (ap fieldFound (sym told) ∙ said)
   where
     by-test : (b : Bool) → startsWithField s ≡ b → accept (tag ∷ size ∷ []) ≡ cond b (accept (getD s 0 0 ∷ bodyLength s ∷ [])) (refuse 0) → FieldThere s tag size
     by-test true e a =
@@ -113,9 +115,9 @@ field-there s tag size = by-test (startsWithField s) refl
         record { starts = e; tag-is = cc; size-is = z; fits = omega (arith, field-fits s e) }
     by-test false e a = absurd (true≢false (ap (λ (x : Answer). x .accepted) a))
 
-pub field-none : (s : List ℕ) → fieldFound field.Nothing ≡ fieldAnswer s → startsWithField s ≡ false
+pub field-none : (s : List ℕ) {r : FieldFound} → r ≡ field.Nothing → fieldFound r ≡ fieldAnswer s → startsWithField s ≡ false
 unfolding fieldFound fieldAnswer accept refuse
-field-none s = by-test (startsWithField s)
+field-none s told said = by-test (startsWithField s) (ap fieldFound (sym told) ∙ said)
   where
     by-test : (b : Bool) → refuse 0 ≡ cond b (accept (getD s 0 0 ∷ bodyLength s ∷ [])) (refuse 0) → b ≡ false
     by-test true a = absurd (false≢true (ap (λ (x : Answer). x .accepted) a))
@@ -253,70 +255,69 @@ body-of : (s : List ℕ) {fields : List Field} → fieldsOf s .fields ≡ fields
 unfolding bodyOf
 body-of s e i = ap (λ (x : List Field). getD {A = Field} x i (record { tag = 0; body = [] }) .body) e
 
--- how many fields there are, and which, as they are found one after the other
-module _ (s : List ℕ) where
-  count-next : (at tag size : ℕ) → FieldThere (drop at s) tag size → length (fieldsOf (drop at s) .fields) ≡ suc (length (fieldsOf (drop (at + 3 + size) s) .fields))
-  count-next at tag size f = ap length (fields-at s at tag size f)
+-- the fields that are found up to a place, one after the other
+pub record FieldsUpTo (s : List ℕ) (at : ℕ) (found : List Field) : Type 0 where
+  pub inside : at ≤ length s
+  pub split : fieldsOf s .fields ≡ found ++ fieldsOf (drop at s) .fields
 
-  count-none : (at : ℕ) → startsWithField (drop at s) ≡ false → length (fieldsOf (drop at s) .fields) ≡ 0
+abbrev pub fieldFrom : List ℕ → ℕ → ℕ → ℕ → Field
+fieldFrom s at tag size = record { tag = tag; body = take size (drop (at + 3) s) }
+
+pub fields-start : (s : List ℕ) → FieldsUpTo s 0 []
+fields-start s = record { inside = zero-le; split = refl }
+
+module _ {s : List ℕ} {at : ℕ} {found : List Field} (f : FieldsUpTo s at found) {r : FieldFound} where
+  pub fields-next : {tag size : ℕ} → r ≡ field.Field tag size → fieldFound r ≡ fieldAnswer (drop at s)
+      → FieldsUpTo s (at + 3 + size) (found ++ (fieldFrom s at tag size ∷ []))
+  fields-next {tag} {size} told said =
+      let there = field-there told said in
+      let behind = fieldsOf (drop (at + 3 + size) s) .fields in
+      record {
+        inside = field-inside s (f .inside) there;
+        split =
+            f .split ∙ ap (λ (x : List Field). found ++ x) (fields-at s at tag size there)
+            ∙ sym (append-assoc found (fieldFrom s at tag size ∷ []) behind);
+      }
+
+  fields-end : r ≡ field.Nothing → fieldFound r ≡ fieldAnswer (drop at s) → fieldsOf s .fields ≡ found
   unfolding noField
-  count-none at e = ap (λ (x : Fields). length (x .fields)) (fields-none (drop at s) e)
+  fields-end told said =
+      let none = fields-none (drop at s) (field-none (drop at s) told said) in
+      f .split ∙ ap (λ (x : Fields). found ++ x .fields) none ∙ append-nil found
 
-  pub no-field : startsWithField s ≡ false → bodiesFound (bodies.Refused 3) ≡ bodiesAnswer s
-  no-field e = number s 0 (count-none 0 e) (λ z. omega arith)
+  -- they are not three
+  pub not-three : r ≡ field.Nothing → fieldFound r ≡ fieldAnswer (drop at s) → eqb (length found) 3 ≡ false
+      → bodiesFound (bodies.Refused 3) ≡ bodiesAnswer s
+  not-three told said e = number s (length found) (ap length (fields-end told said)) (eqb-false (length found) 3 e)
 
-  module _ {first a : ℕ} (there : FieldThere s first a) where
-    pub one-field : startsWithField (drop (3 + a) s) ≡ false → bodiesFound (bodies.Refused 3) ≡ bodiesAnswer s
-    one-field e = number s 1 (count-next 0 first a there ∙ ap suc (count-none (3 + a) e)) (λ z. omega arith)
+  -- they have the wrong tags
+  pub three-wrong : r ≡ field.Nothing → fieldFound r ≡ fieldAnswer (drop at s) → rightTags (map (λ f. f .tag) found) ≡ false
+      → bodiesFound (bodies.Refused 3) ≡ bodiesAnswer s
+  unfolding tags-of
+  three-wrong told said t = wrong s (ap (λ (x : List Field). rightTags (tags-of x)) (fields-end told said) ∙ t)
 
-    module _ {second b : ℕ} (there2 : FieldThere (drop (3 + a) s) second b) where
-      pub two-fields : startsWithField (drop (3 + a + 3 + b) s) ≡ false → bodiesFound (bodies.Refused 3) ≡ bodiesAnswer s
-      two-fields e =
-          number s 2 (count-next 0 first a there ∙ ap suc (count-next (3 + a) second b there2 ∙ ap suc (count-none (3 + a + 3 + b) e))) (λ z. omega arith)
+-- there is a fourth
+pub too-many : {s : List ℕ} {at : ℕ} {f g h i : Field} → FieldsUpTo s at (f ∷ g ∷ h ∷ i ∷ []) → bodiesFound (bodies.Refused 3) ≡ bodiesAnswer s
+too-many {s} m = number s (length (fieldsOf s .fields)) refl (λ z. omega (arith, ap length (m .split)))
 
-      module _ {third c : ℕ} (there3 : FieldThere (drop (3 + a + 3 + b) s) third c) where
-        pub four-fields : {fourth d : ℕ} → FieldThere (drop (3 + a + 3 + b + 3 + c) s) fourth d → bodiesFound (bodies.Refused 3) ≡ bodiesAnswer s
-        four-fields {fourth} {d} there4 =
-            number s (length (fieldsOf s .fields)) refl
-            (λ z. omega (arith, count-next 0 first a there, count-next (3 + a) second b there2, count-next (3 + a + 3 + b) third c there3, count-next (3 + a + 3 + b + 3 + c) fourth d there4))
-
-        found : List Field
-        found =
-            record { tag = first; body = take a (drop 3 s) }
-            ∷ record { tag = second; body = take b (drop (3 + a + 3) s) }
-            ∷ record { tag = third; body = take c (drop (3 + a + 3 + b + 3) s) }
-            ∷ []
-
-        three : startsWithField (drop (3 + a + 3 + b + 3 + c) s) ≡ false → fieldsOf s .fields ≡ found
-        unfolding noField found
-        three e =
-            fields-at s 0 first a there
-            ∙ ap (λ (x : List Field). record { tag = first; body = take a (drop 3 s) } ∷ x)
-            (fields-at s (3 + a) second b there2
-            ∙ ap (λ (x : List Field). record { tag = second; body = take b (drop (3 + a + 3) s) } ∷ x)
-            (fields-at s (3 + a + 3 + b) third c there3
-            ∙ ap (λ (x : List Field). record { tag = third; body = take c (drop (3 + a + 3 + b + 3) s) } ∷ x)
-            (ap (λ (x : Fields). x .fields) (fields-none (drop (3 + a + 3 + b + 3 + c) s) e))))
-
-        pub three-wrong : startsWithField (drop (3 + a + 3 + b + 3 + c) s) ≡ false → rightTags (first ∷ second ∷ third ∷ []) ≡ false
-            → bodiesFound (bodies.Refused 3) ≡ bodiesAnswer s
-        unfolding tags-of found
-        three-wrong e t = wrong s (ap (λ (x : List Field). rightTags (tags-of x)) (three e) ∙ t)
-
-        pub three-right : startsWithField (drop (3 + a + 3 + b + 3 + c) s) ≡ false → rightTags (first ∷ second ∷ third ∷ []) ≡ true
-            → bodiesFound (bodies.Found a b c) ≡ bodiesAnswer s
-        unfolding tags-of found
-        three-right e t =
-            right s (ap (λ (x : List Field). rightTags (tags-of x)) (three e) ∙ t)
-            (sized 3 a (there .fits) ∙ ap length (sym (body-of s (three e) 0)))
-            (sized (3 + a + 3) b (field-inside s (there .fits) there2) ∙ ap length (sym (body-of s (three e) 1)))
-            (sized (3 + a + 3 + b + 3) c (field-inside s (field-inside s (there .fits) there2) there3) ∙ ap length (sym (body-of s (three e) 2)))
-          where
-            sized : (from size : ℕ) → from + size ≤ length s → size ≡ length (take size (drop from s))
-            sized from size h = sym (length-take-le size (drop from s) (omega (arith, length-drop from s)))
+-- three with the right tags
+pub three-right : {s : List ℕ} (a b c : ℕ) {first second third : ℕ} {r : FieldFound}
+    → FieldsUpTo s (3 + a + 3 + b + 3 + c) (fieldFrom s 0 first a ∷ fieldFrom s (3 + a) second b ∷ fieldFrom s (3 + a + 3 + b) third c ∷ [])
+    → r ≡ field.Nothing → fieldFound r ≡ fieldAnswer (drop (3 + a + 3 + b + 3 + c) s) → rightTags (first ∷ second ∷ third ∷ []) ≡ true
+    → bodiesFound (bodies.Found a b c) ≡ bodiesAnswer s
+unfolding tags-of
+three-right {s} a b c m told said t =
+    let all = fields-end m told said in
+    right s (ap (λ (x : List Field). rightTags (tags-of x)) all ∙ t)
+    (sized 3 a (omega (arith, m .inside)) ∙ ap length (sym (body-of s all 0)))
+    (sized (3 + a + 3) b (omega (arith, m .inside)) ∙ ap length (sym (body-of s all 1)))
+    (sized (3 + a + 3 + b + 3) c (m .inside) ∙ ap length (sym (body-of s all 2)))
+  where
+    sized : (from size : ℕ) → from + size ≤ length s → size ≡ length (take size (drop from s))
+    sized from size h = sym (length-take-le size (drop from s) (omega (arith, length-drop from s)))
 
 -- a part from a start to an end, by its size
-pub part-sized : (s : List ℕ) (start size : ℕ) → take (start + size - start) (drop start s) ≡ take size (drop start s)
+part-sized : (s : List ℕ) (start size : ℕ) → take (start + size - start) (drop start s) ≡ take size (drop start s)
 part-sized s start size = ap (λ (k : ℕ). take k (drop start s)) (add-sub-cancel-left start size)
 
 -- where the bodies stand
@@ -366,9 +367,9 @@ module _ (s : List ℕ) where
         inside = third .inside;
       })
 
-  pub bodies-at : (a b c : ℕ) → bodiesFound (bodies.Found a b c) ≡ bodiesAnswer s → BodiesAt s a b c
+  found-at : (a b c : ℕ) → bodiesFound (bodies.Found a b c) ≡ bodiesAnswer s → BodiesAt s a b c
   unfolding bodiesAnswer chartChecks answer checked byRefusal refusal bodiesFound rightTags tags-of accept refuse
-  bodies-at a b c = by-test (rightTags (tags-of (fieldsOf s .fields))) refl
+  found-at a b c = by-test (rightTags (tags-of (fieldsOf s .fields))) refl
     where
       by-test : (t : Bool) → rightTags (tags-of (fieldsOf s .fields)) ≡ t
           → accept (a ∷ b ∷ c ∷ []) ≡ byRefusal (cond t 0 3) (accept (length (bodyOf s 0) ∷ length (bodyOf s 1) ∷ length (bodyOf s 2) ∷ [])) refuse
@@ -380,6 +381,20 @@ module _ (s : List ℕ) where
           let r : c ≡ length (bodyOf s 2) = cc in
           rw (p, q, r) (standing (three-fields (fieldsOf s .fields) (three-tags (fieldsOf s .fields) e)) refl e)
       by-test false e x = absurd (true≢false (ap (λ (y : Answer). y .accepted) x))
+
+pub bodies-at : {s : List ℕ} {r : BodiesFound} {a b c : ℕ} → r ≡ bodies.Found a b c → bodiesFound r ≡ bodiesAnswer s → BodiesAt s a b c
+bodies-at {s} {r} {a} {b} {c} told said = found-at s a b c (ap bodiesFound (sym told) ∙ said)
+
+-- the parts of the input that are the bodies
+module _ {s : List ℕ} {a b c : ℕ} (at : BodiesAt s a b c) where
+  pub size-part : take (3 + a - 3) (drop 3 s) ≡ bodyOf s 0
+  size-part = part-sized s 3 a ∙ sym (at .size-body)
+
+  pub links-part : take (3 + a + 3 + b - (3 + a + 3)) (drop (3 + a + 3) s) ≡ bodyOf s 1
+  links-part = part-sized s (3 + a + 3) b ∙ sym (at .links-body)
+
+  pub order-part : take (3 + a + 3 + b + 3 + c - (3 + a + 3 + b + 3)) (drop (3 + a + 3 + b + 3) s) ≡ bodyOf s 2
+  order-part = part-sized s (3 + a + 3 + b + 3) c ∙ sym (at .order-body)
 
 -- ---- question 4
 

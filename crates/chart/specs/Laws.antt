@@ -112,7 +112,7 @@ same-words es fs h =
     adjacency-ext (adjacencyOf es) fs (adjacency-length es) (adjacency-lt es)
     (λ u v a b. adjacency-bit es u v a b ∙ ap one (joins-member u v es ∙ h (edge u v) ∙ sym (joins-member u v fs)))
 
-same-layouts : (s t : List ℕ) → chartSize s ≡ chartSize t → chartOrder s ≡ chartOrder t → adjacencyOf (chartEdges s) ≡ adjacencyOf (chartEdges t)
+pub same-layouts : (s t : List ℕ) → chartSize s ≡ chartSize t → chartOrder s ≡ chartOrder t → adjacencyOf (chartEdges s) ≡ adjacencyOf (chartEdges t)
     → chartLayout s ≡ chartLayout t
 unfolding chartLayout
 same-layouts s t sizes orders words = rw (sizes, orders, words)

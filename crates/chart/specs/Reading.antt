@@ -11,13 +11,19 @@ use lib.Dec.{T, eqb, leb, lit<}
 use lib.Arith.{lt-one}
 use borrow.Author.Tests.{leb-true, eqb-true}
 use Rattle.model.specs.declared.ChartRead.{ChartRead}
+use Rattle.model.specs.declared.Asked.{Asked}
+use Rattle.model.specs.declared.Asked.the-variants as asks
+use Rattle.model.specs.declared.BodiesFound.{BodiesFound}
+use Rattle.model.specs.declared.BodiesFound.the-variants as bodies
+use Rattle.model.specs.declared.SizeFound.{SizeFound}
+use Rattle.model.specs.declared.SizeFound.the-variants as size
 use Rattle.model.specs.declared.Layout.{Layout}
 use Rattle.model.specs.Lists.{one, every, any}
 use Rattle.model.specs.Crossings.{linked, crossings}
 use Rattle.model.specs.Layouts.{emptyLayout, vertexOrder, crossingsOf, eachOnce, valid}
 use Rattle.model.specs.Checks.{Check, refusal, byRefusal, checked}
 use Rattle.model.specs.Charts.{bodyOf, chartSize, chartEdges, chartOrder, edgesIn, edgeWithin, joins, chartChecks, chartLayout, readOf}
-use Rattle.model.specs.Charts.{Answer, accept, refuse, answer, divisionAnswer, bodiesAnswer, sizeChecks, sizeAnswer, endChecks, repeatChecks, placeChecks}
+use Rattle.model.specs.Charts.{Answer, accept, refuse, asked, bodiesFound, sizeFound, answer, divisionAnswer, bodiesAnswer, sizeChecks, sizeAnswer, endChecks, repeatChecks, placeChecks}
 use Rattle.laws.specs.Sums.Lists.{All, none, also}
 use Rattle.laws.specs.Orders.Permutations.{Permutation}
 use Rattle.laws.specs.Sums.Pairs.{Symmetric}
@@ -49,8 +55,8 @@ checked-append {A} (also {x} {xs} p ps) ys a f = by-test (x .passes) (checked-ap
     by-test false e = same-number (x .code) p (checked ys a f)
 
 -- what an answer says of the questions of its pass
-module _ (cs : List Check) (values : List ℕ) (a : Answer) where
-  pub answer-accepted : a ≡ answer cs values → a .accepted ≡ true → (refusal cs ≡ 0) × (a .values ≡ values)
+module _ (cs : List Check) (values : List ℕ) {a : Answer} where
+  answer-accepted : a ≡ answer cs values → a .accepted ≡ true → (refusal cs ≡ 0) × (a .values ≡ values)
   unfolding answer checked byRefusal accept refuse
   answer-accepted e t = by-number (refusal cs) e
     where
@@ -58,7 +64,7 @@ module _ (cs : List Check) (values : List ℕ) (a : Answer) where
       by-number zero z = (refl, ap (λ (x : Answer). x .values) z)
       by-number (suc k) z = absurd (false≢true (sym (ap (λ (x : Answer). x .accepted) z) ∙ t))
 
-  pub answer-refused : {A : Type 0} → a ≡ answer cs values → a .accepted ≡ false → (x : A) (f : ℕ → A) → byRefusal (refusal cs) x f ≡ f (a .code)
+  answer-refused : {A : Type 0} → a ≡ answer cs values → a .accepted ≡ false → (x : A) (f : ℕ → A) → byRefusal (refusal cs) x f ≡ f (a .code)
   unfolding answer checked byRefusal accept refuse
   answer-refused {A} e t x f = by-number (refusal cs) e
     where
@@ -144,36 +150,38 @@ module _ {n : ℕ} {links o : List ℕ} (a : Accepted n links o) where
       joined : ℕ → ℕ → Bool
       joined u v = any (joins u v) (edgesIn links)
 
--- ---- the passes together
+-- ---- a pass, and what follows it
 
 unfoldable pub refusedRead : ℕ → ChartRead
 refusedRead r = record { refusal = r; layout = emptyLayout }
 
--- what is read once the number of vertices is known
-unfoldable pub readBodies : ℕ → List ℕ → List ℕ → ChartRead
-readBodies n links o =
-    checked (endChecks n links ++ (repeatChecks links ++ placeChecks n o)) (record { refusal = 0; layout = layoutFrom n links o }) refusedRead
+abbrev acceptedRead : Layout → ChartRead
+acceptedRead l = record { refusal = 0; layout = l }
 
--- a pass, and what follows it
-module _ {xs : List Check} (m : Numbered xs) (values : List ℕ) (a : Answer) (e : a ≡ answer xs values) (ys : List Check) (x : ChartRead) where
-  pub pass-accepted : a .accepted ≡ true → checked (xs ++ ys) x refusedRead ≡ checked ys x refusedRead
+-- the questions of a pass, the others, and what is answered where all pass
+module _ {xs : List Check} (m : Numbered xs) (values : List ℕ) (ys : List Check) (x : ChartRead) {a : Answer} where
+  pass-accepted : a ≡ answer xs values → a .accepted ≡ true → checked ys x refusedRead ≡ checked (xs ++ ys) x refusedRead
   unfolding byRefusal
-  pass-accepted t = checked-append m ys x refusedRead ∙ ap (λ (k : ℕ). byRefusal k (checked ys x refusedRead) refusedRead) (answer-accepted xs values a e t .0)
+  pass-accepted e t =
+      sym
+      (checked-append m ys x refusedRead
+      ∙ ap (λ (k : ℕ). byRefusal k (checked ys x refusedRead) refusedRead) (answer-accepted xs values e t .0))
 
-  pub pass-refused : a .accepted ≡ false → checked (xs ++ ys) x refusedRead ≡ refusedRead (a .code)
-  pass-refused t = checked-append m ys x refusedRead ∙ answer-refused xs values a e t (checked ys x refusedRead) refusedRead
+  pass-refused : a ≡ answer xs values → a .accepted ≡ false → refusedRead (a .code) ≡ checked (xs ++ ys) x refusedRead
+  pass-refused e t = sym (checked-append m ys x refusedRead ∙ answer-refused xs values e t (checked ys x refusedRead) refusedRead)
 
-ends-numbered : (n : ℕ) (links : List ℕ) → Numbered (endChecks n links)
-unfolding endChecks
-ends-numbered n links = also (lit< tt) (also (lit< tt) none)
+-- of a pass that finds nothing but its answer
+pub asked-passed : {r : Asked} → r ≡ asks.Passed → asked r .accepted ≡ true
+unfolding asked accept
+asked-passed told = ap (λ (y : Asked). asked y .accepted) told
 
-repeats-numbered : (links : List ℕ) → Numbered (repeatChecks links)
-unfolding repeatChecks
-repeats-numbered links = also (lit< tt) none
+module _ {xs : List Check} (m : Numbered xs) (ys : List Check) (x : ChartRead) {r : Asked} where
+  asked-on : r ≡ asks.Passed → asked r ≡ answer xs [] → checked ys x refusedRead ≡ checked (xs ++ ys) x refusedRead
+  asked-on told said = pass-accepted m [] ys x said (asked-passed told)
 
-places-numbered : (n : ℕ) (o : List ℕ) → Numbered (placeChecks n o)
-unfolding placeChecks
-places-numbered n o = also (lit< tt) none
+  asked-back : {k : ℕ} → r ≡ asks.Refused k → asked r ≡ answer xs [] → refusedRead k ≡ checked (xs ++ ys) x refusedRead
+  unfolding asked refuse
+  asked-back told said = pass-refused m [] ys x (ap asked (sym told) ∙ said) refl
 
 -- the last of the questions passes
 last-passes : {c : Check} → All (λ c. c .passes ≡ true) (c ∷ []) → c .passes ≡ true
@@ -182,9 +190,18 @@ last-passes (also p none) = p
 second-passes : {c d : Check} → All (λ c. c .passes ≡ true) (c ∷ d ∷ []) → d .passes ≡ true
 second-passes (also p (also q none)) = q
 
-ends-pass : (n : ℕ) (links : List ℕ) → refusal (endChecks n links) ≡ 0 → every (edgeWithin n) (edgesIn links) ≡ true
-unfolding endChecks
-ends-pass n links z = second-passes (all-pass (ends-numbered n links) z)
+-- ---- question 8
+
+-- what is read once the words are known
+unfoldable pub readOrder : ℕ → List ℕ → List ℕ → ChartRead
+readOrder n adj o =
+    checked (placeChecks n o)
+    (acceptedRead (record { n = n; order = padded o; adjacency = adj; count = cond (leb n 64) (countOn n (padded o) adj) 0 }))
+    refusedRead
+
+places-numbered : (n : ℕ) (o : List ℕ) → Numbered (placeChecks n o)
+unfolding placeChecks
+places-numbered n o = also (lit< tt) none
 
 places-pass : (n : ℕ) (o : List ℕ) → refusal (placeChecks n o) ≡ 0 → (length o ≡ n) × (eachOnce n o ≡ true)
 unfolding placeChecks
@@ -192,123 +209,154 @@ places-pass n o z =
     let both = last-passes (all-pass (places-numbered n o) z) in
     (eqb-true (length o) n (both-left (eqb (length o) n) (eachOnce n o) both), both-right (eqb (length o) n) (eachOnce n o) both)
 
--- the passes over the bodies, one after the other
-module _ (n : ℕ) (links o : List ℕ) (within : Answer) (e : within ≡ answer (endChecks n links) []) where
-  pub read-outside : within .accepted ≡ false → readBodies n links o ≡ refusedRead (within .code)
-  unfolding readBodies
-  read-outside t =
-      pass-refused (ends-numbered n links) [] within e (repeatChecks links ++ placeChecks n o) (record { refusal = 0; layout = layoutFrom n links o }) t
+module _ (n : ℕ) (o : List ℕ) {r : Asked} where
+  pub order-long : r ≡ asks.Passed → asked r ≡ answer (placeChecks n o) [] → length o ≡ n
+  order-long told said = places-pass n o (answer-accepted (placeChecks n o) [] said (asked-passed told) .0) .0
 
-  module _ (t : within .accepted ≡ true) where
-    pub ends-below : every (edgeWithin n) (edgesIn links) ≡ true
-    ends-below = ends-pass n links (answer-accepted (endChecks n links) [] within e t .0)
+  pub read-misplaced : (adj : List ℕ) {k : ℕ} → r ≡ asks.Refused k → asked r ≡ answer (placeChecks n o) [] → refusedRead k ≡ readOrder n adj o
+  unfolding placeChecks readOrder
+  read-misplaced adj told said = asked-back (places-numbered n o) [] _ told said
 
-    after-ends : readBodies n links o ≡ checked (repeatChecks links ++ placeChecks n o) (record { refusal = 0; layout = layoutFrom n links o }) refusedRead
+  pub read-placed : {adj order : List ℕ} {count : ℕ} → r ≡ asks.Passed → asked r ≡ answer (placeChecks n o) [] → order ≡ padded o
+      → count ≡ cond (leb n 64) (countOn n order adj) 0
+      → acceptedRead (record { n = n; order = order; adjacency = adj; count = count }) ≡ readOrder n adj o
+  unfolding placeChecks readOrder checked byRefusal refusal
+  read-placed {adj} told said p q =
+      let l : Layout = record { n = n; order = padded o; adjacency = adj; count = cond (leb n 64) (countOn n (padded o) adj) 0 } in
+      rw (q, p) (asked-on (places-numbered n o) [] (acceptedRead l) told said)
+
+-- ---- question 7
+
+-- what is read once the ends are known to be right
+unfoldable pub readEdges : ℕ → List ℕ → List ℕ → ChartRead
+readEdges n links o = checked (repeatChecks links ++ placeChecks n o) (acceptedRead (layoutFrom n links o)) refusedRead
+
+repeats-numbered : (links : List ℕ) → Numbered (repeatChecks links)
+unfolding repeatChecks
+repeats-numbered links = also (lit< tt) none
+
+-- two answers that are the same where all questions pass
+same-checked : (cs : List Check) {x y : ChartRead} → (refusal cs ≡ 0 → x ≡ y) → checked cs x refusedRead ≡ checked cs y refusedRead
+unfolding checked byRefusal
+same-checked cs {x} {y} h = by-number (refusal cs) h
+  where
+    by-number : (k : ℕ) → (k ≡ 0 → x ≡ y) → byRefusal k x refusedRead ≡ byRefusal k y refusedRead
+    by-number zero e = e refl
+    by-number (suc k) e = refl
+
+module _ (n : ℕ) (links o : List ℕ) {r : Asked} where
+  pub read-repeated : {k : ℕ} → r ≡ asks.Refused k → asked r ≡ answer (repeatChecks links) [] → refusedRead k ≡ readEdges n links o
+  unfolding readEdges
+  read-repeated told said = asked-back (repeats-numbered links) (placeChecks n o) _ told said
+
+  pub read-once : n ≤ 64 → every (edgeWithin n) (edgesIn links) ≡ true → r ≡ asks.Passed → asked r ≡ answer (repeatChecks links) []
+      → {adj : List ℕ} → adj ≡ adjacencyOf (edgesIn links) → readOrder n adj o ≡ readEdges n links o
+  unfolding readEdges readOrder layoutFrom
+  read-once few within told said words =
+      rw words (same-checked (placeChecks n o) (λ z. ap counted-as (count-read (accepted z))))
+      ∙ asked-on (repeats-numbered links) (placeChecks n o) (acceptedRead (layoutFrom n links o)) told said
+    where
+      counted-as : ℕ → ChartRead
+      counted-as k = acceptedRead (record { n = n; order = padded o; adjacency = adjacencyOf (edgesIn links); count = k })
+
+      accepted : refusal (placeChecks n o) ≡ 0 → Accepted n links o
+      accepted z = let p = places-pass n o z in record { few = few; within = within; long = p .0; each = p .1 }
+
+-- ---- questions 5 and 6
+
+-- what is read once the number of vertices is known
+unfoldable pub readBodies : ℕ → List ℕ → List ℕ → ChartRead
+readBodies n links o = checked (endChecks n links ++ (repeatChecks links ++ placeChecks n o)) (acceptedRead (layoutFrom n links o)) refusedRead
+
+ends-numbered : (n : ℕ) (links : List ℕ) → Numbered (endChecks n links)
+unfolding endChecks
+ends-numbered n links = also (lit< tt) (also (lit< tt) none)
+
+ends-pass : (n : ℕ) (links : List ℕ) → refusal (endChecks n links) ≡ 0 → every (edgeWithin n) (edgesIn links) ≡ true
+unfolding endChecks
+ends-pass n links z = second-passes (all-pass (ends-numbered n links) z)
+
+module _ (n : ℕ) (links : List ℕ) {r : Asked} where
+  pub ends-below : r ≡ asks.Passed → asked r ≡ answer (endChecks n links) [] → every (edgeWithin n) (edgesIn links) ≡ true
+  ends-below told said = ends-pass n links (answer-accepted (endChecks n links) [] said (asked-passed told) .0)
+
+  module _ (o : List ℕ) where
+    pub read-outside : {k : ℕ} → r ≡ asks.Refused k → asked r ≡ answer (endChecks n links) [] → refusedRead k ≡ readBodies n links o
     unfolding readBodies
-    after-ends = pass-accepted (ends-numbered n links) [] within e (repeatChecks links ++ placeChecks n o) (record { refusal = 0; layout = layoutFrom n links o }) t
+    read-outside told said = asked-back (ends-numbered n links) _ _ told said
 
-    module _ (different : Answer) (f : different ≡ answer (repeatChecks links) []) where
-      pub read-repeated : different .accepted ≡ false → readBodies n links o ≡ refusedRead (different .code)
-      read-repeated u =
-          after-ends ∙ pass-refused (repeats-numbered links) [] different f (placeChecks n o) (record { refusal = 0; layout = layoutFrom n links o }) u
+    pub read-within : r ≡ asks.Passed → asked r ≡ answer (endChecks n links) [] → readEdges n links o ≡ readBodies n links o
+    unfolding readBodies readEdges
+    read-within told said = asked-on (ends-numbered n links) _ _ told said
 
-      module _ (u : different .accepted ≡ true) (once : Answer) (g : once ≡ answer (placeChecks n o) []) where
-        after-repeats : readBodies n links o ≡ checked (placeChecks n o) (record { refusal = 0; layout = layoutFrom n links o }) refusedRead
-        after-repeats =
-            after-ends ∙ pass-accepted (repeats-numbered links) [] different f (placeChecks n o) (record { refusal = 0; layout = layoutFrom n links o }) u
+-- ---- questions 1 to 4
 
-        pub read-misplaced : once .accepted ≡ false → readBodies n links o ≡ refusedRead (once .code)
-        unfolding checked
-        read-misplaced v =
-            after-repeats ∙ answer-refused (placeChecks n o) [] once g v (record { refusal = 0; layout = layoutFrom n links o }) refusedRead
+-- what an accepted chart gives is made of the bodies
+abbrev chartRead : List ℕ → ChartRead
+chartRead s = acceptedRead (layoutFrom (chartSize s) (bodyOf s 1) (bodyOf s 2))
 
-        module _ (v : once .accepted ≡ true) where
-          pub order-long : length o ≡ n
-          order-long = places-pass n o (answer-accepted (placeChecks n o) [] once g v .0) .0
+-- what is read from question 3 on, and from question 4 on
+unfoldable pub readDivided : List ℕ → ChartRead
+readDivided s = checked (drop 2 (chartChecks s)) (chartRead s) refusedRead
 
-          pub read-accepted : n ≤ 64 → {order adjacency : List ℕ} {count : ℕ} → order ≡ padded o → adjacency ≡ adjacencyOf (edgesIn links)
-              → count ≡ cond (leb n 64) (countOn n order adjacency) 0
-              → readBodies n links o ≡ record { refusal = 0; layout = record { n = n; order = order; adjacency = adjacency; count = count } }
-          unfolding checked byRefusal layoutFrom
-          read-accepted few p q r =
-              let passed = answer-accepted (placeChecks n o) [] once g v .0 in
-              let accepted : Accepted n links o = record { few = few; within = ends-below; long = order-long; each = places-pass n o passed .1 } in
-              after-repeats
-              ∙ ap (λ (k : ℕ). byRefusal k (record { refusal = 0; layout = layoutFrom n links o }) refusedRead) passed
-              ∙ rw (r, p, q)
-              (ap (λ (k : ℕ). record { refusal = 0; layout = record { n = n; order = padded o; adjacency = adjacencyOf (edgesIn links); count = k } }) (sym (count-read accepted)))
+unfoldable pub readFields : List ℕ → ChartRead
+readFields s = checked (drop 3 (chartChecks s)) (chartRead s) refusedRead
 
--- ---- the whole chart
+module _ (s : List ℕ) where
+  division-numbered : Numbered (take 2 (chartChecks s))
+  unfolding chartChecks
+  division-numbered = also (lit< tt) (also (lit< tt) none)
 
--- the questions of document 01, pass by pass
-unfoldable pub bodyChecks : List ℕ → List Check
-bodyChecks s = endChecks (chartSize s) (bodyOf s 1) ++ (repeatChecks (bodyOf s 1) ++ placeChecks (chartSize s) (bodyOf s 2))
+  tags-numbered : Numbered (take 1 (drop 2 (chartChecks s)))
+  unfolding chartChecks
+  tags-numbered = also (lit< tt) none
 
-pub checks-by-pass : (s : List ℕ) → chartChecks s ≡ take 2 (chartChecks s) ++ (take 1 (drop 2 (chartChecks s)) ++ (sizeChecks (bodyOf s 0) ++ bodyChecks s))
-unfolding chartChecks sizeChecks endChecks repeatChecks placeChecks bodyChecks chartSize chartEdges chartOrder
-checks-by-pass s = refl
+  size-numbered : Numbered (sizeChecks (bodyOf s 0))
+  unfolding sizeChecks
+  size-numbered = also (lit< tt) none
 
--- what is accepted is made of the bodies
-accepted-read : List ℕ → ChartRead
-accepted-read s = record { refusal = 0; layout = layoutFrom (chartSize s) (bodyOf s 1) (bodyOf s 2) }
+  pub read-undivided : {r : Asked} {k : ℕ} → r ≡ asks.Refused k → asked r ≡ divisionAnswer s → refusedRead k ≡ readOf s
+  unfolding readOf divisionAnswer chartChecks chartLayout layoutFrom refusedRead chartEdges chartOrder
+  read-undivided told said = asked-back division-numbered (drop 2 (chartChecks s)) (chartRead s) told said
 
-read-by-pass : (s : List ℕ)
-    → readOf s ≡ checked (take 2 (chartChecks s) ++ (take 1 (drop 2 (chartChecks s)) ++ (sizeChecks (bodyOf s 0) ++ bodyChecks s))) (accepted-read s) refusedRead
-unfolding readOf chartLayout layoutFrom accepted-read refusedRead chartEdges chartOrder
-read-by-pass s = ap (λ (cs : List Check). checked cs (accepted-read s) refusedRead) (checks-by-pass s)
+  pub read-divided : {r : Asked} → r ≡ asks.Passed → asked r ≡ divisionAnswer s → readDivided s ≡ readOf s
+  unfolding readOf readDivided divisionAnswer chartChecks chartLayout layoutFrom refusedRead chartEdges chartOrder
+  read-divided told said = asked-on division-numbered (drop 2 (chartChecks s)) (chartRead s) told said
 
-division-numbered : (s : List ℕ) → Numbered (take 2 (chartChecks s))
-unfolding chartChecks
-division-numbered s = also (lit< tt) (also (lit< tt) none)
+  lengths : List ℕ
+  lengths = length (bodyOf s 0) ∷ length (bodyOf s 1) ∷ length (bodyOf s 2) ∷ []
 
-tags-numbered : (s : List ℕ) → Numbered (take 1 (drop 2 (chartChecks s)))
-unfolding chartChecks
-tags-numbered s = also (lit< tt) none
+  pub read-untagged : {r : BodiesFound} {k : ℕ} → r ≡ bodies.Refused k → bodiesFound r ≡ bodiesAnswer s → refusedRead k ≡ readDivided s
+  unfolding readDivided bodiesAnswer chartChecks bodiesFound refuse lengths
+  read-untagged told said = pass-refused tags-numbered lengths (drop 3 (chartChecks s)) (chartRead s) (ap bodiesFound (sym told) ∙ said) refl
 
-size-numbered : (body : List ℕ) → Numbered (sizeChecks body)
-unfolding sizeChecks
-size-numbered body = also (lit< tt) none
+  pub read-tagged : {r : BodiesFound} {a b c : ℕ} → r ≡ bodies.Found a b c → bodiesFound r ≡ bodiesAnswer s → readFields s ≡ readDivided s
+  unfolding readDivided readFields bodiesAnswer chartChecks bodiesFound accept lengths
+  read-tagged told said = pass-accepted tags-numbered lengths (drop 3 (chartChecks s)) (chartRead s) (ap bodiesFound (sym told) ∙ said) refl
 
-module _ (s : List ℕ) (divided : Answer) (e : divided ≡ divisionAnswer s) where
-  pub read-undivided : divided .accepted ≡ false → readOf s ≡ refusedRead (divided .code)
-  unfolding divisionAnswer
-  read-undivided t =
-      read-by-pass s ∙ pass-refused (division-numbered s) [] divided e (take 1 (drop 2 (chartChecks s)) ++ (sizeChecks (bodyOf s 0) ++ bodyChecks s)) (accepted-read s) t
+  value : List ℕ
+  value = chartSize s ∷ []
 
-  module _ (t : divided .accepted ≡ true) (found : Answer) (f : found ≡ bodiesAnswer s) where
-    after-division : readOf s ≡ checked (take 1 (drop 2 (chartChecks s)) ++ (sizeChecks (bodyOf s 0) ++ bodyChecks s)) (accepted-read s) refusedRead
-    unfolding divisionAnswer
-    after-division =
-        read-by-pass s ∙ pass-accepted (division-numbered s) [] divided e (take 1 (drop 2 (chartChecks s)) ++ (sizeChecks (bodyOf s 0) ++ bodyChecks s)) (accepted-read s) t
+  rest : List Check
+  rest = endChecks (chartSize s) (bodyOf s 1) ++ (repeatChecks (bodyOf s 1) ++ placeChecks (chartSize s) (bodyOf s 2))
 
-    lengths : List ℕ
-    lengths = length (bodyOf s 0) ∷ length (bodyOf s 1) ∷ length (bodyOf s 2) ∷ []
+  pub read-missized : {r : SizeFound} {k : ℕ} → r ≡ size.Refused k → sizeFound r ≡ sizeAnswer (bodyOf s 0) → refusedRead k ≡ readFields s
+  unfolding readFields sizeAnswer chartChecks chartSize chartOrder sizeFound refuse value rest sizeChecks placeChecks endChecks
+  read-missized told said = pass-refused size-numbered value rest (chartRead s) (ap sizeFound (sym told) ∙ said) refl
 
-    pub read-untagged : found .accepted ≡ false → readOf s ≡ refusedRead (found .code)
-    unfolding bodiesAnswer lengths
-    read-untagged u = after-division ∙ pass-refused (tags-numbered s) lengths found f (sizeChecks (bodyOf s 0) ++ bodyChecks s) (accepted-read s) u
+-- question 4 answered n
+pub record SizeRead (s : List ℕ) (n : ℕ) : Type 0 where
+  pub small : n ≤ 64
+  pub left : readBodies n (bodyOf s 1) (bodyOf s 2) ≡ readFields s
 
-    module _ (u : found .accepted ≡ true) (size : Answer) (g : size ≡ sizeAnswer (bodyOf s 0)) where
-      after-tags : readOf s ≡ checked (sizeChecks (bodyOf s 0) ++ bodyChecks s) (accepted-read s) refusedRead
-      unfolding bodiesAnswer lengths
-      after-tags = after-division ∙ pass-accepted (tags-numbered s) lengths found f (sizeChecks (bodyOf s 0) ++ bodyChecks s) (accepted-read s) u
-
-      pub read-missized : size .accepted ≡ false → readOf s ≡ refusedRead (size .code)
-      unfolding sizeAnswer
-      read-missized v = after-tags ∙ pass-refused (size-numbered (bodyOf s 0)) (getD (bodyOf s 0) 0 0 ∷ []) size g (bodyChecks s) (accepted-read s) v
-
-      module _ (v : size .accepted ≡ true) where
-        pub size-value : size .values ≡ chartSize s ∷ []
-        unfolding sizeAnswer chartSize
-        size-value = answer-accepted (sizeChecks (bodyOf s 0)) (getD (bodyOf s 0) 0 0 ∷ []) size g v .1
-
-        pub size-small : chartSize s ≤ 64
-        unfolding sizeAnswer sizeChecks chartSize
-        size-small =
-            leb-true (chartSize s) 64
-            (both-right (eqb (length (bodyOf s 0)) 1) (leb (chartSize s) 64)
-            (last-passes (all-pass (size-numbered (bodyOf s 0)) (answer-accepted (sizeChecks (bodyOf s 0)) (getD (bodyOf s 0) 0 0 ∷ []) size g v .0))))
-
-        pub read-rest : readOf s ≡ readBodies (chartSize s) (bodyOf s 1) (bodyOf s 2)
-        unfolding sizeAnswer readBodies bodyChecks accepted-read
-        read-rest = after-tags ∙ pass-accepted (size-numbered (bodyOf s 0)) (getD (bodyOf s 0) 0 0 ∷ []) size g (bodyChecks s) (accepted-read s) v
+pub size-read : {s : List ℕ} {r : SizeFound} {n : ℕ} → r ≡ size.Found n → sizeFound r ≡ sizeAnswer (bodyOf s 0) → SizeRead s n
+unfolding readFields readBodies sizeAnswer sizeChecks chartChecks chartSize chartOrder sizeFound accept value rest endChecks placeChecks repeatChecks
+size-read {s} {r} {n} told said =
+    let size-said : sizeFound (size.Found n) ≡ sizeAnswer (bodyOf s 0) = ap sizeFound (sym told) ∙ said in
+    let passed = answer-accepted (sizeChecks (bodyOf s 0)) (value s) size-said refl in
+    let is : n ≡ chartSize s = ap (λ (x : List ℕ). getD x 0 0) (passed .1) in
+    let both = last-passes (all-pass (size-numbered s) (passed .0)) in
+    record {
+      small = rw is (leb-true (chartSize s) 64 (both-right (eqb (length (bodyOf s 0)) 1) (leb (chartSize s) 64) both));
+      left = rw is (pass-accepted (size-numbered s) (value s) (rest s) (chartRead s) size-said refl);
+    }

@@ -5,9 +5,9 @@ ghost use mathlib.Core.List.{[]};
 ghost use Prim.Native.Nat.{_≤_};
 ghost use lib.ListN.{length, replicate};
 ghost use Rattle.model.specs.Charts.{asked, answer, placeChecks};
-ghost use Rattle.chart.specs.Order.{vertexSet, padded};
+ghost use Rattle.chart.specs.Order.{padded};
 
-// Question 8: n bytes that hold each vertex once. Where n bytes hold every vertex, each is there once.
+// Question 8: n bytes that hold each vertex once.
 pub(crate) fn ask_order(n: usize, body: &[u8]) -> Asked
     requires { ⌜ n ≤ 64 ⌝ }
     ensures { λ r. ⌜ asked r ≡ answer (placeChecks n (now (body .entry))) [] ⌝ }
@@ -15,24 +15,11 @@ pub(crate) fn ask_order(n: usize, body: &[u8]) -> Asked
     if body.len() != n {
         return Asked::Refused(8);
     }
-    if vertices_in(body) == words::low_bits(n) {
+    if validity::is_order(n, body) {
         Asked::Passed
     } else {
         Asked::Refused(8)
     }
-}
-
-// The bytes below 64 as bits of a word.
-fn vertices_in(body: &[u8]) -> u64
-    ensures { λ r. ⌜ r ≡ vertexSet (now (body .entry)) ⌝ }
-{
-    let mut found: u64 = 0;
-    let mut i = 0;
-    while i < body.len() {
-        found = words::set(found, body[i] as usize);
-        i += 1;
-    }
-    found
 }
 
 // The body goes into the first places of an empty order.

@@ -174,6 +174,12 @@ module _ {n : ℕ} {xs : List ℕ} where
           (all-one n (λ u. occurrences u (take n xs)) (λ u m. rw (count u) (le-of-suc-le-suc (bit-lt seen u))) total v b))
           tt
 
+  -- there are not n places
+  pub too-short : length xs < n → false ≡ eachOnce n (take n xs)
+  too-short h =
+      let short : length (take n xs) ≤ n = omega (arith, length-take n xs) in
+      sym (not-T-false (eachOnce n (take n xs)) (λ t. omega (arith, length-take n xs, each-once n (take n xs) short t .size)))
+
   -- a place holds no vertex
   pub not-a-vertex : {seen p : ℕ} → n ≤ length xs → SeenUpTo n xs seen p → p < n → n ≤ at xs p → false ≡ eachOnce n (take n xs)
   not-a-vertex {p = p} h s l m =

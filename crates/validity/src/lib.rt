@@ -4,4 +4,5 @@ mod validity;
 
 pub use checks::pair_refusal;
 pub use checks::vertex_refusal;
+pub use validity::is_order;
 pub use validity::is_valid;

@@ -53,9 +53,22 @@ fn words_valid(n: usize, adjacency: &[u64]) -> bool
     zero_words_from(n, adjacency)
 }
 
-// Does the order hold each vertex once?
+// Are n vertices few enough, and do the first n bytes hold each of them once?
+pub fn is_order(n: usize, bytes: &[u8]) -> bool
+    ensures { λ r. ⌜ r ≡ (leb n 64 && eachOnce n (take n (now (bytes .entry)))) ⌝ }
+{
+    if 64 < n {
+        return false;
+    }
+    if bytes.len() < n {
+        return false;
+    }
+    each_once(n, bytes)
+}
+
+// Do the first n places hold each vertex once?
 fn each_once(n: usize, order: &[u8]) -> bool
-    requires { ⌜ (n ≤ 64) × (length (now order) ≡ 64) ⌝ }
+    requires { ⌜ (n ≤ 64) × (n ≤ length (now order)) ⌝ }
     ensures { λ r. ⌜ r ≡ eachOnce n (take n (now (order .entry))) ⌝ }
 {
     let mut seen: u64 = 0;

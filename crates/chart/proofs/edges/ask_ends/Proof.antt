@@ -15,7 +15,7 @@ abbrev μ-loop : tie.MeasureT-loop
 μ-loop n links i₀ i = length links - i
 
 returns : tie.Need-returns Inv-loop μ-loop
-returns c = answer-odd (c .before .before .args .n) (c .before .before .args .links .now) (c .if1 .taken)
+returns c = answer-odd _ _ (c .if1 .taken)
 
 loop-holds : tie.Need-loop-holds Inv-loop μ-loop
 loop-holds c = ends-start
@@ -41,11 +41,15 @@ cast-is-edge-2 c = omega (arith, c .shared-slice-known3 .given (c .before .befor
 is-edge-requires : tie.Need-is-edge-requires Inv-loop μ-loop
 is-edge-requires c κs = search needs
 
+-- the turn of the loop that an edge is asked in
+abbrev turn : tie.After-is-edge Inv-loop μ-loop → tie.In-loop Inv-loop μ-loop
+turn c = c .before .before .before
+
 returns-2 : tie.Need-returns-2 Inv-loop μ-loop
 returns-2 c =
-    let at-loop = c .before .before .before .before .before in
-    answer-outside (c .before .before .before .before .before .before .before .before .args .n) (c .before .before .before .before .before .before .before .before .args .links .now) (at-loop .before .if1 .left)
-    (ends-bad (at-loop .loop .inv) (c .before .before .before .before .loop-test .taken) (sym (c .before .is-edge .ensures) ∙ not-true (c .before .is-edge .result) (c .if2 .taken)))
+    let at = turn (c .before) in
+    answer-outside _ _ (at .before .before .if1 .left)
+    (ends-bad (at .before .loop .inv) (at .loop-test .taken) (sym (c .before .is-edge .ensures) ∙ not-true (c .before .is-edge .result) (c .if2 .taken)))
 
 add-i : tie.Need-add-i Inv-loop μ-loop
 add-i c = omega arith
@@ -54,10 +58,12 @@ loop-less : tie.Need-loop-less Inv-loop μ-loop
 loop-less c = omega arith
 
 loop-again : tie.Need-loop-again Inv-loop μ-loop
-loop-again c = ends-next (c .before .before .before .before .before .loop .inv) (c .before .before .before .before .loop-test .taken) (sym (c .before .is-edge .ensures) ∙ not-false (c .before .is-edge .result) (c .if2 .left))
+loop-again c =
+    let at = turn (c .before) in
+    ends-next (at .before .loop .inv) (at .loop-test .taken) (sym (c .before .is-edge .ensures) ∙ not-false (c .before .is-edge .result) (c .if2 .left))
 
 returns-3 : tie.Need-returns-3 Inv-loop μ-loop
-returns-3 c = answer-within (c .before .before .before .before .args .n) (c .before .before .before .before .args .links .now) (c .before .before .if1 .left) (ends-end (c .before .loop .inv) (c .loop-test .left))
+returns-3 c = answer-within _ _ (c .before .before .if1 .left) (ends-end (c .before .loop .inv) (c .loop-test .left))
 
 pub ask-ends-spec : {M : Type 1} → statement M
 ask-ends-spec =

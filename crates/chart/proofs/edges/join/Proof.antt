@@ -40,10 +40,11 @@ element-write-adjacency-2 c = search needs
 returns : tie.Need-returns
 unfolding atBothEnds
 returns c =
-    let a = c .before .before .before .before .args in
+    let start = c .before .before .before .before in
+    let a = start .args in
     ap₂ (λ (x y : ℕ). set (set (a .adjacency .now) (a .a) x) (a .b) y)
-    (c .before .before .set .ensures ∙ rw (lt-ltb (a .b) 64 (c .before .before .before .before .pre .1)))
-    (c .set2 .ensures ∙ rw (lt-ltb (a .a) 64 (c .before .before .before .before .pre .0)))
+    (c .before .before .set .ensures ∙ rw (lt-ltb (a .b) 64 (start .pre .1)))
+    (c .set2 .ensures ∙ rw (lt-ltb (a .a) 64 (start .pre .0)))
 
 pub join-spec : {M : Type 1} → statement M
 join-spec =

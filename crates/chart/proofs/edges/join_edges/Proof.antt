@@ -37,9 +37,16 @@ shared-slice-read-b c = omega arith
 cast-b : tie.Need-cast-b Inv-loop μ-loop
 cast-b c = omega (arith, c .shared-slice-known3 .given (c .before .before .before .loop .i + 1))
 
+-- the turn of the loop that a bit is asked in
+abbrev turn : tie.After-shared-slice-known3 Inv-loop μ-loop → tie.In-loop Inv-loop μ-loop
+turn c = c .before .before
+
+abbrev start : tie.In-loop Inv-loop μ-loop → tie.Start Inv-loop μ-loop
+start c = c .before .before .before
+
 ends : (c : tie.After-shared-slice-known3 Inv-loop μ-loop)
-    → Ends 64 (getD (c .before .before .before .before .before .args .links .now) (c .before .before .before .loop .i) 0) (getD (c .before .before .before .before .before .args .links .now) (c .before .before .before .loop .i + 1) 0)
-ends c = joined-ends (c .before .before .before .loop .inv) (c .before .before .loop-test .taken) (c .before .before .before .before .before .pre .0)
+    → let links = start (turn c) .args .links .now in let i = turn c .before .loop .i in Ends 64 (getD links i 0) (getD links (i + 1) 0)
+ends c = joined-ends (turn c .before .loop .inv) (turn c .loop-test .taken) (start (turn c) .pre .0)
 
 mul-is-set : tie.Need-mul-is-set Inv-loop μ-loop
 mul-is-set c = omega (arith, ends c .first)
@@ -52,13 +59,13 @@ is-set-requires c κs = search needs
 
 returns : tie.Need-returns Inv-loop μ-loop
 unfolding asked refuse
-returns c = (
-  answer-repeat (c .before .before .before .before .before .before .before .before .args .links .now) (joined-repeat (c .before .before .before .before .before .before .loop .inv) (c .before .before .before .before .before .loop-test .taken) (c .before .before .before .before .before .before .before .before .pre .0) (sym (c .before .is-set .ensures) ∙ c .if1 .taken)),
-  (λ z. absurd (false≢true z)),
-)
+returns c =
+    let at = turn (c .before .before .before) in
+    let again = joined-repeat (at .before .loop .inv) (at .loop-test .taken) (start at .pre .0) (sym (c .before .is-set .ensures) ∙ c .if1 .taken) in
+    (answer-repeat _ again, λ z. absurd (false≢true z))
 
 join-requires : tie.Need-join-requires Inv-loop μ-loop
-join-requires c κs = let e = ends (c .before .before .before .before) in (e .first, e .second)
+join-requires c κs = let new = c .before in let e = ends (new .before .before .before) in (e .first, e .second)
 
 add-i : tie.Need-add-i Inv-loop μ-loop
 add-i c = omega arith
@@ -68,13 +75,14 @@ loop-less c = omega arith
 
 loop-again : tie.Need-loop-again Inv-loop μ-loop
 loop-again c =
-    joined-next (c .before .before .before .before .before .before .before .before .loop .inv) (c .before .before .before .before .before .before .before .loop-test .taken) (c .before .before .before .before .before .before .before .before .before .before .pre .0) (sym (c .before .before .before .is-set .ensures) ∙ c .before .before .if1 .left) (c .join .ensures)
+    let new = c .before .before in
+    let at = turn (new .before .before .before) in
+    joined-next (at .before .loop .inv) (at .loop-test .taken) (start at .pre .0) (sym (new .before .is-set .ensures) ∙ new .if1 .left) (c .join .ensures)
 
 returns-2 : tie.Need-returns-2 Inv-loop μ-loop
-returns-2 c = (
-  answer-once (c .before .before .before .args .links .now) (joined-once (c .before .loop .inv) (c .loop-test .left)),
-  (λ z. joined-words (c .before .loop .inv) (c .loop-test .left)),
-)
+returns-2 c =
+    let all = c .before .loop .inv in
+    (answer-once _ (joined-once all (c .loop-test .left)), λ z. joined-words all (c .loop-test .left))
 
 pub join-edges-spec : {M : Type 1} → statement M
 join-edges-spec =

@@ -13,12 +13,13 @@ returns c = rw (ne-eqb (c .before .args .first) 0x44 (c .if1 .taken))
 
 returns-2 : tie.Need-returns-2
 unfolding rightTags sameList
-returns-2 c = rw (eq-eqb (c .before .before .args .first) 0x44 (c .before .if1 .left), ne-eqb (c .before .before .args .second) 0x4C (c .if2 .taken))
+returns-2 c = let a = c .before .before .args in rw (eq-eqb (a .first) 0x44 (c .before .if1 .left), ne-eqb (a .second) 0x4C (c .if2 .taken))
 
 returns-3 : tie.Need-returns-3
 unfolding rightTags sameList
-returns-3 c = rw (eq-eqb (c .before .before .args .first) 0x44 (c .before .if1 .left), eq-eqb (c .before .before .args .second) 0x4C (c .if2 .left))
-    (sym (and-true (eqb (c .before .before .args .third) 0x52)))
+returns-3 c =
+    let a = c .before .before .args in
+    rw (eq-eqb (a .first) 0x44 (c .before .if1 .left), eq-eqb (a .second) 0x4C (c .if2 .left)) (sym (and-true (eqb (a .third) 0x52)))
 
 pub are-tags-spec : {M : Type 1} → statement M
 are-tags-spec = tie.close (tie.spec returns returns-2 returns-3)

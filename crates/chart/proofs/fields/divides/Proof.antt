@@ -1,9 +1,7 @@
 use borrow.Author.Needs.{needs}
 use Prim.Native.Nat.{_+_, _-_}
 use native.Mathlib.Omega.{arith}
-use mathlib.Core.Path.{sym, ap, _∙_}
-use lib.ListN.{length, drop}
-use Rattle.model.specs.Charts.{fieldFound}
+use lib.ListN.{length}
 use Rattle.chart.specs.Fields.{field-there, field-none, DividedUpTo, divided-start, divided-next, divided-end}
 use Rattle.chart.proofs.fields.divides.Statement.{statement}
 use Rattle.chart.proofs.fields.divides.Tie as tie
@@ -26,20 +24,15 @@ enum-known-length c = search needs
 enum-told : tie.Need-enum-told Inv-loop μ-loop
 enum-told c = search needs
 
+abbrev at-loop : tie.After-known-told Inv-loop μ-loop → tie.At-loop Inv-loop μ-loop
+at-loop c = c .before .before .before .before
+
 next : (c : tie.After-known-told Inv-loop μ-loop)
-    → DividedUpTo (c .before .before .before .before .before .before .args .bytes .now)
-    (c .before .before .before .before .loop .at + (3 + c .before .length .given .0 .1 .0))
-next c =
-    let at-loop = c .before .before .before .before in
-    let f = c .before .length .given in
-    divided-next (at-loop .loop .inv)
-    (field-there (drop (at-loop .loop .at) (at-loop .before .before .args .bytes .now)) (f .0 .0) (f .0 .1 .0) (ap fieldFound (sym (f .1)) ∙ c .before .before .before .field-at .ensures))
+    → DividedUpTo (at-loop c .before .before .args .bytes .now) (at-loop c .loop .at + (3 + c .before .length .given .0 .1 .0))
+next c = divided-next (at-loop c .loop .inv) (field-there (c .before .length .given .1) (c .before .before .before .field-at .ensures))
 
 returns : tie.Need-returns Inv-loop μ-loop
-returns c =
-    let at-loop = c .before .before .before in
-    divided-end (at-loop .loop .inv)
-    (field-none (drop (at-loop .loop .at) (at-loop .before .before .args .bytes .now)) (ap fieldFound (sym (c .enum-told .given .1)) ∙ c .before .before .field-at .ensures))
+returns c = divided-end (c .before .before .before .loop .inv) (field-none _ (c .enum-told .given .1) (c .before .before .field-at .ensures))
 
 add-at : tie.Need-add-at Inv-loop μ-loop
 add-at c = omega (arith, next c .inside)

@@ -18,7 +18,7 @@ first-field-requires : tie.Need-first-field-requires
 first-field-requires c κs = search needs
 
 returns : tie.Need-returns
-returns c = c .first-field .ensures ∙ ap fieldAnswer (rest-whole (c .before .before .before .args .bytes .now) (c .before .before .before .args .at))
+returns c = let a = c .before .before .before .args in c .first-field .ensures ∙ ap fieldAnswer (rest-whole (a .bytes .now) (a .at))
 
 pub field-at-spec : {M : Type 1} → statement M
 field-at-spec =

@@ -5,7 +5,7 @@ use Rattle.chart.proofs.fields.find_size.Statement.{statement}
 use Rattle.chart.proofs.fields.find_size.Tie as tie
 
 returns : tie.Need-returns
-returns c = size-long (c .before .args .body .now) (c .if1 .taken)
+returns c = size-long _ (c .if1 .taken)
 
 shared-slice-read-n : tie.Need-shared-slice-read-n
 shared-slice-read-n c = search needs
@@ -14,10 +14,10 @@ cast-n : tie.Need-cast-n
 cast-n c = omega (arith, c .shared-slice-known .given 0)
 
 returns-2 : tie.Need-returns-2
-returns-2 c = size-large (c .before .before .before .args .body .now) (c .before .before .if1 .left) (c .if2 .taken)
+returns-2 c = size-large _ (c .before .before .if1 .left) (c .if2 .taken)
 
 returns-3 : tie.Need-returns-3
-returns-3 c = size-right (c .before .before .before .args .body .now) (c .before .before .if1 .left) (c .if2 .left)
+returns-3 c = size-right _ (c .before .before .if1 .left) (c .if2 .left)
 
 pub find-size-spec : {M : Type 1} → statement M
 find-size-spec = tie.close (tie.spec returns shared-slice-read-n cast-n returns-2 returns-3)

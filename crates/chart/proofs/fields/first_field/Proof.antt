@@ -6,7 +6,7 @@ use Rattle.chart.proofs.fields.first_field.Statement.{statement}
 use Rattle.chart.proofs.fields.first_field.Tie as tie
 
 returns : tie.Need-returns
-returns c = answer-short (c .before .args .bytes .now) (c .if1 .taken)
+returns c = answer-short _ (c .if1 .taken)
 
 shared-slice-read-length : tie.Need-shared-slice-read-length
 shared-slice-read-length c = search needs
@@ -34,12 +34,11 @@ shared-slice-read-t13 c = search needs
 
 returns-2 : tie.Need-returns-2
 unfolding bodyLength
-returns-2 c =
-    answer-field (c .before .before .before .before .before .args .bytes .now) (c .before .before .before .before .if1 .left) (c .before .if2 .taken)
+returns-2 c = let measured = c .before .before in answer-field _ (measured .before .before .if1 .left) (c .before .if2 .taken)
 
 returns-3 : tie.Need-returns-3
 unfolding bodyLength
-returns-3 c = answer-cut (c .before .before .before .before .args .bytes .now) (c .before .before .before .if1 .left) (c .if2 .left)
+returns-3 c = answer-cut _ (c .before .before .before .if1 .left) (c .if2 .left)
 
 pub first-field-spec : {M : Type 1} → statement M
 first-field-spec =
