@@ -16,9 +16,7 @@ use Rattle.model.specs.Edits.{movedAfter}
 use Rattle.model.specs.Sifting.{clockwiseFrom, candidates, least, leastCrossings, improves, siftedOrder}
 use Rattle.laws.specs.Sums.Indicators.{less, same, more, order}
 use Rattle.laws.specs.Orders.Permutations.{at, Permutation, at-lt, place-below, place-of-at}
-use Rattle.laws.specs.Sums.Pairs.{Symmetric}
-use Rattle.laws.specs.Crossings.Edges.{weight}
-use Rattle.laws.specs.Layouts.Recount.{counted, counted-crossings}
+use Rattle.laws.specs.Layouts.Recount.{Drawn, counted, counted-crossings}
 use Rattle.laws.specs.Orders.Moves.{moved-permutation}
 use Rattle.layout.specs.MovedPlaces.{shifted, shifted-moved}
 use Rattle.laws.specs.Sifting.LocalSearch.{least-default, least-some}
@@ -108,7 +106,25 @@ pub record WalkUpTo (n : ℕ) (places adj : List ℕ) (u : ℕ) (best : List ℕ
   pub array : best ≡ list ++ drop n places
   pub so-far : BestSoFar (λ c. crossings n c adj) (take n places) (take j (candidates u (take n places))) list fewest
 
-module _ (n : ℕ) (places adj : List ℕ) (size : length places ≡ 64) (small : n ≤ 64) (perm : Permutation n (take n places)) (u : ℕ) (h : u < n) where
+-- what a walk starts from: an array of 64 places with an order and its edges, and one of the vertices
+pub record Walker (n : ℕ) (places adj : List ℕ) (u : ℕ) : Type 0 where
+  pub size : length places ≡ 64
+  pub drawn : Drawn n places adj
+  pub vertex : u < n
+
+module _ {n : ℕ} {places adj : List ℕ} {u : ℕ} (walker : Walker n places adj u) where
+  size : length places ≡ 64
+  size = walker .size
+
+  small : n ≤ 64
+  small = walker .drawn .small
+
+  perm : Permutation n (take n places)
+  perm = walker .drawn .permutation
+
+  h : u < n
+  h = walker .vertex
+
   abbrev p : ℕ
   p = place (take n places) u
 
@@ -209,11 +225,15 @@ module _ (n : ℕ) (places adj : List ℕ) (size : length places ≡ 64) (small 
         found,
       )
 
+  -- where the vertex stands
+  pub place-inside : place (take n places) u < n
+  place-inside = place-below perm u h
+
   -- what the counter answers for a candidate
-  pub candidate-counted : Symmetric n (weight adj) → (j : ℕ) {xs : List ℕ} → j + 1 < n → xs ≡ candidate n places u j ++ drop n places
+  pub candidate-counted : (j : ℕ) {xs : List ℕ} → j + 1 < n → xs ≡ candidate n places u j ++ drop n places
       → counted n xs adj ≡ crossings n (candidate n places u j) adj
   unfolding candidate
-  candidate-counted s j l e =
+  candidate-counted j l e =
       let t = turned-vertex j l in
       let v = at (take n places) (turned n (place (take n places) u) j) in
       let moved : Permutation n (candidate n places u j) =
@@ -221,5 +241,5 @@ module _ (n : ℕ) (places adj : List ℕ) (size : length places ≡ 64) (small 
       (λ d. t .1 (ap (place (take n places)) d ∙ place-of-at perm (turned n (place (take n places) u) j) (t .0)))) in
       let used : take n (candidate n places u j ++ drop n places) ≡ candidate n places u j = take-at (candidate n places u j) (drop n places) n (moved .size) in
       ap (λ (x : List ℕ). counted n x adj) e
-      ∙ counted-crossings (record { small = small; permutation = rw used moved; symmetry = s })
+      ∙ counted-crossings (record { small = small; permutation = rw used moved; symmetry = walker .drawn .symmetry })
       ∙ ap (λ (x : List ℕ). crossings n x adj) used
