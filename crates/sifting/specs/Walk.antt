@@ -54,7 +54,11 @@ module _ (f : List ℕ → ℕ) (o : List ℕ) where
 
   pub best-none : BestSoFar [] o (f o)
   unfolding least
-  best-none = record { fewest-is = refl; chosen = sym (ap (λ (t : Bool). cond t (firstWith (λ c. eqb (f c) (f o)) o []) o) (le-ltb (f o) (f o) (le-refl (f o)))) }
+  best-none =
+      record {
+        fewest-is = refl;
+        chosen = sym (ap (λ (t : Bool). cond t (firstWith (λ c. eqb (f c) (f o)) o []) o) (le-ltb (f o) (f o) (le-refl (f o))));
+      }
 
   pub best-better : {xs : List (List ℕ)} {best : List ℕ} {fewest : ℕ} → BestSoFar xs best fewest → (x : List ℕ) → f x < fewest
       → BestSoFar (xs ++ (x ∷ [])) x (f x)
@@ -86,7 +90,9 @@ module _ (f : List ℕ → ℕ) (o : List ℕ) where
       cond' : Bool → List ℕ → List ℕ
       cond' t c = cond t c o
 
-      both-stay : f o ≤ fewest → cond (ltb fewest (f o)) (firstWith (λ c. eqb (f c) fewest) o xs) o ≡ cond (ltb fewest (f o)) (firstWith (λ c. eqb (f c) fewest) o (xs ++ (x ∷ []))) o
+      both-stay : f o ≤ fewest
+          → cond (ltb fewest (f o)) (firstWith (λ c. eqb (f c) fewest) o xs) o
+          ≡ cond (ltb fewest (f o)) (firstWith (λ c. eqb (f c) fewest) o (xs ++ (x ∷ []))) o
       both-stay l = rw (le-ltb fewest (f o) l)
 
 -- ---- the candidates, one by one
@@ -195,7 +201,8 @@ module _ {n : ℕ} {places adj : List ℕ} {u : ℕ} (walker : Walker n places a
       ∙ ap (λ (c : List ℕ). take j (candidates u (take n places)) ++ (c ∷ [])) (candidate-at j)
 
   module _ {best : List ℕ} {fewest j : ℕ} (w : WalkUpTo n places adj u best fewest j) (l : j + 1 < n) where
-    pub walk-better : {xs : List ℕ} {c : ℕ} → xs ≡ candidate n places u j ++ drop n places → c ≡ crossings n (candidate n places u j) adj → c < fewest → WalkUpTo n places adj u xs c (j + 1)
+    pub walk-better : {xs : List ℕ} {c : ℕ} → xs ≡ candidate n places u j ++ drop n places → c ≡ crossings n (candidate n places u j) adj
+        → c < fewest → WalkUpTo n places adj u xs c (j + 1)
     walk-better {xs} {c} x e b =
         record {
           inside = l;
@@ -219,7 +226,8 @@ module _ {n : ℕ} {places adj : List ℕ} {u : ℕ} (walker : Walker n places a
       → (best ≡ siftedOrder n adj u (take n places) ++ drop n places) × (fewest ≡ leastCrossings n adj u (take n places))
   unfolding siftedOrder improves leastCrossings
   walk-end {best} {fewest} {j} w l =
-      let all : take j (candidates u (take n places)) ≡ candidates u (take n places) = take-all j (candidates u (take n places)) (omega (arith, candidates-length)) in
+      let whole = candidates u (take n places) in
+      let all : take j whole ≡ whole = take-all j whole (omega (arith, candidates-length)) in
       let found : fewest ≡ least score (score (take n places)) (candidates u (take n places)) = rw all at (w .so-far .fewest-is) in (
         w .array ∙ ap (λ (x : List ℕ). x ++ drop n places) (rw (all, found) at (w .so-far .chosen)),
         found,

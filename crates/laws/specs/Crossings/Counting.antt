@@ -156,7 +156,9 @@ pub crossingSum-last : (n : ℕ) (w v : ℕ → ℕ → ℕ) → ((i j : ℕ) �
     → crossingSum (suc n) w ≡ crossingSum n v
 crossingSum-last n w v same-weight none =
     crossingSum-counted (suc n) w
-    ∙ pairSum-last n counted (λ j a. ap (λ (x : ℕ). below j n * x) (sum-zero (suc n) _ (λ l b. rw (one-ge n l (omega arith)) (zero-mul (w j l)))) ∙ mul-zero (below j n))
+    ∙ pairSum-last n counted
+    (λ j a.
+    ap (λ (x : ℕ). below j n * x) (sum-zero (suc n) _ (λ l b. rw (one-ge n l (omega arith)) (zero-mul (w j l)))) ∙ mul-zero (below j n))
     ∙ pairSum-ext n counted (λ j k. sum n (λ i. one (ltb i j) * v i k) * sum n (λ l. one (ltb k l) * v j l))
     (λ j k a b.
     ap₂ (λ (x y : ℕ). x * y)

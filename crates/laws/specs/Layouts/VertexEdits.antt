@@ -32,7 +32,9 @@ permutation-more {n} {o} p =
     record {
       size = length-append o (n ∷ []) ∙ omega (arith, p .size);
       once = λ v h.
-          occurrences-append v o (n ∷ []) ∙ ap (λ (x : ℕ). occurrences v o + x) (occurrences-cons v n []) ∙ ap (λ (x : ℕ). occurrences v o + (one (eqb v n) + x)) (occurrences-nil v)
+          occurrences-append v o (n ∷ [])
+          ∙ ap (λ (x : ℕ). occurrences v o + x) (occurrences-cons v n [])
+          ∙ ap (λ (x : ℕ). occurrences v o + (one (eqb v n) + x)) (occurrences-nil v)
           ∙ elim (order v n) [
             | less l ↦ omega (arith, p .once v l, one-ne v n (λ e. omega arith))
             | same e ↦ omega (arith, none-beyond p v (omega arith), one-eq v n e)

@@ -73,18 +73,5 @@ returns-2 c = rw (le-leb _ _ (c .before .before .before .if1 .left)) (count-end 
 pub count-crossings-spec : {M : Type 1} → statement M
 count-crossings-spec =
     tie.close
-    (tie.spec
-    Inv-loop
-    μ-loop
-    returns
-    low-bits-requires
-    loop-holds
-    vertex-at-requires
-    clear-requires
-    count-row-requires
-    add-total
-    set-requires
-    add-j
-    loop-less
-    loop-again
-    returns-2)
+    (tie.spec Inv-loop μ-loop returns low-bits-requires loop-holds vertex-at-requires clear-requires count-row-requires add-total
+    set-requires add-j loop-less loop-again returns-2)

@@ -73,18 +73,5 @@ returns c =
 pub count-row-spec : {M : Type 1} → statement M
 count-row-spec =
     tie.close
-    (tie.spec
-    Inv-loop
-    μ-loop
-    word-at-requires
-    add-k
-    loop-holds
-    vertex-at-requires
-    clear-requires
-    word-at-requires-2
-    count-pair-requires
-    add-total
-    add-k-2
-    loop-less
-    loop-again
-    returns)
+    (tie.spec Inv-loop μ-loop word-at-requires add-k loop-holds vertex-at-requires clear-requires word-at-requires-2 count-pair-requires
+    add-total add-k-2 loop-less loop-again returns)

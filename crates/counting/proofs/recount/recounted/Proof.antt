@@ -26,5 +26,4 @@ returns c =
     (c .carried .ensures ∙ ap₂ (carried (s .l .count)) (before .count-crossings .ensures) (after .count-crossings2 .ensures))
 
 pub recounted-spec : {M : Type 1} → statement M
-recounted-spec =
-    tie.close (tie.spec count-crossings-requires count-crossings-requires-2 carried-requires returns)
+recounted-spec = tie.close (tie.spec count-crossings-requires count-crossings-requires-2 carried-requires returns)

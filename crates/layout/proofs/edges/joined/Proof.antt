@@ -51,16 +51,5 @@ returns c =
 pub joined-spec : {M : Type 1} → statement M
 joined-spec =
     tie.close
-    (tie.spec
-    slice-aggregate-before
-    mul-set
-    shared-slice-read-set
-    set-requires
-    mul-next
-    array-write-next
-    mul-set-2
-    shared-slice-read-set-2
-    set-requires-2
-    mul-next-2
-    array-write-next-2
-    returns)
+    (tie.spec slice-aggregate-before mul-set shared-slice-read-set set-requires mul-next array-write-next mul-set-2 shared-slice-read-set-2
+    set-requires-2 mul-next-2 array-write-next-2 returns)

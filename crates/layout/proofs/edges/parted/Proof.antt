@@ -48,16 +48,5 @@ returns c =
 pub parted-spec : {M : Type 1} → statement M
 parted-spec =
     tie.close
-    (tie.spec
-    slice-aggregate-before
-    mul-clear
-    shared-slice-read-clear
-    clear-requires
-    mul-next
-    array-write-next
-    mul-clear-2
-    shared-slice-read-clear-2
-    clear-requires-2
-    mul-next-2
-    array-write-next-2
-    returns)
+    (tie.spec slice-aggregate-before mul-clear shared-slice-read-clear clear-requires mul-next array-write-next mul-clear-2
+    shared-slice-read-clear-2 clear-requires-2 mul-next-2 array-write-next-2 returns)

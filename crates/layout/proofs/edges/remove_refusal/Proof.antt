@@ -45,6 +45,4 @@ returns-3 c =
     last-refusal unlinking (s .l) (s .a) (s .b) (passed .before .pair-refusal .ensures) (passed .if1 .left) (c .before .is-set .ensures) (c .if2 .left)
 
 pub remove-refusal-spec : {M : Type 1} → statement M
-remove-refusal-spec =
-    tie.close
-    (tie.spec pair-refusal-requires returns mul-is-set array-read-is-set is-set-requires returns-2 returns-3)
+remove-refusal-spec = tie.close (tie.spec pair-refusal-requires returns mul-is-set array-read-is-set is-set-requires returns-2 returns-3)

@@ -82,15 +82,5 @@ returns-2 c =
 pub move-after-spec : {M : Type 1} → statement M
 move-after-spec =
     tie.close
-    (tie.spec
-    pair-refusal-requires
-    returns
-    array-share-prefix-before
-    slice-aggregate-place-of
-    place-of-requires
-    array-share-prefix-before-2
-    slice-aggregate-place-of-2
-    place-of-requires-2
-    moved-requires
-    recounted-requires
-    returns-2)
+    (tie.spec pair-refusal-requires returns array-share-prefix-before slice-aggregate-place-of place-of-requires array-share-prefix-before-2
+    slice-aggregate-place-of-2 place-of-requires-2 moved-requires recounted-requires returns-2)

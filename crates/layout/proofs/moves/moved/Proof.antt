@@ -52,16 +52,5 @@ returns-3 c =
 pub moved-spec : {M : Type 1} → statement M
 moved-spec =
     tie.close
-    (tie.spec
-    Inv-loop
-    μ-loop
-    returns
-    returns-2
-    loop-holds
-    moved-from-requires
-    array-read-next
-    array-write-next
-    add-i
-    loop-less
-    loop-again
+    (tie.spec Inv-loop μ-loop returns returns-2 loop-holds moved-from-requires array-read-next array-write-next add-i loop-less loop-again
     returns-3)

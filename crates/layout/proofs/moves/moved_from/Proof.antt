@@ -81,17 +81,4 @@ returns-8 c =
     )
 
 pub moved-from-spec : {M : Type 1} → statement M
-moved-from-spec =
-    tie.close
-    (tie.spec
-    add-if3
-    sub-result
-    add-result
-    returns
-    returns-2
-    returns-3
-    returns-4
-    returns-5
-    returns-6
-    returns-7
-    returns-8)
+moved-from-spec = tie.close (tie.spec add-if3 sub-result add-result returns returns-2 returns-3 returns-4 returns-5 returns-6 returns-7 returns-8)

@@ -46,16 +46,4 @@ returns-2 c =
     place-missing (s .v) (s .order .now) (c .before .loop .i) (c .before .loop .inv) (c .loop-test .left)
 
 pub place-of-spec : {M : Type 1} → statement M
-place-of-spec =
-    tie.close
-    (tie.spec
-    Inv-loop
-    μ-loop
-    loop-holds
-    shared-slice-read-if1
-    cast-if1
-    returns
-    add-i
-    loop-less
-    loop-again
-    returns-2)
+place-of-spec = tie.close (tie.spec Inv-loop μ-loop loop-holds shared-slice-read-if1 cast-if1 returns add-i loop-less loop-again returns-2)

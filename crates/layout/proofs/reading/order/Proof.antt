@@ -66,7 +66,8 @@ returns-3 : tie.Need-returns-3
 unfolding orderRefusal orderBytes orderChecks checked byRefusal refusal isValid bufferFits vertexOrder
 returns-3 c =
     let copied = c .before .before in
-    let passed = copied .before .before .before .before in
+    let lent = copied .before .before in
+    let passed = lent .before .before in
     let s = start passed .args in
     let fits = le-leb (s .l .n) (length (now (s .buffer))) (passed .if2 .left) in (
       rw (valid-there passed, fits),

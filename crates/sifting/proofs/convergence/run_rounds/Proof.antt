@@ -27,7 +27,8 @@ add-rounds c = omega arith
 
 returns : tie.Need-returns Inv-loop μ-loop
 returns c =
-    let round = c .before .before .before .before in
+    let summed = c .before .before in
+    let round = summed .before .before in
     settling-still (round .before .before .loop .inv) (round .before .loop-test .taken) (round .sift-all .ensures) (c .if1 .taken)
 
 loop-less : tie.Need-loop-less Inv-loop μ-loop
@@ -35,23 +36,12 @@ loop-less c = omega arith
 
 loop-again : tie.Need-loop-again Inv-loop μ-loop
 loop-again c =
-    let round = c .before .before .before .before in
+    let summed = c .before .before in
+    let round = summed .before .before in
     settling-next (round .before .before .loop .inv) (round .before .loop-test .taken) (round .sift-all .ensures) (c .if1 .left)
 
 returns-2 : tie.Need-returns-2 Inv-loop μ-loop
 returns-2 c = settling-limit (c .before .loop .inv) (c .loop-test .left)
 
 pub run-rounds-spec : {M : Type 1} → statement M
-run-rounds-spec =
-    tie.close
-    (tie.spec
-    Inv-loop
-    μ-loop
-    loop-holds
-    sift-all-requires
-    add-reduction
-    add-rounds
-    returns
-    loop-less
-    loop-again
-    returns-2)
+run-rounds-spec = tie.close (tie.spec Inv-loop μ-loop loop-holds sift-all-requires add-reduction add-rounds returns loop-less loop-again returns-2)

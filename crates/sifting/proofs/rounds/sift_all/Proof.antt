@@ -33,6 +33,4 @@ returns : tie.Need-returns Inv-loop μ-loop
 returns c = round-end (c .before .loop .inv) (c .loop-test .left)
 
 pub sift-all-spec : {M : Type 1} → statement M
-sift-all-spec =
-    tie.close
-    (tie.spec Inv-loop μ-loop loop-holds sift-next-requires add-u loop-less loop-again returns)
+sift-all-spec = tie.close (tie.spec Inv-loop μ-loop loop-holds sift-next-requires add-u loop-less loop-again returns)

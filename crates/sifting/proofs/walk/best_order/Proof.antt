@@ -32,7 +32,7 @@ abbrev start : tie.After-count-crossings Inv-loop μ-loop → tie.Start Inv-loop
 start c = c .before .before .before .before
 
 abbrev turn : tie.Joined1 Inv-loop μ-loop → tie.At-loop Inv-loop μ-loop
-turn c = c .before .before .before .before .before .before
+turn c = let made = c .before .before .before in made .before .before .before
 
 array-share-prefix-order : tie.Need-array-share-prefix-order Inv-loop μ-loop
 array-share-prefix-order c = inside c
@@ -46,12 +46,14 @@ place-of-requires c κs = tt
 count-crossings-requires : tie.Need-count-crossings-requires Inv-loop μ-loop
 count-crossings-requires c κs = tt
 
-loop-holds : tie.Need-loop-holds Inv-loop μ-loop
+-- the crossings of the present order
+present : (c : tie.After-count-crossings Inv-loop μ-loop)
+    → let s = start c .args in c .count-crossings .result ≡ crossings (s .n) (take (s .n) (s .t2)) (s .adjacency .now)
 unfolding counted
-loop-holds c = (
-  walk-start (walker (start c)) (c .count-crossings .ensures ∙ counted-crossings (start c .pre .0)),
-  c .before .before .place-of .ensures,
-)
+present c = c .count-crossings .ensures ∙ counted-crossings (start c .pre .0)
+
+loop-holds : tie.Need-loop-holds Inv-loop μ-loop
+loop-holds c = (walk-start (walker (start c)) (present c), c .before .before .place-of .ensures)
 
 add-loop : tie.Need-add-loop Inv-loop μ-loop
 add-loop c = omega (arith, c .loop .inv .0 .inside)
@@ -107,29 +109,13 @@ loop-again c =
     )
 
 returns : tie.Need-returns Inv-loop μ-loop
-unfolding counted
 returns c =
     let walked = c .before in
-    let present = walked .before in
-    let end = walk-end (walker (start present)) (walked .loop .inv .0) (c .loop-test .left) in
-    (end .0, (present .count-crossings .ensures ∙ counted-crossings (start present .pre .0), end .1))
+    let end = walk-end (walker (start (walked .before))) (walked .loop .inv .0) (c .loop-test .left) in
+    (end .0, (present (walked .before), end .1))
 
 pub best-order-spec : {M : Type 1} → statement M
 best-order-spec =
     tie.close
-    (tie.spec
-    Inv-loop
-    μ-loop
-    array-share-prefix-order
-    slice-aggregate-place-of
-    place-of-requires
-    count-crossings-requires
-    loop-holds
-    add-loop
-    turned-requires
-    moved-requires
-    count-crossings-requires-2
-    add-j
-    loop-less
-    loop-again
-    returns)
+    (tie.spec Inv-loop μ-loop array-share-prefix-order slice-aggregate-place-of place-of-requires count-crossings-requires loop-holds
+    add-loop turned-requires moved-requires count-crossings-requires-2 add-j loop-less loop-again returns)
