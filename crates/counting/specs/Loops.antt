@@ -31,7 +31,8 @@ module _ {n : ℕ} {order adj : List ℕ} {j : ℕ} where
         later = omega arith;
         inside = h;
         mask = e;
-        counted = sym (sum-zero (suc j) (λ i. one (ltb j i) * countPair n order adj j i) (λ i l. rw (one-ge j i (omega arith)) (zero-mul (countPair n order adj j i))));
+        counted =
+            sym (sum-zero (suc j) (λ i. one (ltb j i) * countPair n order adj j i) (λ i l. rw (one-ge j i (omega arith)) (zero-mul (countPair n order adj j i))));
         bounded = omega arith;
       })
 
@@ -47,7 +48,12 @@ module _ {n : ℕ} {order adj : List ℕ} {j : ℕ} where
         later = omega (arith, r .later);
         inside = h;
         mask = next;
-        counted = ap₂ (λ (x y : ℕ). x + y) (r .counted) (p ∙ ap (λ (m : ℕ). maskedOnes (wordAt order adj k) (maskBefore order j) * maskedOnes (wordAt order adj j) m) next ∙ sym (one-mul (countPair n order adj j k)) ∙ ap (λ (x : ℕ). x * countPair n order adj j k) (sym (one-lt j k (r .later))));
+        counted =
+            ap₂ (λ (x y : ℕ). x + y) (r .counted)
+            (p
+            ∙ ap (λ (m : ℕ). maskedOnes (wordAt order adj k) (maskBefore order j) * maskedOnes (wordAt order adj j) m) next
+            ∙ sym (one-mul (countPair n order adj j k))
+            ∙ ap (λ (x : ℕ). x * countPair n order adj j k) (sym (one-lt j k (r .later))));
         bounded = omega (arith, r .bounded);
       })
 

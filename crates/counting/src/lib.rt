@@ -3,4 +3,5 @@ mod counter;
 mod recount;
 
 pub use counter::count_crossings;
+pub use recount::carried;
 pub use recount::recounted;

@@ -1,3 +1,3 @@
--- The order as an array: copied, and with a vertex moved.
-pub mod Copying
+-- The edits of an edge, and the order as an array with a vertex moved.
+pub mod EdgeCalls
 pub mod MovedPlaces

@@ -1,8 +1,5 @@
 // The calls that only read: the carried count, and the order into a lent buffer.
 ghost use mathlib.Core.Path.{_≡_};
-ghost use Prim.Native.Nat.{_≤_};
-ghost use mathlib.Core.List.{_++_};
-ghost use lib.ListN.{length, take, drop};
 ghost use Rattle.model.specs.Reading.{countOf, orderRefusal, orderBytes};
 use model::Counted;
 use model::Layout;
@@ -36,17 +33,6 @@ pub fn order(l: Layout, buffer: &mut [u8]) -> u8
         return 18;
     }
     let places = l.order;
-    copy_first(n, &places, buffer);
+    bytes::copy(&places[..n], buffer);
     0
-}
-
-fn copy_first(n: usize, from: &[u8], to: &mut [u8])
-    requires { ⌜ (n ≤ length (now from)) × (n ≤ length (now to)) ⌝ }
-    ensures { λ _. ⌜ now (to .exit) ≡ take n (now (from .entry)) ++ drop n (now (to .entry)) ⌝ }
-{
-    let mut i = 0;
-    while i < n {
-        to[i] = from[i];
-        i += 1;
-    }
 }

@@ -3,7 +3,6 @@ ghost use mathlib.Core.Path.{_≡_};
 ghost use Prim.Native.Nat.{_<_};
 ghost use lib.ListN.{length, set};
 ghost use Rattle.model.specs.Edits.{addOf};
-use counting::recounted;
 use model::Added;
 use model::Layout;
 use validity::is_valid;
@@ -29,9 +28,17 @@ pub fn add_vertex(l: Layout) -> Added
     let before = l.order;
     let order = with_last(before, n);
     let adjacency = l.adjacency;
+    let size = n + 1;
+    // without edges it crosses nothing: the count stays
+    let layout = Layout {
+        n: size,
+        order,
+        adjacency,
+        count: l.count,
+    };
     Added {
         refusal: 0,
-        layout: recounted(l, n + 1, order, adjacency),
+        layout,
         vertex: n,
     }
 }

@@ -14,34 +14,36 @@ use Rattle.model.specs.declared.Rounded.{Rounded}
 use Rattle.model.specs.declared.Converged.{Converged}
 use Rattle.model.specs.Lists.{one, upto}
 use Rattle.model.specs.Crossings.{crossings}
-use Rattle.model.specs.Layouts.{vertexOrder, valid, crossingsOf}
+use Rattle.model.specs.Layouts.{vertexOrder, valid, crossingsOf, carried, changed, reordered}
 use Rattle.model.specs.Sifting.{leastCrossings, siftedOrder, sifted, reduction, moves, noSifts, afterSift, siftAll, siftRound, afterRound, stopped}
 use Rattle.model.specs.Sifting.{roundsUpTo}
 use Rattle.laws.specs.Sums.Lists.{all-upto, all-mono}
 use Rattle.laws.specs.Crossings.Bound.{mostCrossings}
 use Rattle.laws.specs.Layouts.Validity.{sound, crossings-bound}
-use Rattle.laws.specs.Layouts.Recount.{recounted}
-use Rattle.layout.specs.MovedPlaces.{reordered-recounted}
-use Rattle.laws.specs.Sifting.Candidates.{sift-least, sift-permutation, sifted-crossings, sifted-improved, sifted-still, sifted-less}
+use Rattle.laws.specs.Sifting.Candidates.{sift-least, sifted-crossings, sifted-improved, sifted-still, sifted-less}
 use Rattle.laws.specs.Sifting.Rounds.{sifts-reduced, round-reduced, rounds-refusal}
 
 -- ---- one sift
 
 module _ (l : Layout) (t : T (valid l)) (u : ℕ) (h : u < l .n) where
-  -- the layout of a sift, by the counter
-  pub sifted-recounted : {places : List ℕ} → places ≡ siftedOrder (l .n) (l .adjacency) u (vertexOrder l) ++ drop (l .n) (l .order)
-      → recounted l (l .n) places (l .adjacency) ≡ sifted l u
-  unfolding sifted
-  sifted-recounted e =
-      reordered-recounted l (siftedOrder (l .n) (l .adjacency) u (vertexOrder l)) t (sift-permutation (sound l t .permutation) (l .adjacency) u h) e
+  -- what the walk finds: the order, the crossings before and the fewest of a candidate
+  module _ {before fewest : ℕ} (b : before ≡ crossingsOf l) (f : fewest ≡ leastCrossings (l .n) (l .adjacency) u (vertexOrder l)) where
+    sifted-fewest : crossingsOf (sifted l u) ≡ fewest
+    sifted-fewest = sifted-crossings l t u h ∙ sift-least (sound l t .permutation) (l .adjacency) u h ∙ sym f
 
-  -- the reduction, from the crossings before and the fewest of a candidate
-  pub sifted-saves : {before fewest : ℕ} → before ≡ crossingsOf l → fewest ≡ leastCrossings (l .n) (l .adjacency) u (vertexOrder l)
-      → (fewest ≤ before) × (before - fewest ≡ reduction l (sifted l u))
-  unfolding reduction
-  sifted-saves {before} {fewest} b f =
-      let after : crossingsOf (sifted l u) ≡ fewest = sifted-crossings l t u h ∙ sift-least (sound l t .permutation) (l .adjacency) u h ∙ sym f in
-      (omega (arith, sifted-improved l t u h .no-more), ap₂ _-_ b (sym after))
+    -- the layout that they give
+    pub sifted-carried : {places : List ℕ} {count : ℕ} → places ≡ siftedOrder (l .n) (l .adjacency) u (vertexOrder l) ++ drop (l .n) (l .order)
+        → count ≡ carried (l .count) before fewest
+        → record { n = l .n; order = places; adjacency = l .adjacency; count = count } ≡ sifted l u
+    unfolding sifted reordered changed crossingsOf vertexOrder
+    sifted-carried o c =
+        ap₂ (λ (xs : List ℕ) (k : ℕ). record { n = l .n; order = xs; adjacency = l .adjacency; count = k }) o
+        (c ∙ ap₂ (carried (l .count)) b (sym sifted-fewest))
+
+    -- and the reduction
+    pub sifted-saves : (fewest ≤ before) × (before - fewest ≡ reduction l (sifted l u))
+    unfolding reduction
+    sifted-saves = (omega (arith, sifted-improved l t u h .no-more, sifted-fewest), ap₂ _-_ b (sym sifted-fewest))
 
   -- a vertex moves exactly where its sift takes crossings away
   pub moves-saving : cond (eqb (reduction l (sifted l u)) 0) 0 1 ≡ one (moves l u)

@@ -16,9 +16,7 @@ use Rattle.model.specs.Edits.{movedAfter}
 use Rattle.model.specs.Sifting.{clockwiseFrom, candidates, least, leastCrossings, improves, siftedOrder}
 use Rattle.laws.specs.Sums.Indicators.{less, same, more, order}
 use Rattle.laws.specs.Orders.Permutations.{at, Permutation, at-lt, place-below, place-of-at}
-use Rattle.laws.specs.Sums.Pairs.{Symmetric}
-use Rattle.laws.specs.Crossings.Edges.{weight}
-use Rattle.laws.specs.Layouts.Recount.{counted, counted-crossings}
+use Rattle.laws.specs.Layouts.Recount.{Drawn, counted, counted-crossings}
 use Rattle.laws.specs.Orders.Moves.{moved-permutation}
 use Rattle.layout.specs.MovedPlaces.{shifted, shifted-moved}
 use Rattle.laws.specs.Sifting.LocalSearch.{least-default, least-some}
@@ -56,7 +54,11 @@ module _ (f : List ℕ → ℕ) (o : List ℕ) where
 
   pub best-none : BestSoFar [] o (f o)
   unfolding least
-  best-none = record { fewest-is = refl; chosen = sym (ap (λ (t : Bool). cond t (firstWith (λ c. eqb (f c) (f o)) o []) o) (le-ltb (f o) (f o) (le-refl (f o)))) }
+  best-none =
+      record {
+        fewest-is = refl;
+        chosen = sym (ap (λ (t : Bool). cond t (firstWith (λ c. eqb (f c) (f o)) o []) o) (le-ltb (f o) (f o) (le-refl (f o))));
+      }
 
   pub best-better : {xs : List (List ℕ)} {best : List ℕ} {fewest : ℕ} → BestSoFar xs best fewest → (x : List ℕ) → f x < fewest
       → BestSoFar (xs ++ (x ∷ [])) x (f x)
@@ -88,7 +90,9 @@ module _ (f : List ℕ → ℕ) (o : List ℕ) where
       cond' : Bool → List ℕ → List ℕ
       cond' t c = cond t c o
 
-      both-stay : f o ≤ fewest → cond (ltb fewest (f o)) (firstWith (λ c. eqb (f c) fewest) o xs) o ≡ cond (ltb fewest (f o)) (firstWith (λ c. eqb (f c) fewest) o (xs ++ (x ∷ []))) o
+      both-stay : f o ≤ fewest
+          → cond (ltb fewest (f o)) (firstWith (λ c. eqb (f c) fewest) o xs) o
+          ≡ cond (ltb fewest (f o)) (firstWith (λ c. eqb (f c) fewest) o (xs ++ (x ∷ []))) o
       both-stay l = rw (le-ltb fewest (f o) l)
 
 -- ---- the candidates, one by one
@@ -108,7 +112,25 @@ pub record WalkUpTo (n : ℕ) (places adj : List ℕ) (u : ℕ) (best : List ℕ
   pub array : best ≡ list ++ drop n places
   pub so-far : BestSoFar (λ c. crossings n c adj) (take n places) (take j (candidates u (take n places))) list fewest
 
-module _ (n : ℕ) (places adj : List ℕ) (size : length places ≡ 64) (small : n ≤ 64) (perm : Permutation n (take n places)) (u : ℕ) (h : u < n) where
+-- what a walk starts from: an array of 64 places with an order and its edges, and one of the vertices
+pub record Walker (n : ℕ) (places adj : List ℕ) (u : ℕ) : Type 0 where
+  pub size : length places ≡ 64
+  pub drawn : Drawn n places adj
+  pub vertex : u < n
+
+module _ {n : ℕ} {places adj : List ℕ} {u : ℕ} (walker : Walker n places adj u) where
+  size : length places ≡ 64
+  size = walker .size
+
+  small : n ≤ 64
+  small = walker .drawn .small
+
+  perm : Permutation n (take n places)
+  perm = walker .drawn .permutation
+
+  h : u < n
+  h = walker .vertex
+
   abbrev p : ℕ
   p = place (take n places) u
 
@@ -179,7 +201,8 @@ module _ (n : ℕ) (places adj : List ℕ) (size : length places ≡ 64) (small 
       ∙ ap (λ (c : List ℕ). take j (candidates u (take n places)) ++ (c ∷ [])) (candidate-at j)
 
   module _ {best : List ℕ} {fewest j : ℕ} (w : WalkUpTo n places adj u best fewest j) (l : j + 1 < n) where
-    pub walk-better : {xs : List ℕ} {c : ℕ} → xs ≡ candidate n places u j ++ drop n places → c ≡ crossings n (candidate n places u j) adj → c < fewest → WalkUpTo n places adj u xs c (j + 1)
+    pub walk-better : {xs : List ℕ} {c : ℕ} → xs ≡ candidate n places u j ++ drop n places → c ≡ crossings n (candidate n places u j) adj
+        → c < fewest → WalkUpTo n places adj u xs c (j + 1)
     walk-better {xs} {c} x e b =
         record {
           inside = l;
@@ -203,17 +226,22 @@ module _ (n : ℕ) (places adj : List ℕ) (size : length places ≡ 64) (small 
       → (best ≡ siftedOrder n adj u (take n places) ++ drop n places) × (fewest ≡ leastCrossings n adj u (take n places))
   unfolding siftedOrder improves leastCrossings
   walk-end {best} {fewest} {j} w l =
-      let all : take j (candidates u (take n places)) ≡ candidates u (take n places) = take-all j (candidates u (take n places)) (omega (arith, candidates-length)) in
+      let whole = candidates u (take n places) in
+      let all : take j whole ≡ whole = take-all j whole (omega (arith, candidates-length)) in
       let found : fewest ≡ least score (score (take n places)) (candidates u (take n places)) = rw all at (w .so-far .fewest-is) in (
         w .array ∙ ap (λ (x : List ℕ). x ++ drop n places) (rw (all, found) at (w .so-far .chosen)),
         found,
       )
 
+  -- where the vertex stands
+  pub place-inside : place (take n places) u < n
+  place-inside = place-below perm u h
+
   -- what the counter answers for a candidate
-  pub candidate-counted : Symmetric n (weight adj) → (j : ℕ) {xs : List ℕ} → j + 1 < n → xs ≡ candidate n places u j ++ drop n places
+  pub candidate-counted : (j : ℕ) {xs : List ℕ} → j + 1 < n → xs ≡ candidate n places u j ++ drop n places
       → counted n xs adj ≡ crossings n (candidate n places u j) adj
   unfolding candidate
-  candidate-counted s j l e =
+  candidate-counted j l e =
       let t = turned-vertex j l in
       let v = at (take n places) (turned n (place (take n places) u) j) in
       let moved : Permutation n (candidate n places u j) =
@@ -221,5 +249,5 @@ module _ (n : ℕ) (places adj : List ℕ) (size : length places ≡ 64) (small 
       (λ d. t .1 (ap (place (take n places)) d ∙ place-of-at perm (turned n (place (take n places) u) j) (t .0)))) in
       let used : take n (candidate n places u j ++ drop n places) ≡ candidate n places u j = take-at (candidate n places u j) (drop n places) n (moved .size) in
       ap (λ (x : List ℕ). counted n x adj) e
-      ∙ counted-crossings (record { small = small; permutation = rw used moved; symmetry = s })
+      ∙ counted-crossings (record { small = small; permutation = rw used moved; symmetry = walker .drawn .symmetry })
       ∙ ap (λ (x : List ℕ). crossings n x adj) used

@@ -5,7 +5,7 @@ ghost use lib.Dec.{T};
 ghost use Rattle.model.specs.Layouts.{valid};
 ghost use Rattle.model.specs.Sifting.{sifted, reduction as reductionOf, siftOf};
 use super::walk::best_order;
-use counting::recounted;
+use counting::carried;
 use model::Layout;
 use model::Sifted;
 use validity::vertex_refusal;
@@ -34,9 +34,16 @@ pub(crate) fn sift_vertex(l: Layout, u: usize) -> Sifted
     let adjacency = l.adjacency;
     let best = best_order(n, before, &adjacency, u);
     let order = best.order;
+    let count = carried(l.count, best.before, best.after);
+    let layout = Layout {
+        n,
+        order,
+        adjacency,
+        count,
+    };
     Sifted {
         refusal: 0,
-        layout: recounted(l, n, order, adjacency),
+        layout,
         reduction: best.before - best.after,
     }
 }

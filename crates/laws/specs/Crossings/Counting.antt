@@ -1,16 +1,16 @@
 -- The counting identity: the crossings of a layout, counted pair by pair, are a sum over pairs of places. Over any weight of the edges that is
 -- symmetric and 0 from a vertex to itself.
-use Prim.Native.Nat.{ℕ, _+_, _*_, _<_}
-use native.Mathlib.Nat.{mul-comm}
+use Prim.Native.Nat.{ℕ, suc, _+_, _*_, _<_}
+use native.Mathlib.Nat.{mul-comm, mul-zero, zero-mul}
 use native.Mathlib.Omega.{arith}
-use mathlib.Core.Path.{_≡_, ap, ap₂, _∙_}
+use mathlib.Core.Path.{_≡_, sym, ap, ap₂, _∙_}
 use mathlib.Core.List.{List}
 use lib.Dec.{ltb}
 use Rattle.model.specs.Lists.{one, place}
 use Rattle.laws.specs.Sums.Indicators.{less, same, more, order, one-lt, one-ge}
-use Rattle.laws.specs.Sums.Ranges.{double, sum, sum-ext, sum-scale, sum-product, sum4, sum4-ext, sum4-swap-first, sum4-swap-middle}
+use Rattle.laws.specs.Sums.Ranges.{double, sum, sum-ext, sum-zero, sum-last, sum-scale, sum-product, sum4, sum4-ext, sum4-swap-first, sum4-swap-middle}
 use Rattle.laws.specs.Orders.Permutations.{at, Permutation, place-of-at}
-use Rattle.laws.specs.Sums.Pairs.{pairSum, pairSum-ext, pairSum-zero, pairSum-add, pairSum-pairs, pairSum-swap, Symmetric, pair-vertices}
+use Rattle.laws.specs.Sums.Pairs.{pairSum, pairSum-ext, pairSum-zero, pairSum-last, pairSum-add, pairSum-pairs, pairSum-swap, Symmetric, pair-vertices}
 use Rattle.laws.specs.Crossings.Alternation.{cross, rising, cross-ordered, cross-swap-left, cross-swap-right}
 
 -- the crossings of weighted edges, each two edges twice: over the unordered pairs of vertices, each with its weight, where p gives the places
@@ -150,3 +150,26 @@ module _ (n : ℕ) (w : ℕ → ℕ → ℕ) where
           ∙ sum-scale n (one (ltb j k)) (λ l. one (ltb i j) * w i k * (one (ltb k l) * w j l)))
           ∙ sum-scale n (one (ltb j k)) (λ i. sum n (λ l. one (ltb i j) * w i k * (one (ltb k l) * w j l)))
           ∙ ap (λ (x : ℕ). one (ltb j k) * x) (sum-product n n (λ i. one (ltb i j) * w i k) (λ l. one (ltb k l) * w j l))
+
+-- a last place without edges changes nothing; v are the weights before it came
+pub crossingSum-last : (n : ℕ) (w v : ℕ → ℕ → ℕ) → ((i j : ℕ) → i < n → j < n → w i j ≡ v i j) → ((i : ℕ) → i < n → w i n ≡ 0)
+    → crossingSum (suc n) w ≡ crossingSum n v
+crossingSum-last n w v same-weight none =
+    crossingSum-counted (suc n) w
+    ∙ pairSum-last n counted
+    (λ j a.
+    ap (λ (x : ℕ). below j n * x) (sum-zero (suc n) _ (λ l b. rw (one-ge n l (omega arith)) (zero-mul (w j l)))) ∙ mul-zero (below j n))
+    ∙ pairSum-ext n counted (λ j k. sum n (λ i. one (ltb i j) * v i k) * sum n (λ l. one (ltb k l) * v j l))
+    (λ j k a b.
+    ap₂ (λ (x y : ℕ). x * y)
+    (sum-last n (λ i. one (ltb i j) * w i k) (rw (one-ge n j (omega arith)) (zero-mul (w n k)))
+    ∙ sum-ext n (λ i. one (ltb i j) * w i k) (λ i. one (ltb i j) * v i k) (λ i c. ap (λ (x : ℕ). one (ltb i j) * x) (same-weight i k c b)))
+    (sum-last n (λ l. one (ltb k l) * w j l) (ap (λ (x : ℕ). one (ltb k n) * x) (none j (omega arith)) ∙ mul-zero (one (ltb k n)))
+    ∙ sum-ext n (λ l. one (ltb k l) * w j l) (λ l. one (ltb k l) * v j l) (λ l c. ap (λ (x : ℕ). one (ltb k l) * x) (same-weight j l (omega arith) c))))
+    ∙ sym (crossingSum-counted n v)
+  where
+    below : ℕ → ℕ → ℕ
+    below j k = sum (suc n) (λ i. one (ltb i j) * w i k)
+
+    counted : ℕ → ℕ → ℕ
+    counted j k = below j k * sum (suc n) (λ l. one (ltb k l) * w j l)

@@ -1,10 +1,10 @@
 -- Adding a vertex: the order holds one more, and it has no edges.
 use Prim.Native.Nat.{ℕ, suc, _+_, _<_}
-use native.Mathlib.Nat.{lt-of-lt-of-le}
+use native.Mathlib.Nat.{add-zero, lt-of-lt-of-le}
 use native.Mathlib.Decide.{ℕ-discrete}
 use native.Mathlib.Numerals.{add-one}
 use native.Mathlib.Omega.{arith}
-use mathlib.Core.Path.{_≡_, sym, ap, _∙_}
+use mathlib.Core.Path.{_≡_, sym, ap, ap₂, _∙_}
 use mathlib.Core.List.{List, [], _∷_, _++_}
 use lib.ListN.{length, getD, take, set, length-append}
 use lib.Dec.{T, eqb}
@@ -12,16 +12,19 @@ use lib.Seq.{take-suc-set, getD-set-other}
 use lib.Pow.{pow-mono}
 use Rattle.model.specs.declared.Layout.{Layout}
 use Rattle.model.specs.Lists.{one, occurrences}
-use Rattle.model.specs.Layouts.{vertexOrder, valid, changed}
+use Rattle.model.specs.Crossings.{crossings}
+use Rattle.model.specs.Layouts.{vertexOrder, crossingsOf, valid, modulus, carried, changed}
 use Rattle.model.specs.Edits.{added}
 use Rattle.laws.specs.Sums.Indicators.{less, same, more, order, one-eq, one-ne}
-use Rattle.laws.specs.Orders.Permutations.{occurrences-nil, occurrences-cons, occurrences-append, Permutation, none-beyond}
+use Rattle.laws.specs.Orders.Permutations.{occurrences-nil, occurrences-cons, occurrences-append, at, Permutation, at-lt, none-beyond}
+use Rattle.laws.specs.Orders.Moves.{at-left, at-right}
 use Rattle.laws.specs.Sums.Pairs.{Symmetric}
 use Rattle.laws.specs.Sums.Bits.{bit-beyond}
-use Rattle.laws.specs.Crossings.Edges.{weight}
+use Rattle.laws.specs.Crossings.Counting.{placed, crossingSum-last}
+use Rattle.laws.specs.Crossings.Edges.{weight, crossings-sum}
 use Rattle.laws.specs.Crossings.Masks.{weight-bit}
 use Rattle.laws.specs.Layouts.Validity.{sound, sound-valid}
-use Rattle.laws.specs.Layouts.Recount.{recounted, recounted-changed}
+use Rattle.laws.specs.Layouts.Reordering.{carried-same}
 
 -- one more vertex at the end
 pub permutation-more : {n : ℕ} {o : List ℕ} → Permutation n o → Permutation (suc n) (o ++ (n ∷ []))
@@ -29,7 +32,9 @@ permutation-more {n} {o} p =
     record {
       size = length-append o (n ∷ []) ∙ omega (arith, p .size);
       once = λ v h.
-          occurrences-append v o (n ∷ []) ∙ ap (λ (x : ℕ). occurrences v o + x) (occurrences-cons v n []) ∙ ap (λ (x : ℕ). occurrences v o + (one (eqb v n) + x)) (occurrences-nil v)
+          occurrences-append v o (n ∷ [])
+          ∙ ap (λ (x : ℕ). occurrences v o + x) (occurrences-cons v n [])
+          ∙ ap (λ (x : ℕ). occurrences v o + (one (eqb v n) + x)) (occurrences-nil v)
           ∙ elim (order v n) [
             | less l ↦ omega (arith, p .once v l, one-ne v n (λ e. omega arith))
             | same e ↦ omega (arith, none-beyond p v (omega arith), one-eq v n e)
@@ -63,6 +68,27 @@ module _ (l : Layout) (t : T (valid l)) (room : l .n < 64) where
             elim (ℕ-discrete v (l .n)) [ yes e ↦ rw e (no-edge-from (l .n)) | no d ↦ sound l t .symmetry .diagonal v (omega arith) ];
       }
 
+  -- so it crosses nothing
+  pub crossings-added : crossings (suc (l .n)) (vertexOrder l ++ (l .n ∷ [])) (l .adjacency) ≡ crossings (l .n) (vertexOrder l) (l .adjacency)
+  crossings-added =
+      crossings-sum (permutation-more perm) (l .adjacency) symmetric-more
+      ∙ crossingSum-last (l .n) (placed more (weight (l .adjacency))) (placed (vertexOrder l) (weight (l .adjacency)))
+      (λ i j a b. ap₂ (weight (l .adjacency)) (kept i a) (kept j b))
+      (λ i a. ap₂ (weight (l .adjacency)) (kept i a) last ∙ no-edge-to (at (vertexOrder l) i) (omega (arith, at-lt perm i a)))
+      ∙ sym (crossings-sum perm (l .adjacency) (sound l t .symmetry))
+    where
+      perm : Permutation (l .n) (vertexOrder l)
+      perm = sound l t .permutation
+
+      more : List ℕ
+      more = vertexOrder l ++ (l .n ∷ [])
+
+      kept : (i : ℕ) → i < l .n → at more i ≡ at (vertexOrder l) i
+      kept i a = at-left (vertexOrder l) (l .n ∷ []) (l .n) i (perm .size) a
+
+      last : at more (l .n) ≡ l .n
+      last = ap (at more) (sym (add-zero (l .n))) ∙ at-right (vertexOrder l) (l .n ∷ []) (l .n) 0 (perm .size)
+
   module _ (size : length (l .order) ≡ 64) where
     permutation-added : Permutation (suc (l .n)) (take (suc (l .n)) (set (l .order) (l .n) (l .n)))
     unfolding vertexOrder
@@ -83,10 +109,14 @@ module _ (l : Layout) (t : T (valid l)) (room : l .n < 64) where
           unused = λ v h b. s .unused v (omega arith) b;
         })
 
-    -- by the counter
-    pub added-recounted : {places : List ℕ} → places ≡ set (l .order) (l .n) (l .n) → recounted l (l .n + 1) places (l .adjacency) ≡ added l
-    unfolding added
-    added-recounted e =
+    -- and its count is the one before
+    pub added-kept : {places : List ℕ} → l .count < modulus → places ≡ set (l .order) (l .n) (l .n)
+        → record { n = l .n + 1; order = places; adjacency = l .adjacency; count = l .count } ≡ added l
+    unfolding added changed crossingsOf vertexOrder
+    added-kept h e =
         rw (e, add-one (l .n))
-        (recounted-changed l (suc (l .n)) (set (l .order) (l .n) (l .n)) (l .adjacency) t
-        (record { small = room; permutation = permutation-added; symmetry = symmetric-more }))
+        (ap (λ (x : ℕ). record { n = suc (l .n); order = set (l .order) (l .n) (l .n); adjacency = l .adjacency; count = x })
+        (sym
+        (ap (carried (l .count) (crossingsOf l))
+        (ap (λ (o : List ℕ). crossings (suc (l .n)) o (l .adjacency)) (take-suc-set (l .order) (l .n) (l .n) (omega arith)) ∙ crossings-added)
+        ∙ carried-same (l .count) (crossingsOf l) h)))

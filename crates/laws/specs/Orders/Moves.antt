@@ -108,7 +108,7 @@ occurrences-putIn v r a xs =
     (omega (arith, occurrences-append v (take r xs) (drop r xs), ap (occurrences v) (take-append-drop r xs)))
 
 -- and entry by entry
-at-left : (xs ys : List ℕ) (m i : ℕ) → length xs ≡ m → i < m → at (xs ++ ys) i ≡ at xs i
+pub at-left : (xs ys : List ℕ) (m i : ℕ) → length xs ≡ m → i < m → at (xs ++ ys) i ≡ at xs i
 at-left xs ys m i e h = List·getD-append xs ys 0 i (omega arith)
 
 pub at-right : (xs ys : List ℕ) (m i : ℕ) → length xs ≡ m → at (xs ++ ys) (m + i) ≡ at ys i

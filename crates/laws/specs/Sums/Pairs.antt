@@ -1,13 +1,13 @@
 -- Sums over unordered pairs of numbers below n.
-use Prim.Native.Nat.{ℕ, _+_, _*_, _<_}
-use native.Mathlib.Nat.{mul-zero, mul-left-comm}
+use Prim.Native.Nat.{ℕ, suc, _+_, _*_, _<_}
+use native.Mathlib.Nat.{mul-zero, zero-mul, mul-left-comm}
 use native.Mathlib.Omega.{arith}
 use mathlib.Core.Path.{_≡_, sym, ap, _∙_}
 use mathlib.Core.List.{List}
 use lib.Dec.{ltb}
 use Rattle.model.specs.Lists.{one}
 use Rattle.laws.specs.Sums.Indicators.{less, same, more, order, one-lt, one-ge}
-use Rattle.laws.specs.Sums.Ranges.{double, halves, sum, sum-ext, sum-zero, sum-add, sum-scale, sum-swap, sum4, sum4-ext, sum4-swap-first}
+use Rattle.laws.specs.Sums.Ranges.{double, halves, sum, sum-ext, sum-zero, sum-last, sum-add, sum-scale, sum-swap, sum4, sum4-ext, sum4-swap-first}
 use Rattle.laws.specs.Sums.Ranges.{sum4-swap-middle, sum4-swap-last}
 use Rattle.laws.specs.Orders.Permutations.{at, Permutation, at-lt, sum-vertices}
 
@@ -43,6 +43,15 @@ unfolding pairSum
 pairSum-zero n F h =
     pairSum-ext n F (λ i j. 0) h
     ∙ sum-zero n (λ i. sum n (λ j. one (ltb i j) * 0)) (λ i a. sum-zero n (λ j. one (ltb i j) * 0) (λ j b. mul-zero (one (ltb i j))))
+
+-- a last number in no pair that counts
+pub pairSum-last : (n : ℕ) (F : ℕ → ℕ → ℕ) → ((i : ℕ) → i < n → F i n ≡ 0) → pairSum (suc n) F ≡ pairSum n F
+unfolding pairSum
+pairSum-last n F h =
+    sum-last n (λ i. sum (suc n) (λ j. one (ltb i j) * F i j))
+    (sum-zero (suc n) (λ j. one (ltb n j) * F n j) (λ j b. rw (one-ge n j (omega arith)) (zero-mul (F n j))))
+    ∙ sum-ext n (λ i. sum (suc n) (λ j. one (ltb i j) * F i j)) (λ i. sum n (λ j. one (ltb i j) * F i j))
+    (λ i a. sum-last n (λ j. one (ltb i j) * F i j) (rw (h i a) (mul-zero (one (ltb i n)))))
 
 pub pairSum-scale : (n c : ℕ) (F : ℕ → ℕ → ℕ) → pairSum n (λ i j. c * F i j) ≡ c * pairSum n F
 unfolding pairSum

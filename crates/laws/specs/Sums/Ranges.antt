@@ -30,6 +30,11 @@ unfolding sum
 sum-zero zero f h = refl
 sum-zero (suc n) f h = ap₂ (λ (x y : ℕ). x + y) (sum-zero n f (λ i l. h i (le-step l))) (h n (lt-suc-self n))
 
+-- a last term that is 0
+pub sum-last : (n : ℕ) (f : ℕ → ℕ) → f n ≡ 0 → sum (suc n) f ≡ sum n f
+unfolding sum
+sum-last n f e = ap (λ (x : ℕ). sum n f + x) e ∙ add-zero (sum n f)
+
 -- addition, and a factor taken out
 pub sum-add : (n : ℕ) (f g : ℕ → ℕ) → sum n (λ i. f i + g i) ≡ sum n f + sum n g
 unfolding sum

@@ -7,11 +7,6 @@ use Rattle.model.specs.Edits.{withBit, withoutBit}
 use Rattle.laws.specs.Sums.Bits.{set-within}
 use Rattle.laws.specs.Crossings.Masks.{maskFrom}
 use Rattle.counting.specs.Loops.{CountUpTo, count-start, count-next, count-end}
-use Prim.Native.Nat.{ℕ, _*_, _-_}
-use mathlib.Core.Path.{_≡_, ap, ap₂, sym, _∙_}
-use Rattle.laws.specs.Sums.Bits.{set-within}
-use Rattle.laws.specs.Crossings.Masks.{maskFrom}
-use Rattle.counting.specs.Loops.{CountUpTo, count-start, count-next, count-end}
 use Rattle.counting.proofs.counter.count_crossings.Statement.{statement}
 use Rattle.counting.proofs.counter.count_crossings.Tie as tie
 
@@ -22,7 +17,7 @@ abbrev μ-loop : tie.MeasureT-loop
 μ-loop n order adjacency before₀ from₀ total₀ j₀ before from total j = n - j
 
 returns : tie.Need-returns Inv-loop μ-loop
-returns c = rw (lt-leb (c .before .args .n) 64 (c .if1 .taken))
+returns c = rw (lt-leb _ _ (c .if1 .taken))
 
 low-bits-requires : tie.Need-low-bits-requires Inv-loop μ-loop
 low-bits-requires c κs = search needs
@@ -47,7 +42,9 @@ count-row-requires c κs =
     )
 
 add-total : tie.Need-add-total Inv-loop μ-loop
-add-total c = omega (arith, c .count-row .ensures .1, c .before .before .before .before .loop .inv .bounded, c .before .before .before .before .loop .inv .inside)
+add-total c =
+    let so-far = c .before .before .before .before .loop .inv in
+    omega (arith, c .count-row .ensures .1, so-far .bounded, so-far .inside)
 
 set-requires : tie.Need-set-requires Inv-loop μ-loop
 set-requires c κs = search needs
@@ -60,33 +57,21 @@ loop-less c = omega arith
 
 loop-again : tie.Need-loop-again Inv-loop μ-loop
 loop-again c =
-    let at-loop = c .before .before .before .before .before in
-    let v = c .before .before .before .vertex-at in
-    count-next (at-loop .loop .inv) (c .before .before .before .before .loop-test .taken)
-    (c .before .before .clear .ensures ∙ ap (withoutBit (at-loop .loop .«from»)) (v .ensures .0))
-    (set-within _ _ (v .ensures .1) (c .set .ensures) ∙ ap (withBit (at-loop .loop .before)) (v .ensures .0))
-    (c .before .count-row .ensures .0)
-    (c .before .count-row .ensures .1)
+    let row = c .before in
+    let vertex = row .before .before in
+    let turn = vertex .before .before .loop in
+    let v = vertex .vertex-at .ensures in
+    count-next (turn .inv) (vertex .before .loop-test .taken)
+    (row .before .clear .ensures ∙ ap (withoutBit (turn .«from»)) (v .0))
+    (set-within _ _ (v .1) (c .set .ensures) ∙ ap (withBit (turn .before)) (v .0))
+    (row .count-row .ensures .0)
+    (row .count-row .ensures .1)
 
 returns-2 : tie.Need-returns-2 Inv-loop μ-loop
-returns-2 c =
-    rw (le-leb (c .before .before .before .before .args .n) 64 (c .before .before .before .if1 .left)) (count-end (c .before .loop .inv) (c .loop-test .left))
+returns-2 c = rw (le-leb _ _ (c .before .before .before .if1 .left)) (count-end (c .before .loop .inv) (c .loop-test .left))
 
 pub count-crossings-spec : {M : Type 1} → statement M
 count-crossings-spec =
     tie.close
-    (tie.spec
-    Inv-loop
-    μ-loop
-    returns
-    low-bits-requires
-    loop-holds
-    vertex-at-requires
-    clear-requires
-    count-row-requires
-    add-total
-    set-requires
-    add-j
-    loop-less
-    loop-again
-    returns-2)
+    (tie.spec Inv-loop μ-loop returns low-bits-requires loop-holds vertex-at-requires clear-requires count-row-requires add-total
+    set-requires add-j loop-less loop-again returns-2)

@@ -15,6 +15,10 @@ Inv-loop n order adjacency j before after word rest₀ total₀ k₀ rest total 
 abbrev μ-loop : tie.MeasureT-loop
 μ-loop n order adjacency j before after word rest₀ total₀ k₀ rest total k = n - k
 
+-- the turn that a counted pair belongs to
+abbrev turn : tie.After-count-pair Inv-loop μ-loop → tie.At-loop Inv-loop μ-loop
+turn c = c .before .before .before .before .before
+
 word-at-requires : tie.Need-word-at-requires Inv-loop μ-loop
 word-at-requires c κs = omega arith
 
@@ -38,7 +42,7 @@ count-pair-requires c κs = search needs
 
 add-total : tie.Need-add-total Inv-loop μ-loop
 add-total c =
-    let so-far = c .before .before .before .before .before .loop .inv .0 in
+    let so-far = turn c .loop .inv .0 in
     omega (arith, c .count-pair .ensures .1, so-far .bounded, so-far .inside)
 
 add-k-2 : tie.Need-add-k-2 Inv-loop μ-loop
@@ -49,34 +53,25 @@ loop-less c = omega arith
 
 loop-again : tie.Need-loop-again Inv-loop μ-loop
 loop-again c =
-    let before-loop = c .before .before .before .before .before in (
-      row-next (before-loop .loop .inv .0) (c .before .before .before .before .loop-test .taken)
-          (c .before .before .clear .ensures ∙ ap (withoutBit (before-loop .loop .rest)) (c .before .before .before .vertex-at .ensures .0))
+    let so-far = turn c .loop .inv in
+    let cleared = c .before .before in
+    let vertex = cleared .before in (
+      row-next (so-far .0) (vertex .before .loop-test .taken)
+          (cleared .clear .ensures ∙ ap (withoutBit (turn c .loop .rest)) (vertex .vertex-at .ensures .0))
           (c .count-pair .ensures .0
-          ∙ ap₂ (λ (x y : ℕ). x * y) (ap₂ maskedOnes (c .before .word-at2 .ensures) (before-loop .before .before .pre .2))
-          (ap (λ (w : ℕ). maskedOnes w (c .before .before .clear .result)) (before-loop .loop .inv .1)))
+          ∙ ap₂ (λ (x y : ℕ). x * y) (ap₂ maskedOnes (c .before .word-at2 .ensures) (turn c .before .before .pre .2))
+          (ap (λ (w : ℕ). maskedOnes w (cleared .clear .result)) (so-far .1)))
           (c .count-pair .ensures .1),
-      before-loop .loop .inv .1,
+      so-far .1,
     )
 
 returns : tie.Need-returns Inv-loop μ-loop
-returns c = (row-end (c .before .loop .inv .0) (c .loop-test .left), omega (arith, c .before .loop .inv .0 .bounded, c .before .loop .inv .0 .inside))
+returns c =
+    let so-far = c .before .loop .inv .0 in
+    (row-end so-far (c .loop-test .left), omega (arith, so-far .bounded, so-far .inside))
 
 pub count-row-spec : {M : Type 1} → statement M
 count-row-spec =
     tie.close
-    (tie.spec
-    Inv-loop
-    μ-loop
-    word-at-requires
-    add-k
-    loop-holds
-    vertex-at-requires
-    clear-requires
-    word-at-requires-2
-    count-pair-requires
-    add-total
-    add-k-2
-    loop-less
-    loop-again
-    returns)
+    (tie.spec Inv-loop μ-loop word-at-requires add-k loop-holds vertex-at-requires clear-requires word-at-requires-2 count-pair-requires
+    add-total add-k-2 loop-less loop-again returns)

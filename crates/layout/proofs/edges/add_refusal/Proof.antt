@@ -1,22 +1,25 @@
 use borrow.Author.Needs.{needs}
 use native.Mathlib.Omega.{arith}
 use Prim.Native.Nat.{_<_}
-use mathlib.Core.Path.{_≡_, ap, sym, _∙_}
-use mathlib.Core.Bool.{Bool, not, cond}
 use Rattle.model.specs.Crossings.{linked}
-use Rattle.laws.specs.Layouts.Refusals.{pair-passed, within-capacity, link-last, link-before}
+use Rattle.laws.specs.Layouts.Refusals.{link-before}
+use Rattle.layout.specs.EdgeCalls.{linking, first-inside, last-refusal}
 use Rattle.layout.proofs.edges.add_refusal.Statement.{statement}
 use Rattle.layout.proofs.edges.add_refusal.Tie as tie
 
 -- the first vertex is a place of the array
 inside : (c : tie.Else1) → c .before .before .args .a < 64
-inside c = within-capacity (pair-passed (c .before .before .args .l) (c .before .before .args .a) (c .before .before .args .b) (sym (c .before .pair-refusal .ensures) ∙ c .if1 .left)) .0
+inside c =
+    let s = c .before .before .args in
+    first-inside linking (s .l) (s .a) (s .b) (c .before .pair-refusal .ensures) (c .if1 .left)
 
 pair-refusal-requires : tie.Need-pair-refusal-requires
 pair-refusal-requires c κs = search needs
 
 returns : tie.Need-returns
-returns c = link-before (c .before .before .args .l) (c .before .before .args .a) (c .before .before .args .b) (c .before .pair-refusal .ensures) (c .if1 .taken)
+returns c =
+    let s = c .before .before .args in
+    link-before (s .l) (s .a) (s .b) (c .before .pair-refusal .ensures) (c .if1 .taken)
 
 mul-is-set : tie.Need-mul-is-set
 mul-is-set c = omega (arith, inside (c .before))
@@ -30,25 +33,16 @@ is-set-requires c κs = search needs
 returns-2 : tie.Need-returns-2
 unfolding linked
 returns-2 c =
-    sym
-    (link-last (c .before .before .before .before .before .args .l) (c .before .before .before .before .before .args .a) (c .before .before .before .before .before .args .b) (sym (c .before .before .before .before .pair-refusal .ensures) ∙ c .before .before .before .if1 .left)
-    ∙ ap (λ (t : Bool). cond (not t) 0 14) (sym (c .before .is-set .ensures) ∙ c .if2 .taken))
+    let passed = c .before .before .before in
+    let s = passed .before .before .args in
+    last-refusal linking (s .l) (s .a) (s .b) (passed .before .pair-refusal .ensures) (passed .if1 .left) (c .before .is-set .ensures) (c .if2 .taken)
 
 returns-3 : tie.Need-returns-3
 unfolding linked
 returns-3 c =
-    sym
-    (link-last (c .before .before .before .before .before .args .l) (c .before .before .before .before .before .args .a) (c .before .before .before .before .before .args .b) (sym (c .before .before .before .before .pair-refusal .ensures) ∙ c .before .before .before .if1 .left)
-    ∙ ap (λ (t : Bool). cond (not t) 0 14) (sym (c .before .is-set .ensures) ∙ c .if2 .left))
+    let passed = c .before .before .before in
+    let s = passed .before .before .args in
+    last-refusal linking (s .l) (s .a) (s .b) (passed .before .pair-refusal .ensures) (passed .if1 .left) (c .before .is-set .ensures) (c .if2 .left)
 
 pub add-refusal-spec : {M : Type 1} → statement M
-add-refusal-spec =
-    tie.close
-    (tie.spec
-    pair-refusal-requires
-    returns
-    mul-is-set
-    array-read-is-set
-    is-set-requires
-    returns-2
-    returns-3)
+add-refusal-spec = tie.close (tie.spec pair-refusal-requires returns mul-is-set array-read-is-set is-set-requires returns-2 returns-3)

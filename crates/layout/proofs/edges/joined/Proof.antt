@@ -1,10 +1,8 @@
-use Prim.Native.Nat.{ℕ}
-use native.Mathlib.Omega.{arith}
-use mathlib.Core.Path.{ap₂}
-use lib.ListN.{set}
-use Rattle.model.specs.Edits.{atBothEnds}
-use Rattle.laws.specs.Sums.Bits.{set-within}
 use borrow.Author.Needs.{needs}
+use native.Mathlib.Omega.{arith}
+use Rattle.model.specs.Edits.{withBit}
+use Rattle.laws.specs.Sums.Bits.{set-within}
+use Rattle.layout.specs.EdgeCalls.{ends-written}
 use Rattle.layout.proofs.edges.joined.Statement.{statement}
 use Rattle.layout.proofs.edges.joined.Tie as tie
 
@@ -42,27 +40,16 @@ array-write-next-2 : tie.Need-array-write-next-2
 array-write-next-2 c = search needs
 
 returns : tie.Need-returns
-unfolding atBothEnds
-returns c = (
-  ap₂ (λ (x y : ℕ). set (set (c .before .before .before .before .before .args .t1) (c .before .before .before .before .before .args .a) x) (c .before .before .before .before .before .args .b) y)
-      (set-within _ _ (omega arith) (c .before .before .set .ensures))
-      (set-within _ _ (omega arith) (c .set2 .ensures)),
-  omega arith,
-)
+returns c =
+    let s = c .before .before .before .before .before .args in (
+      ends-written withBit (s .t1) (s .a) (s .b)
+          (set-within _ _ (omega arith) (c .before .before .set .ensures))
+          (set-within _ _ (omega arith) (c .set2 .ensures)),
+      omega arith,
+    )
 
 pub joined-spec : {M : Type 1} → statement M
 joined-spec =
     tie.close
-    (tie.spec
-    slice-aggregate-before
-    mul-set
-    shared-slice-read-set
-    set-requires
-    mul-next
-    array-write-next
-    mul-set-2
-    shared-slice-read-set-2
-    set-requires-2
-    mul-next-2
-    array-write-next-2
-    returns)
+    (tie.spec slice-aggregate-before mul-set shared-slice-read-set set-requires mul-next array-write-next mul-set-2 shared-slice-read-set-2
+    set-requires-2 mul-next-2 array-write-next-2 returns)

@@ -1,9 +1,7 @@
-use Prim.Native.Nat.{ℕ}
-use native.Mathlib.Omega.{arith}
-use mathlib.Core.Path.{ap₂}
-use lib.ListN.{set}
-use Rattle.model.specs.Edits.{atBothEnds}
 use borrow.Author.Needs.{needs}
+use native.Mathlib.Omega.{arith}
+use Rattle.model.specs.Edits.{withoutBit}
+use Rattle.layout.specs.EdgeCalls.{ends-written}
 use Rattle.layout.proofs.edges.parted.Statement.{statement}
 use Rattle.layout.proofs.edges.parted.Tie as tie
 
@@ -41,25 +39,14 @@ array-write-next-2 : tie.Need-array-write-next-2
 array-write-next-2 c = search needs
 
 returns : tie.Need-returns
-unfolding atBothEnds
-returns c = (
-  ap₂ (λ (x y : ℕ). set (set (c .before .before .before .before .before .args .t1) (c .before .before .before .before .before .args .a) x) (c .before .before .before .before .before .args .b) y) (c .before .before .clear .ensures) (c .clear2 .ensures),
-  omega arith,
-)
+returns c =
+    let s = c .before .before .before .before .before .args in (
+      ends-written withoutBit (s .t1) (s .a) (s .b) (c .before .before .clear .ensures) (c .clear2 .ensures),
+      omega arith,
+    )
 
 pub parted-spec : {M : Type 1} → statement M
 parted-spec =
     tie.close
-    (tie.spec
-    slice-aggregate-before
-    mul-clear
-    shared-slice-read-clear
-    clear-requires
-    mul-next
-    array-write-next
-    mul-clear-2
-    shared-slice-read-clear-2
-    clear-requires-2
-    mul-next-2
-    array-write-next-2
-    returns)
+    (tie.spec slice-aggregate-before mul-clear shared-slice-read-clear clear-requires mul-next array-write-next mul-clear-2
+    shared-slice-read-clear-2 clear-requires-2 mul-next-2 array-write-next-2 returns)

@@ -1,15 +1,8 @@
 use borrow.Author.Needs.{needs}
-use mathlib.Core.Path.{_≡_, sym, _∙_}
-use Rattle.model.specs.Checks.{refusal}
-use Rattle.model.specs.Edits.{unlinkChecks, withoutBit, atBothEnds, withEdges, unlinkOf}
-use Rattle.laws.specs.Layouts.Refusals.{within-capacity, unlink-pair, changed-refused, changed-accepted}
-use Rattle.laws.specs.Layouts.EdgeEdits.{clear-changes, edges-recounted}
+use Rattle.model.specs.Edits.{unlinkOf}
+use Rattle.layout.specs.EdgeCalls.{unlinking, edge-ends, edge-refused, edge-accepted}
 use Rattle.layout.proofs.edges.remove_edge.Statement.{statement}
 use Rattle.layout.proofs.edges.remove_edge.Tie as tie
-
--- every check has passed
-accepted : (c : tie.Else1) → refusal (unlinkChecks (c .before .before .args .l) (c .before .before .args .a) (c .before .before .args .b)) ≡ 0
-accepted c = sym (c .before .remove-refusal .ensures) ∙ c .if1 .left
 
 remove-refusal-requires : tie.Need-remove-refusal-requires
 remove-refusal-requires c κs = search needs
@@ -17,11 +10,14 @@ remove-refusal-requires c κs = search needs
 returns : tie.Need-returns
 unfolding unlinkOf
 returns c =
-    changed-refused (c .before .before .args .l) (unlinkChecks (c .before .before .args .l) (c .before .before .args .a) (c .before .before .args .b)) (withEdges (c .before .before .args .l) (atBothEnds withoutBit (c .before .before .args .l .adjacency) (c .before .before .args .a) (c .before .before .args .b)))
-    (c .before .remove-refusal .ensures) (c .if1 .taken)
+    let s = c .before .before .args in
+    edge-refused unlinking (s .l) (s .a) (s .b) (c .before .remove-refusal .ensures) (c .if1 .taken)
 
 parted-requires : tie.Need-parted-requires
-parted-requires c κs = within-capacity (unlink-pair (c .before .before .before .before .args .l) (c .before .before .before .before .args .a) (c .before .before .before .before .args .b) (accepted (c .before .before)))
+parted-requires c κs =
+    let accepted = c .before .before in
+    let s = accepted .before .before .args in
+    edge-ends unlinking (s .l) (s .a) (s .b) (accepted .before .remove-refusal .ensures) (accepted .if1 .left)
 
 recounted-requires : tie.Need-recounted-requires
 recounted-requires c κs = search needs
@@ -29,11 +25,11 @@ recounted-requires c κs = search needs
 returns-2 : tie.Need-returns-2
 unfolding unlinkOf
 returns-2 c =
-    changed-accepted (c .before .before .before .before .before .before .args .l) (unlinkChecks (c .before .before .before .before .before .before .args .l) (c .before .before .before .before .before .before .args .a) (c .before .before .before .before .before .before .args .b)) (withEdges (c .before .before .before .before .before .before .args .l) (atBothEnds withoutBit (c .before .before .before .before .before .before .args .l .adjacency) (c .before .before .before .before .before .before .args .a) (c .before .before .before .before .before .before .args .b)))
-    (accepted (c .before .before .before .before))
-    (c .recounted .ensures ∙ edges-recounted withoutBit 0 clear-changes (unlink-pair (c .before .before .before .before .before .before .args .l) (c .before .before .before .before .before .before .args .a) (c .before .before .before .before .before .before .args .b) (accepted (c .before .before .before .before))) (c .before .parted .ensures .1) (c .before .parted .ensures .0))
+    let edited = c .before in
+    let accepted = edited .before .before .before in
+    let s = accepted .before .before .args in
+    edge-accepted unlinking (s .l) (s .a) (s .b) (accepted .before .remove-refusal .ensures) (accepted .if1 .left)
+    (edited .parted .ensures) (c .recounted .ensures)
 
 pub remove-edge-spec : {M : Type 1} → statement M
-remove-edge-spec =
-    tie.close
-    (tie.spec remove-refusal-requires returns parted-requires recounted-requires returns-2)
+remove-edge-spec = tie.close (tie.spec remove-refusal-requires returns parted-requires recounted-requires returns-2)

@@ -2,28 +2,37 @@ use borrow.Author.Needs.{needs}
 use Prim.Native.Nat.{_≤_}
 use native.Mathlib.Omega.{arith}
 use mathlib.Core.Path.{_≡_, sym, _∙_}
-use lib.ListN.{length}
+use lib.ListN.{length, take}
 use lib.Seq.{length-take-le}
-use Rattle.model.specs.Edits.{moveChecks, movedAfter, moveOf}
-use Rattle.model.specs.Layouts.{vertexOrder, reordered}
+use Rattle.model.specs.Checks.{refusal}
+use Rattle.model.specs.Edits.{moveChecks, moveOf}
+use Rattle.model.specs.Layouts.{vertexOrder}
 use Rattle.laws.specs.Layouts.Validity.{sound}
 use Rattle.laws.specs.Layouts.Refusals.{Pair, pair-passed, changed-refused, changed-accepted}
+use Rattle.laws.specs.Layouts.Reordering.{movedLayout}
 use Rattle.layout.specs.MovedPlaces.{moved-array, move-recounted}
 use Rattle.layout.proofs.moves.move_after.Statement.{statement}
 use Rattle.layout.proofs.moves.move_after.Tie as tie
 
--- the checks have passed
-pair : (c : tie.Else1) → Pair (c .before .before .args .l) (c .before .before .args .a) (c .before .before .args .b)
-pair c =
-    pair-passed (c .before .before .args .l) (c .before .before .args .a) (c .before .before .args .b)
-    (sym (c .before .pair-refusal .ensures) ∙ c .if1 .left)
+-- from where the layout is taken apart: the call's arguments, and the checks that have passed
+abbrev start : tie.After-adjacency → tie.Start
+start c = c .before .before .before .before
 
--- so the vertices are places of the array
-inside : (c : tie.After-adjacency) → c .before .before .before .before .args .l .n ≤ length (c .before .before .before .before .args .l .order)
-inside c =
-    let size : length (c .before .before .before .before .args .l .order) ≡ 64 = search needs in
-    let small = sound (c .before .before .before .before .args .l) (pair (c .before .before) .is-valid) .small in
-    omega arith
+accepted : (c : tie.After-adjacency) → let s = start c .args in refusal (moveChecks (s .l) (s .a) (s .b)) ≡ 0
+accepted c = let passed = c .before .before in sym (passed .before .pair-refusal .ensures) ∙ passed .if1 .left
+
+pair : (c : tie.After-adjacency) → let s = start c .args in Pair (s .l) (s .a) (s .b)
+pair c = let s = start c .args in pair-passed (s .l) (s .a) (s .b) (accepted c)
+
+-- so the vertices are places of the array, and those are lent
+size : (c : tie.After-adjacency) → length (start c .args .l .order) ≡ 64
+size c = search needs
+
+inside : (c : tie.After-adjacency) → let l = start c .args .l in l .n ≤ length (l .order)
+inside c = omega (arith, size c, sound (start c .args .l) (pair c .is-valid) .small)
+
+lent : (c : tie.After-adjacency) → let l = start c .args .l in l .n ≡ length (take (l .n) (l .order))
+lent c = let l = start c .args .l in sym (length-take-le (l .n) (l .order) (inside c))
 
 pair-refusal-requires : tie.Need-pair-refusal-requires
 pair-refusal-requires c κs = search needs
@@ -31,14 +40,14 @@ pair-refusal-requires c κs = search needs
 returns : tie.Need-returns
 unfolding moveOf
 returns c =
-    changed-refused (c .before .before .args .l) (moveChecks (c .before .before .args .l) (c .before .before .args .a) (c .before .before .args .b)) (reordered (c .before .before .args .l) (movedAfter (c .before .before .args .a) (c .before .before .args .b) (vertexOrder (c .before .before .args .l))))
-    (c .before .pair-refusal .ensures) (c .if1 .taken)
+    let s = c .before .before .args in
+    changed-refused (s .l) (moveChecks (s .l) (s .a) (s .b)) (movedLayout (s .l) (s .a) (s .b)) (c .before .pair-refusal .ensures) (c .if1 .taken)
 
 array-share-prefix-before : tie.Need-array-share-prefix-before
 array-share-prefix-before c = inside c
 
 slice-aggregate-place-of : tie.Need-slice-aggregate-place-of
-slice-aggregate-place-of c = sym (length-take-le (c .before .before .before .before .before .args .l .n) (c .before .before .before .before .before .args .l .order) (inside (c .before)))
+slice-aggregate-place-of c = lent (c .before)
 
 place-of-requires : tie.Need-place-of-requires
 place-of-requires c κs = search needs
@@ -47,7 +56,7 @@ array-share-prefix-before-2 : tie.Need-array-share-prefix-before-2
 array-share-prefix-before-2 c = inside (c .before .before)
 
 slice-aggregate-place-of-2 : tie.Need-slice-aggregate-place-of-2
-slice-aggregate-place-of-2 c = sym (length-take-le (c .before .before .before .before .before .before .before .args .l .n) (c .before .before .before .before .before .before .before .args .l .order) (inside (c .before .before .before)))
+slice-aggregate-place-of-2 c = lent (c .before .before .before)
 
 place-of-requires-2 : tie.Need-place-of-requires-2
 place-of-requires-2 c κs = search needs
@@ -61,24 +70,17 @@ recounted-requires c κs = search needs
 returns-2 : tie.Need-returns-2
 unfolding moveOf vertexOrder
 returns-2 c =
-    changed-accepted (c .before .before .before .before .before .before .before .before .before .before .args .l) (moveChecks (c .before .before .before .before .before .before .before .before .before .before .args .l) (c .before .before .before .before .before .before .before .before .before .before .args .a) (c .before .before .before .before .before .before .before .before .before .before .args .b)) (reordered (c .before .before .before .before .before .before .before .before .before .before .args .l) (movedAfter (c .before .before .before .before .before .before .before .before .before .before .args .a) (c .before .before .before .before .before .before .before .before .before .before .args .b) (vertexOrder (c .before .before .before .before .before .before .before .before .before .before .args .l))))
-    (sym (c .before .before .before .before .before .before .before .before .before .pair-refusal .ensures) ∙ c .before .before .before .before .before .before .before .before .if1 .left)
+    let second = c .before .before in
+    let first = second .before .before in
+    let taken = first .before .before in
+    let s = start taken .args in
+    changed-accepted (s .l) (moveChecks (s .l) (s .a) (s .b)) (movedLayout (s .l) (s .a) (s .b)) (accepted taken)
     (c .recounted .ensures
-    ∙ move-recounted (pair (c .before .before .before .before .before .before .before .before))
-    (moved-array (pair (c .before .before .before .before .before .before .before .before)) (search needs) (c .before .before .before .before .place-of .ensures) (c .before .before .place-of2 .ensures) (c .before .moved .ensures)))
+    ∙ move-recounted (pair taken)
+    (moved-array (pair taken) (size taken) (first .place-of .ensures) (second .place-of2 .ensures) (c .before .moved .ensures)))
 
 pub move-after-spec : {M : Type 1} → statement M
 move-after-spec =
     tie.close
-    (tie.spec
-    pair-refusal-requires
-    returns
-    array-share-prefix-before
-    slice-aggregate-place-of
-    place-of-requires
-    array-share-prefix-before-2
-    slice-aggregate-place-of-2
-    place-of-requires-2
-    moved-requires
-    recounted-requires
-    returns-2)
+    (tie.spec pair-refusal-requires returns array-share-prefix-before slice-aggregate-place-of place-of-requires array-share-prefix-before-2
+    slice-aggregate-place-of-2 place-of-requires-2 moved-requires recounted-requires returns-2)

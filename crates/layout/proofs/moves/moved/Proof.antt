@@ -15,10 +15,10 @@ abbrev μ-loop : tie.MeasureT-loop
 μ-loop p q order next₀ i₀ next i = 64 - i
 
 returns : tie.Need-returns Inv-loop μ-loop
-returns c = rw (le-ltb (c .before .args .p) 64 (c .if1 .taken))
+returns c = rw (le-ltb _ _ (c .if1 .taken))
 
 returns-2 : tie.Need-returns-2 Inv-loop μ-loop
-returns-2 c = rw (lt-ltb (c .before .before .args .p) 64 (c .before .if1 .left), le-ltb (c .before .before .args .q) 64 (c .if2 .taken))
+returns-2 c = rw (lt-ltb _ _ (c .before .if1 .left), le-ltb _ _ (c .if2 .taken))
 
 loop-holds : tie.Need-loop-holds Inv-loop μ-loop
 loop-holds c = shifted-start (search needs)
@@ -39,24 +39,18 @@ loop-less : tie.Need-loop-less Inv-loop μ-loop
 loop-less c = omega arith
 
 loop-again : tie.Need-loop-again Inv-loop μ-loop
-loop-again c = shifted-next (c .before .before .loop .inv) (c .before .loop-test .taken) (ap (λ (k : ℕ). getD (c .before .before .before .before .before .args .t1) k 0) (c .moved-from .ensures .0))
+loop-again c =
+    let turn = c .before .before in
+    let order = turn .before .before .before .args .t1 in
+    shifted-next (turn .loop .inv) (c .before .loop-test .taken) (ap (λ (k : ℕ). getD order k 0) (c .moved-from .ensures .0))
 
 returns-3 : tie.Need-returns-3 Inv-loop μ-loop
-returns-3 c = rw (lt-ltb (c .before .before .before .before .args .p) 64 (c .before .before .before .if1 .left), lt-ltb (c .before .before .before .before .args .q) 64 (c .before .before .if2 .left)) (shifted-end (c .before .loop .inv) (c .loop-test .left))
+returns-3 c =
+    let tested = c .before .before in
+    rw (lt-ltb _ _ (tested .before .if1 .left), lt-ltb _ _ (tested .if2 .left)) (shifted-end (c .before .loop .inv) (c .loop-test .left))
 
 pub moved-spec : {M : Type 1} → statement M
 moved-spec =
     tie.close
-    (tie.spec
-    Inv-loop
-    μ-loop
-    returns
-    returns-2
-    loop-holds
-    moved-from-requires
-    array-read-next
-    array-write-next
-    add-i
-    loop-less
-    loop-again
+    (tie.spec Inv-loop μ-loop returns returns-2 loop-holds moved-from-requires array-read-next array-write-next add-i loop-less loop-again
     returns-3)

@@ -23,7 +23,10 @@ cast-if1 : tie.Need-cast-if1 Inv-loop μ-loop
 cast-if1 c = omega (arith, c .shared-slice-known .given (c .before .before .loop .i))
 
 returns : tie.Need-returns Inv-loop μ-loop
-returns c = place-found (c .before .before .before .before .args .v) (c .before .before .before .before .args .order .now) (c .before .before .before .loop .i) (c .before .before .before .loop .inv) (c .before .before .loop-test .taken) (c .if1 .taken)
+returns c =
+    let turn = c .before .before .before in
+    let s = turn .before .args in
+    place-found (s .v) (s .order .now) (turn .loop .i) (turn .loop .inv) (c .before .before .loop-test .taken) (c .if1 .taken)
 
 add-i : tie.Need-add-i Inv-loop μ-loop
 add-i c = omega arith
@@ -32,22 +35,15 @@ loop-less : tie.Need-loop-less Inv-loop μ-loop
 loop-less c = omega arith
 
 loop-again : tie.Need-loop-again Inv-loop μ-loop
-loop-again c = (omega arith, below-more (λ (k : ℕ). getD (c .before .before .before .before .args .order .now) k 0 ≡ c .before .before .before .before .args .v → ⊥) (c .before .before .before .loop .i) (c .before .before .before .loop .inv .1) (c .if1 .left))
+loop-again c =
+    let turn = c .before .before .before in
+    let s = turn .before .args in
+    (omega arith, below-more (λ (k : ℕ). getD (s .order .now) k 0 ≡ s .v → ⊥) (turn .loop .i) (turn .loop .inv .1) (c .if1 .left))
 
 returns-2 : tie.Need-returns-2 Inv-loop μ-loop
-returns-2 c = place-missing (c .before .before .args .v) (c .before .before .args .order .now) (c .before .loop .i) (c .before .loop .inv) (c .loop-test .left)
+returns-2 c =
+    let s = c .before .before .args in
+    place-missing (s .v) (s .order .now) (c .before .loop .i) (c .before .loop .inv) (c .loop-test .left)
 
 pub place-of-spec : {M : Type 1} → statement M
-place-of-spec =
-    tie.close
-    (tie.spec
-    Inv-loop
-    μ-loop
-    loop-holds
-    shared-slice-read-if1
-    cast-if1
-    returns
-    add-i
-    loop-less
-    loop-again
-    returns-2)
+place-of-spec = tie.close (tie.spec Inv-loop μ-loop loop-holds shared-slice-read-if1 cast-if1 returns add-i loop-less loop-again returns-2)

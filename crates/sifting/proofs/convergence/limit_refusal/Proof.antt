@@ -15,15 +15,21 @@ returns c = rw (failed (c .before .is-valid .ensures) (c .if1 .taken))
 
 returns-2 : tie.Need-returns-2
 unfolding settleChecks refusal isValid limitFits
-returns-2 c = rw (passed (c .before .before .is-valid .ensures) (c .before .if1 .left), lt-leb 1 (c .before .before .before .args .limit) (c .if2 .taken))
+returns-2 c =
+    let tested = c .before in
+    rw (passed (tested .before .is-valid .ensures) (tested .if1 .left), lt-leb _ _ (c .if2 .taken))
 
 returns-3 : tie.Need-returns-3
 unfolding settleChecks refusal isValid limitFits
-returns-3 c = rw (passed (c .before .before .before .is-valid .ensures) (c .before .before .if1 .left), le-leb 1 (c .before .before .before .before .args .limit) (c .before .if2 .left), lt-leb (c .before .before .before .before .args .limit) 1000 (c .if3 .taken))
+returns-3 c =
+    let tested = c .before .before in
+    rw (passed (tested .before .is-valid .ensures) (tested .if1 .left), le-leb _ _ (c .before .if2 .left), lt-leb _ _ (c .if3 .taken))
 
 returns-4 : tie.Need-returns-4
 unfolding settleChecks refusal isValid limitFits
-returns-4 c = rw (passed (c .before .before .before .is-valid .ensures) (c .before .before .if1 .left), le-leb 1 (c .before .before .before .before .args .limit) (c .before .if2 .left), le-leb (c .before .before .before .before .args .limit) 1000 (c .if3 .left))
+returns-4 c =
+    let tested = c .before .before in
+    rw (passed (tested .before .is-valid .ensures) (tested .if1 .left), le-leb _ _ (c .before .if2 .left), le-leb _ _ (c .if3 .left))
 
 pub limit-refusal-spec : {M : Type 1} → statement M
 limit-refusal-spec = tie.close (tie.spec is-valid-requires returns returns-2 returns-3 returns-4)

@@ -17,34 +17,31 @@ sift-all-requires : tie.Need-sift-all-requires Inv-loop μ-loop
 sift-all-requires c κs = c .before .loop .inv .is-valid
 
 add-reduction : tie.Need-add-reduction Inv-loop μ-loop
-add-reduction c = omega (arith, settling-bounds (c .before .before .before .before .loop .inv) (c .before .before .before .before .before .pre) (c .before .before .sift-all .ensures))
+add-reduction c =
+    let round = c .before .before in
+    let turn = round .before .before in
+    omega (arith, settling-bounds (turn .loop .inv) (turn .before .pre) (round .sift-all .ensures))
 
 add-rounds : tie.Need-add-rounds Inv-loop μ-loop
 add-rounds c = omega arith
 
 returns : tie.Need-returns Inv-loop μ-loop
-returns c = settling-still (c .before .before .before .before .before .before .loop .inv) (c .before .before .before .before .before .loop-test .taken) (c .before .before .before .before .sift-all .ensures) (c .if1 .taken)
+returns c =
+    let summed = c .before .before in
+    let round = summed .before .before in
+    settling-still (round .before .before .loop .inv) (round .before .loop-test .taken) (round .sift-all .ensures) (c .if1 .taken)
 
 loop-less : tie.Need-loop-less Inv-loop μ-loop
 loop-less c = omega arith
 
 loop-again : tie.Need-loop-again Inv-loop μ-loop
-loop-again c = settling-next (c .before .before .before .before .before .before .loop .inv) (c .before .before .before .before .before .loop-test .taken) (c .before .before .before .before .sift-all .ensures) (c .if1 .left)
+loop-again c =
+    let summed = c .before .before in
+    let round = summed .before .before in
+    settling-next (round .before .before .loop .inv) (round .before .loop-test .taken) (round .sift-all .ensures) (c .if1 .left)
 
 returns-2 : tie.Need-returns-2 Inv-loop μ-loop
 returns-2 c = settling-limit (c .before .loop .inv) (c .loop-test .left)
 
 pub run-rounds-spec : {M : Type 1} → statement M
-run-rounds-spec =
-    tie.close
-    (tie.spec
-    Inv-loop
-    μ-loop
-    loop-holds
-    sift-all-requires
-    add-reduction
-    add-rounds
-    returns
-    loop-less
-    loop-again
-    returns-2)
+run-rounds-spec = tie.close (tie.spec Inv-loop μ-loop loop-holds sift-all-requires add-reduction add-rounds returns loop-less loop-again returns-2)

@@ -3,10 +3,10 @@ use Rattle.sifting.proofs.rounds.moved_by.Statement.{statement}
 use Rattle.sifting.proofs.rounds.moved_by.Tie as tie
 
 returns : tie.Need-returns
-returns c = rw (eq-eqb (c .before .args .saved) 0 (c .if1 .taken))
+returns c = rw (eq-eqb _ _ (c .if1 .taken))
 
 returns-2 : tie.Need-returns-2
-returns-2 c = rw (ne-eqb (c .before .args .saved) 0 (c .if1 .left))
+returns-2 c = rw (ne-eqb _ _ (c .if1 .left))
 
 pub moved-by-spec : {M : Type 1} → statement M
 moved-by-spec = tie.close (tie.spec returns returns-2)

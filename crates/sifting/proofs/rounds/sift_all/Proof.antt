@@ -16,12 +16,9 @@ loop-holds c = round-start (c .args .l)
 
 sift-next-requires : tie.Need-sift-next-requires Inv-loop μ-loop
 sift-next-requires c κs =
-    let s = ready (c .before .before .pre) (c .before .loop .inv) in (
-      s .is-valid,
-      rw (s .same-n) (c .loop-test .taken),
-      omega (arith, s .exact, crossings-bound (c .before .before .args .l) (c .before .before .pre)),
-      s .fewer,
-    )
+    let start = c .before .before in
+    let s = ready (start .pre) (c .before .loop .inv) in
+    (s .is-valid, omega (arith, s .same-n), omega (arith, s .exact, crossings-bound (start .args .l) (start .pre)), s .fewer)
 
 add-u : tie.Need-add-u Inv-loop μ-loop
 add-u c = omega arith
@@ -36,6 +33,4 @@ returns : tie.Need-returns Inv-loop μ-loop
 returns c = round-end (c .before .loop .inv) (c .loop-test .left)
 
 pub sift-all-spec : {M : Type 1} → statement M
-sift-all-spec =
-    tie.close
-    (tie.spec Inv-loop μ-loop loop-holds sift-next-requires add-u loop-less loop-again returns)
+sift-all-spec = tie.close (tie.spec Inv-loop μ-loop loop-holds sift-next-requires add-u loop-less loop-again returns)

@@ -16,16 +16,21 @@ use Rattle.sifting.specs.Loops.{siftNext, moves-saving}
 use Rattle.sifting.proofs.rounds.sift_next.Statement.{statement}
 use Rattle.sifting.proofs.rounds.sift_next.Tie as tie
 
+abbrev start : tie.After-moved-by → tie.Start
+start c = c .before .before .before .before
+
 -- the reduction of the sift, and whether it moved the vertex
 saved : (c : tie.After-moved-by)
-    → c .before .before .sift-vertex .result .reduction ≡ reduction (c .before .before .before .before .args .s .layout) (sifted (c .before .before .before .before .args .s .layout) (c .before .before .before .before .args .u))
+    → let s = start c .args in c .before .before .sift-vertex .result .reduction ≡ reduction (s .s .layout) (sifted (s .s .layout) (s .u))
 saved c = ap (λ (r : Sifted). r .reduction) (c .before .before .sift-vertex .ensures)
 
-moved : (c : tie.After-moved-by) → c .moved-by .result ≡ one (moves (c .before .before .before .before .args .s .layout) (c .before .before .before .before .args .u))
+moved : (c : tie.After-moved-by) → let s = start c .args in c .moved-by .result ≡ one (moves (s .s .layout) (s .u))
 moved c =
+    let s = start c .args in
+    let ready = start c .pre in
     c .moved-by .ensures
     ∙ ap (λ (x : ℕ). cond (eqb x 0) 0 1) (saved c)
-    ∙ moves-saving (c .before .before .before .before .args .s .layout) (c .before .before .before .before .pre .0) (c .before .before .before .before .args .u) (c .before .before .before .before .pre .1)
+    ∙ moves-saving (s .s .layout) (ready .0) (s .u) (ready .1)
 
 sift-vertex-requires : tie.Need-sift-vertex-requires
 sift-vertex-requires c κs = search needs
@@ -35,22 +40,24 @@ moved-by-requires c κs = search needs
 
 add-t8 : tie.Need-add-t8
 unfolding reduction
-add-t8 c = omega (arith, saved (c .before), sub-le (crossingsOf (c .before .before .before .before .before .args .s .layout)) (crossingsOf (sifted (c .before .before .before .before .before .args .s .layout) (c .before .before .before .before .before .args .u))))
+add-t8 c =
+    let sifting = c .before in
+    let s = start sifting .args in
+    omega (arith, saved sifting, sub-le (crossingsOf (s .s .layout)) (crossingsOf (sifted (s .s .layout) (s .u))))
 
 add-t9 : tie.Need-add-t9
-add-t9 c = omega (arith, moved (c .before .before), one-le (moves (c .before .before .before .before .before .before .args .s .layout) (c .before .before .before .before .before .before .args .u)))
+add-t9 c =
+    let sifting = c .before .before in
+    let s = start sifting .args in
+    omega (arith, moved sifting, one-le (moves (s .s .layout) (s .u)))
 
 returns : tie.Need-returns
 unfolding siftNext
 returns c =
-    ap₂
-    (λ (r : Sifted) (k : ℕ). record {
-      refusal = 0;
-      layout = r .layout;
-      reduction = c .before .before .before .before .before .before .args .s .reduction + r .reduction;
-      moved = c .before .before .before .before .before .before .args .s .moved + k;
-    })
-    (c .before .before .before .before .sift-vertex .ensures) (moved (c .before .before))
+    let sifting = c .before .before in
+    let s = start sifting .args .s in
+    ap₂ (λ (r : Sifted) (k : ℕ). record { refusal = 0; layout = r .layout; reduction = s .reduction + r .reduction; moved = s .moved + k })
+    (sifting .before .before .sift-vertex .ensures) (moved sifting)
 
 pub sift-next-spec : {M : Type 1} → statement M
 sift-next-spec = tie.close (tie.spec sift-vertex-requires moved-by-requires add-t8 add-t9 returns)

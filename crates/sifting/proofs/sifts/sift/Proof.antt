@@ -12,8 +12,10 @@ use Rattle.sifting.proofs.sifts.sift.Statement.{statement}
 use Rattle.sifting.proofs.sifts.sift.Tie as tie
 
 -- the checks have passed
-checks : (c : tie.Else1) → T (valid (c .before .before .args .l)) × (c .before .before .args .u < c .before .before .args .l .n)
-checks c = vertex-passed (c .before .before .args .l) (c .before .before .args .u) (sym (c .before .vertex-refusal .ensures) ∙ c .if1 .left)
+checks : (c : tie.Else1) → let s = c .before .before .args in T (valid (s .l)) × (s .u < s .l .n)
+checks c =
+    let s = c .before .before .args in
+    vertex-passed (s .l) (s .u) (sym (c .before .vertex-refusal .ensures) ∙ c .if1 .left)
 
 vertex-refusal-requires : tie.Need-vertex-refusal-requires
 vertex-refusal-requires c κs = search needs
@@ -23,14 +25,15 @@ unfolding siftOf siftChecks
 returns c =
     let l = c .before .before .args .l in
     let u = c .before .before .args .u in
-    sym
-    (when-refused (siftChecks l u) (siftAnswer l u) (siftRefused l) (c .before .vertex-refusal .ensures) (c .if1 .taken))
+    sym (when-refused (siftChecks l u) (siftAnswer l u) (siftRefused l) (c .before .vertex-refusal .ensures) (c .if1 .taken))
 
 sift-vertex-requires : tie.Need-sift-vertex-requires
 sift-vertex-requires c κs = checks c
 
 returns-2 : tie.Need-returns-2
-returns-2 c = c .sift-vertex .ensures ∙ sym (sift-accepted (c .before .before .before .args .l) (c .before .before .before .args .u) (checks (c .before) .0) (checks (c .before) .1))
+returns-2 c =
+    let s = c .before .before .before .args in
+    c .sift-vertex .ensures ∙ sym (sift-accepted (s .l) (s .u) (checks (c .before) .0) (checks (c .before) .1))
 
 pub sift-spec : {M : Type 1} → statement M
 sift-spec = tie.close (tie.spec vertex-refusal-requires returns sift-vertex-requires returns-2)

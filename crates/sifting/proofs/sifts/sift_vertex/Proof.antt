@@ -1,39 +1,51 @@
 use borrow.Author.Needs.{needs}
 use Prim.Native.Nat.{ℕ, _-_, _≤_}
-use mathlib.Core.Path.{_≡_, ap₂, _∙_}
+use native.Mathlib.Omega.{arith}
+use mathlib.Core.Path.{_≡_, ap₂}
 use Rattle.model.specs.declared.Layout.{Layout}
 use Rattle.model.specs.declared.Sifted.{Sifted}
 use Rattle.model.specs.Layouts.{vertexOrder, crossingsOf}
 use Rattle.model.specs.Sifting.{sifted, reduction}
 use Rattle.laws.specs.Layouts.Recount.{drawn}
-use Rattle.sifting.specs.Loops.{sifted-recounted, sifted-saves}
+use Rattle.sifting.specs.Loops.{sifted-carried, sifted-saves}
 use Rattle.sifting.proofs.sifts.sift_vertex.Statement.{statement}
 use Rattle.sifting.proofs.sifts.sift_vertex.Tie as tie
 
--- what the walk found
+abbrev start : tie.After-best-order → tie.Start
+start c = c .before .before .before .before
+
+-- what the walk saves
 saves : (c : tie.After-best-order)
-    → (c .best-order .result .after ≤ c .best-order .result .before)
-    × (c .best-order .result .before - c .best-order .result .after ≡ reduction (c .before .before .before .before .args .l) (sifted (c .before .before .before .before .args .l) (c .before .before .before .before .args .u)))
+    → let s = start c .args in
+    let best = c .best-order .result in
+    (best .after ≤ best .before) × (best .before - best .after ≡ reduction (s .l) (sifted (s .l) (s .u)))
 unfolding crossingsOf vertexOrder
 saves c =
-    sifted-saves (c .before .before .before .before .args .l) (c .before .before .before .before .pre .0) (c .before .before .before .before .args .u) (c .before .before .before .before .pre .1) (c .best-order .ensures .1 .0) (c .best-order .ensures .1 .1)
+    let s = start c .args in
+    let ready = start c .pre in
+    sifted-saves (s .l) (ready .0) (s .u) (ready .1) (c .best-order .ensures .1 .0) (c .best-order .ensures .1 .1)
 
 best-order-requires : tie.Need-best-order-requires
-best-order-requires c κs = (drawn (c .before .before .before .args .l) (c .before .before .before .pre .0), c .before .before .before .pre .1)
+best-order-requires c κs =
+    let s = c .before .before .before in
+    (drawn (s .args .l) (s .pre .0), s .pre .1)
 
-recounted-requires : tie.Need-recounted-requires
-recounted-requires c κs = search needs
+carried-requires : tie.Need-carried-requires
+carried-requires c κs = search needs
 
-sub-t11 : tie.Need-sub-t11
-sub-t11 c = saves (c .before .before .before) .0
+sub-t12 : tie.Need-sub-t12
+sub-t12 c = omega (arith, saves (c .before .before .before) .0)
 
 returns : tie.Need-returns
-unfolding vertexOrder
+unfolding crossingsOf vertexOrder
 returns c =
+    let walked = c .before .before .before in
+    let s = start walked .args in
+    let ready = start walked .pre in
+    let found = walked .best-order .ensures in
     ap₂ (λ (k : Layout) (x : ℕ). record { refusal = 0; layout = k; reduction = x })
-    (c .before .recounted .ensures
-    ∙ sifted-recounted (c .before .before .before .before .before .before .before .args .l) (c .before .before .before .before .before .before .before .pre .0) (c .before .before .before .before .before .before .before .args .u) (c .before .before .before .before .before .before .before .pre .1) (c .before .before .before .best-order .ensures .0))
-    (saves (c .before .before .before) .1)
+    (sifted-carried (s .l) (ready .0) (s .u) (ready .1) (found .1 .0) (found .1 .1) (found .0) (c .before .carried .ensures))
+    (saves walked .1)
 
 pub sift-vertex-spec : {M : Type 1} → statement M
-sift-vertex-spec = tie.close (tie.spec best-order-requires recounted-requires sub-t11 returns)
+sift-vertex-spec = tie.close (tie.spec best-order-requires carried-requires sub-t12 returns)

@@ -1,16 +1,16 @@
 use borrow.Author.Needs.{needs}
-use Prim.Native.Nat.{ℕ, _-_, _<_, _≤_}
+use Prim.Native.Nat.{ℕ, _+_, _-_, _<_, _≤_}
 use native.Mathlib.Omega.{arith}
-use mathlib.Core.Path.{_≡_, ap, sym, _∙_}
+use mathlib.Core.Path.{_≡_, sym, _∙_}
 use mathlib.Core.Logic.{⊎-elim}
 use mathlib.Core.List.{_++_}
 use lib.ListN.{length, take, drop}
-use Rattle.model.specs.Crossings.{crossings}
 use lib.Seq.{length-take-le}
+use Rattle.model.specs.Crossings.{crossings}
 use Rattle.model.specs.Lists.{place}
-use Rattle.laws.specs.Orders.Permutations.{place-below}
 use Rattle.laws.specs.Layouts.Recount.{counted, counted-crossings}
-use Rattle.sifting.specs.Walk.{candidate, WalkUpTo, walk-start, walk-better, walk-same, walk-end, candidate-array, candidate-counted}
+use Rattle.sifting.specs.Walk.{candidate, Walker, place-inside, candidate-array, candidate-counted}
+use Rattle.sifting.specs.Walk.{WalkUpTo, walk-start, walk-better, walk-same, walk-end}
 use Rattle.sifting.proofs.walk.best_order.Statement.{statement}
 use Rattle.sifting.proofs.walk.best_order.Tie as tie
 
@@ -20,18 +20,25 @@ Inv-loop n adjacency u order p before best₀ fewest₀ j₀ best fewest j = Wal
 abbrev μ-loop : tie.MeasureT-loop
 μ-loop n adjacency u order p before best₀ fewest₀ j₀ best fewest j = n - j
 
--- an array has 64 places, and the vertices stand in the first of them
-size : (c : tie.Start Inv-loop μ-loop) → length (c .args .t2) ≡ 64
-size c = search needs
+-- what the walk starts from; the vertices stand in the first places of the array
+walker : (c : tie.Start Inv-loop μ-loop) → let s = c .args in Walker (s .n) (s .t2) (s .adjacency .now) (s .u)
+walker c = record { size = search needs; drawn = c .pre .0; vertex = c .pre .1 }
 
 inside : (c : tie.Start Inv-loop μ-loop) → c .args .n ≤ length (c .args .t2)
-inside c = omega (arith, size c, c .pre .0 .small)
+inside c = omega (arith, walker c .size, c .pre .0 .small)
+
+-- the moments: the present order is counted, and a turn of the loop starts
+abbrev start : tie.After-count-crossings Inv-loop μ-loop → tie.Start Inv-loop μ-loop
+start c = c .before .before .before .before
+
+abbrev turn : tie.Joined1 Inv-loop μ-loop → tie.At-loop Inv-loop μ-loop
+turn c = let made = c .before .before .before in made .before .before .before
 
 array-share-prefix-order : tie.Need-array-share-prefix-order Inv-loop μ-loop
 array-share-prefix-order c = inside c
 
 slice-aggregate-place-of : tie.Need-slice-aggregate-place-of Inv-loop μ-loop
-slice-aggregate-place-of c = sym (length-take-le (c .before .args .n) (c .before .args .t2) (inside (c .before)))
+slice-aggregate-place-of c = let s = c .before in sym (length-take-le (s .args .n) (s .args .t2) (inside s))
 
 place-of-requires : tie.Need-place-of-requires Inv-loop μ-loop
 place-of-requires c κs = tt
@@ -39,20 +46,23 @@ place-of-requires c κs = tt
 count-crossings-requires : tie.Need-count-crossings-requires Inv-loop μ-loop
 count-crossings-requires c κs = tt
 
-loop-holds : tie.Need-loop-holds Inv-loop μ-loop
+-- the crossings of the present order
+present : (c : tie.After-count-crossings Inv-loop μ-loop)
+    → let s = start c .args in c .count-crossings .result ≡ crossings (s .n) (take (s .n) (s .t2)) (s .adjacency .now)
 unfolding counted
-loop-holds c = (walk-start (c .before .before .before .before .args .n) (c .before .before .before .before .args .t2) (c .before .before .before .before .args .adjacency .now) (size (c .before .before .before .before)) (c .before .before .before .before .pre .0 .small) (c .before .before .before .before .pre .0 .permutation) (c .before .before .before .before .args .u) (c .before .before .before .before .pre .1) (c .count-crossings .ensures ∙ counted-crossings (c .before .before .before .before .pre .0)), c .before .before .place-of .ensures)
+present c = c .count-crossings .ensures ∙ counted-crossings (start c .pre .0)
+
+loop-holds : tie.Need-loop-holds Inv-loop μ-loop
+loop-holds c = (walk-start (walker (start c)) (present c), c .before .before .place-of .ensures)
 
 add-loop : tie.Need-add-loop Inv-loop μ-loop
 add-loop c = omega (arith, c .loop .inv .0 .inside)
 
 turned-requires : tie.Need-turned-requires Inv-loop μ-loop
 turned-requires c κs =
-    let start = c .before .before .before .before .before .before in (
-      start .pre .0 .small,
-      rw (c .before .before .before .before .place-of .ensures) (place-below (start .pre .0 .permutation) (start .args .u) (start .pre .1)),
-      c .loop-test .taken,
-    )
+    let counted = c .before .before in
+    let s = start counted in
+    (s .pre .0 .small, omega (arith, counted .before .before .place-of .ensures, place-inside (walker s), s .pre .1), c .loop-test .taken)
 
 moved-requires : tie.Need-moved-requires Inv-loop μ-loop
 moved-requires c κs = tt
@@ -61,57 +71,51 @@ count-crossings-requires-2 : tie.Need-count-crossings-requires-2 Inv-loop μ-loo
 count-crossings-requires-2 c κs = tt
 
 add-j : tie.Need-add-j Inv-loop μ-loop
-add-j c = omega (arith, c .before .before .before .before .before .before .loop .inv .0 .inside)
+add-j c = omega (arith, turn c .loop .inv .0 .inside)
 
 loop-less : tie.Need-loop-less Inv-loop μ-loop
-loop-less c = omega (arith, c .before .before .before .before .before .before .loop .inv .0 .inside)
+loop-less c = omega (arith, turn c .loop .inv .0 .inside)
+
+more : (c : tie.Joined1 Inv-loop μ-loop) → turn c .loop .j + 1 < start (turn c .before) .args .n
+more c = let made = c .before .before .before in made .before .before .loop-test .taken
 
 -- the candidate's array, and what the counter answers for it
 array : (c : tie.Joined1 Inv-loop μ-loop)
-    → c .before .before .before .moved .result
-    ≡ candidate (c .before .before .before .before .before .before .before .before .before .before .before .args .n) (c .before .before .before .before .before .before .before .before .before .before .before .args .t2) (c .before .before .before .before .before .before .before .before .before .before .before .args .u) (c .before .before .before .before .before .before .loop .j) ++ drop (c .before .before .before .before .before .before .before .before .before .before .before .args .n) (c .before .before .before .before .before .before .before .before .before .before .before .args .t2)
+    → let s = start (turn c .before) .args in
+    c .before .before .before .moved .result ≡ candidate (s .n) (s .t2) (s .u) (turn c .loop .j) ++ drop (s .n) (s .t2)
 array c =
-    candidate-array (c .before .before .before .before .before .before .before .before .before .before .before .args .n) (c .before .before .before .before .before .before .before .before .before .before .before .args .t2) (c .before .before .before .before .before .before .before .before .before .before .before .args .adjacency .now) (size (c .before .before .before .before .before .before .before .before .before .before .before)) (c .before .before .before .before .before .before .before .before .before .before .before .pre .0 .small) (c .before .before .before .before .before .before .before .before .before .before .before .pre .0 .permutation) (c .before .before .before .before .before .before .before .before .before .before .before .args .u) (c .before .before .before .before .before .before .before .before .before .before .before .pre .1) (c .before .before .before .before .before .before .loop .j) (c .before .before .before .before .before .loop-test .taken) (c .before .before .before .before .before .before .before .before .before .place-of .ensures) (c .before .before .before .before .turned .ensures) (c .before .before .before .moved .ensures)
+    let made = c .before .before .before in
+    let counted = turn c .before in
+    candidate-array (walker (start counted)) (turn c .loop .j) (more c) (counted .before .before .place-of .ensures)
+    (made .before .turned .ensures) (made .moved .ensures)
 
 answer : (c : tie.Joined1 Inv-loop μ-loop)
-    → c .before .count-crossings2 .result
-    ≡ crossings (c .before .before .before .before .before .before .before .before .before .before .before .args .n) (candidate (c .before .before .before .before .before .before .before .before .before .before .before .args .n) (c .before .before .before .before .before .before .before .before .before .before .before .args .t2) (c .before .before .before .before .before .before .before .before .before .before .before .args .u) (c .before .before .before .before .before .before .loop .j)) (c .before .before .before .before .before .before .before .before .before .before .before .args .adjacency .now)
+    → let s = start (turn c .before) .args in
+    c .before .count-crossings2 .result ≡ crossings (s .n) (candidate (s .n) (s .t2) (s .u) (turn c .loop .j)) (s .adjacency .now)
 unfolding counted
 answer c =
     c .before .count-crossings2 .ensures
-    ∙ candidate-counted (c .before .before .before .before .before .before .before .before .before .before .before .args .n) (c .before .before .before .before .before .before .before .before .before .before .before .args .t2) (c .before .before .before .before .before .before .before .before .before .before .before .args .adjacency .now) (size (c .before .before .before .before .before .before .before .before .before .before .before)) (c .before .before .before .before .before .before .before .before .before .before .before .pre .0 .small) (c .before .before .before .before .before .before .before .before .before .before .before .pre .0 .permutation) (c .before .before .before .before .before .before .before .before .before .before .before .args .u) (c .before .before .before .before .before .before .before .before .before .before .before .pre .1) (c .before .before .before .before .before .before .before .before .before .before .before .pre .0 .symmetry) (c .before .before .before .before .before .before .loop .j) (c .before .before .before .before .before .loop-test .taken) (array c)
+    ∙ candidate-counted (walker (start (turn c .before))) (turn c .loop .j) (more c) (array c)
 
 loop-again : tie.Need-loop-again Inv-loop μ-loop
-loop-again c = (
-  ⊎-elim
-      (λ w. rw (w .1, w .2) (walk-better (c .before .before .before .before .before .before .before .before .before .before .before .args .n) (c .before .before .before .before .before .before .before .before .before .before .before .args .t2) (c .before .before .before .before .before .before .before .before .before .before .before .args .adjacency .now) (size (c .before .before .before .before .before .before .before .before .before .before .before)) (c .before .before .before .before .before .before .before .before .before .before .before .pre .0 .small) (c .before .before .before .before .before .before .before .before .before .before .before .pre .0 .permutation) (c .before .before .before .before .before .before .before .before .before .before .before .args .u) (c .before .before .before .before .before .before .before .before .before .before .before .pre .1) (c .before .before .before .before .before .before .loop .inv .0) (c .before .before .before .before .before .loop-test .taken) (array c) (answer c) (w .0 .taken)))
-      (λ w. rw (w .1, w .2) (walk-same (c .before .before .before .before .before .before .before .before .before .before .before .args .n) (c .before .before .before .before .before .before .before .before .before .before .before .args .t2) (c .before .before .before .before .before .before .before .before .before .before .before .args .adjacency .now) (size (c .before .before .before .before .before .before .before .before .before .before .before)) (c .before .before .before .before .before .before .before .before .before .before .before .pre .0 .small) (c .before .before .before .before .before .before .before .before .before .before .before .pre .0 .permutation) (c .before .before .before .before .before .before .before .before .before .before .before .args .u) (c .before .before .before .before .before .before .before .before .before .before .before .pre .1) (c .before .before .before .before .before .before .loop .inv .0) (c .before .before .before .before .before .loop-test .taken) (answer c) (w .0 .left)))
-      (c .if1 .came),
-  c .before .before .before .before .before .before .loop .inv .1,
-)
+loop-again c =
+    let w = walker (start (turn c .before)) in
+    let so-far = turn c .loop .inv in (
+      ⊎-elim
+          (λ b. rw (b .1, b .2) (walk-better w (so-far .0) (more c) (array c) (answer c) (b .0 .taken)))
+          (λ b. rw (b .1, b .2) (walk-same w (so-far .0) (more c) (answer c) (b .0 .left)))
+          (c .if1 .came),
+      so-far .1,
+    )
 
 returns : tie.Need-returns Inv-loop μ-loop
-unfolding counted
 returns c =
-    let end = walk-end (c .before .before .before .before .before .before .args .n) (c .before .before .before .before .before .before .args .t2) (c .before .before .before .before .before .before .args .adjacency .now) (size (c .before .before .before .before .before .before)) (c .before .before .before .before .before .before .pre .0 .small) (c .before .before .before .before .before .before .pre .0 .permutation) (c .before .before .before .before .before .before .args .u) (c .before .before .before .before .before .before .pre .1) (c .before .loop .inv .0) (c .loop-test .left) in
-    (end .0, (c .before .before .count-crossings .ensures ∙ counted-crossings (c .before .before .before .before .before .before .pre .0), end .1))
+    let walked = c .before in
+    let end = walk-end (walker (start (walked .before))) (walked .loop .inv .0) (c .loop-test .left) in
+    (end .0, (present (walked .before), end .1))
 
 pub best-order-spec : {M : Type 1} → statement M
 best-order-spec =
     tie.close
-    (tie.spec
-    Inv-loop
-    μ-loop
-    array-share-prefix-order
-    slice-aggregate-place-of
-    place-of-requires
-    count-crossings-requires
-    loop-holds
-    add-loop
-    turned-requires
-    moved-requires
-    count-crossings-requires-2
-    add-j
-    loop-less
-    loop-again
-    returns)
+    (tie.spec Inv-loop μ-loop array-share-prefix-order slice-aggregate-place-of place-of-requires count-crossings-requires loop-holds
+    add-loop turned-requires moved-requires count-crossings-requires-2 add-j loop-less loop-again returns)

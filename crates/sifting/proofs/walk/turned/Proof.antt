@@ -1,6 +1,5 @@
 use borrow.Author.Needs.{needs}
 use borrow.Author.Tests.{lt-ltb, le-ltb}
-use Prim.Native.Nat.{_+_}
 use Rattle.sifting.specs.Walk.{turned}
 use Rattle.sifting.proofs.walk.turned.Statement.{statement}
 use Rattle.sifting.proofs.walk.turned.Tie as tie
@@ -13,11 +12,11 @@ add-q-2 c = search needs
 
 returns : tie.Need-returns
 unfolding turned
-returns c = rw (lt-ltb (c .before .args .p + 1 + c .before .args .j) (c .before .args .n) (c .if1 .taken))
+returns c = rw (lt-ltb _ _ (c .if1 .taken))
 
 returns-2 : tie.Need-returns-2
 unfolding turned
-returns-2 c = rw (le-ltb (c .before .args .p + 1 + c .before .args .j) (c .before .args .n) (c .if1 .left))
+returns-2 c = rw (le-ltb _ _ (c .if1 .left))
 
 pub turned-spec : {M : Type 1} → statement M
 turned-spec = tie.close (tie.spec add-q add-q-2 returns returns-2)
