@@ -5,8 +5,8 @@ use mathlib.Core.Path.{_≡_, refl, ap, sym, _∙_}
 use mathlib.Core.List.{List}
 use lib.ListN.{length, getD, set, length-set}
 use Rattle.layout.specs.Copying.{overlaid, overlaid-next}
-use Rattle.layout.proofs.reading.copy_first.Statement.{statement}
-use Rattle.layout.proofs.reading.copy_first.Tie as tie
+use Rattle.layout.proofs.reads.copy_first.Statement.{statement}
+use Rattle.layout.proofs.reads.copy_first.Tie as tie
 
 abbrev Inv-loop : tie.InvT-loop
 Inv-loop n from to₀ i₀ to i = (i ≤ n) × (to ≡ overlaid i «from» to₀) × (length to ≡ length to₀)

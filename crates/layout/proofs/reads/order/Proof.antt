@@ -10,8 +10,8 @@ use Rattle.model.specs.Checks.{checked, byRefusal, refusal, isValid, bufferFits
 use Rattle.model.specs.Reading.{orderChecks, orderRefusal, orderBytes}
 use Rattle.model.specs.Layouts.{vertexOrder}
 use Rattle.laws.specs.Sums.Indicators.{passed, failed}
-use Rattle.layout.proofs.reading.order.Statement.{statement}
-use Rattle.layout.proofs.reading.order.Tie as tie
+use Rattle.layout.proofs.reads.order.Statement.{statement}
+use Rattle.layout.proofs.reads.order.Tie as tie
 
 is-valid-requires : tie.Need-is-valid-requires
 is-valid-requires c κs = search needs

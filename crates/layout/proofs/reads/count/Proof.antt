@@ -2,8 +2,8 @@ use borrow.Author.Needs.{needs}
 use Rattle.model.specs.Checks.{checked, byRefusal, refusal, isValid}
 use Rattle.model.specs.Reading.{countOf}
 use Rattle.laws.specs.Sums.Indicators.{passed, failed}
-use Rattle.layout.proofs.reading.count.Statement.{statement}
-use Rattle.layout.proofs.reading.count.Tie as tie
+use Rattle.layout.proofs.reads.count.Statement.{statement}
+use Rattle.layout.proofs.reads.count.Tie as tie
 
 is-valid-requires : tie.Need-is-valid-requires
 is-valid-requires c κs = search needs
