@@ -2,8 +2,8 @@ use borrow.Author.Needs.{needs}
 use native.Mathlib.Omega.{arith}
 use mathlib.Core.Path.{sym}
 use lib.Seq.{length-take-le}
-use Rattle.layout_run.proofs.play_chart.Statement.{statement}
-use Rattle.layout_run.proofs.play_chart.Tie as tie
+use Rattle.play_list.proofs.play_chart.Statement.{statement}
+use Rattle.play_list.proofs.play_chart.Tie as tie
 
 chart-buffer-requires : tie.Need-chart-buffer-requires
 chart-buffer-requires c κs = search needs

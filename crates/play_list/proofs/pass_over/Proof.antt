@@ -1,6 +1,6 @@
 use native.Mathlib.Omega.{arith}
-use Rattle.layout_run.proofs.pass_over.Statement.{statement}
-use Rattle.layout_run.proofs.pass_over.Tie as tie
+use Rattle.play_list.proofs.pass_over.Statement.{statement}
+use Rattle.play_list.proofs.pass_over.Tie as tie
 
 abbrev Inv-loop : tie.InvT-loop
 Inv-loop count left₀ left = Unit {0}

@@ -1,6 +1,6 @@
 use native.Mathlib.Omega.{arith}
-use Rattle.layout_run.proofs.main.Statement.{statement}
-use Rattle.layout_run.proofs.main.Tie as tie
+use Rattle.play_list.proofs.main.Statement.{statement}
+use Rattle.play_list.proofs.main.Tie as tie
 
 abbrev Inv-loop : tie.InvT-loop
 Inv-loop l₀ turns₀ l turns = Unit {0}

@@ -2,8 +2,8 @@ use borrow.Author.Needs.{needs}
 use native.Mathlib.Omega.{arith}
 use mathlib.Core.Path.{sym}
 use lib.Seq.{length-take-le}
-use Rattle.layout_run.proofs.pass_over_some.Statement.{statement}
-use Rattle.layout_run.proofs.pass_over_some.Tie as tie
+use Rattle.play_list.proofs.pass_over_some.Statement.{statement}
+use Rattle.play_list.proofs.pass_over_some.Tie as tie
 
 buffer-requires : tie.Need-buffer-requires
 buffer-requires c κs = search needs
