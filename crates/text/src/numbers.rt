@@ -56,11 +56,11 @@ pub fn put_bytes(out: &mut [u8], at: usize, bytes: &[u8]) -> usize
 }
 
 // A line with a name and a number.
-pub fn put_line(out: &mut [u8], at: usize, name: &[u8], x: u64) -> usize
+pub fn put_line(out: &mut [u8], at: usize, name: &[u8], x: u32) -> usize
     requires { ⌜ at + length (now name) + 22 ≤ length (now out) ⌝ }
     ensures { λ r. ⌜ Written (now (out .entry)) at (now (name .entry) ++ spaced x ++ text "\n") (now (out .exit)) r × (r ≤ at + length (now (name .entry)) + 22) ⌝ }
 {
     let number = put_text(out, at, name);
-    let end = put_number(out, number, x);
+    let end = put_number(out, number, x as u64);
     put_byte(out, end, b'\n')
 }
