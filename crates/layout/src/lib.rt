@@ -3,7 +3,7 @@
 
 mod edges;
 mod moves;
-mod reading;
+mod reads;
 mod start;
 mod vertices;
 
@@ -12,7 +12,7 @@ pub use edges::remove_edge;
 pub use moves::move_after;
 pub use moves::moved;
 pub use moves::place_of;
-pub use reading::count;
-pub use reading::order;
+pub use reads::count;
+pub use reads::order;
 pub use start::empty;
 pub use vertices::add_vertex;

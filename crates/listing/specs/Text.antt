@@ -1,12 +1,12 @@
 -- The parts of a listing, from what the calls answer.
-use Prim.Native.Nat.{ℕ, _-_, _/_, _^_, _≤_}
+use Prim.Native.Nat.{ℕ, _-_, _/_, _^_, _≤_, _<_}
 use native.Mathlib.Nat.{mul-div-cancel-left}
 use native.Mathlib.Omega.{arith}
-use mathlib.Core.Path.{_≡_, sym, ap, ap₂, _∙_}
+use mathlib.Core.Path.{_≡_, sym, ap, ap₂, subst, _∙_}
 use mathlib.Core.Bool.{Bool, true, false, cond}
 use mathlib.Core.List.{List, _++_, flatMap}
 use lib.ListN.{length, getD, take, drop, length-append}
-use borrow.Author.Tests.{le-ltb}
+use borrow.Author.Tests.{lt-ltb, le-ltb}
 use lib.Dec.{T, ltb}
 use Rattle.model.specs.declared.Layout.{Layout}
 use Rattle.model.specs.declared.Converged.{Converged}
@@ -23,6 +23,7 @@ use Rattle.laws.specs.Layouts.Refusals.{by-number}
 use Rattle.laws.specs.Layouts.Validity.{sound}
 use Rattle.listing.specs.EdgeTotals.{edges-twice}
 use Rattle.laws.specs.Layouts.Reordering.{CountRight}
+use Rattle.laws.specs.Buffers.Writing.{Written, written-whole}
 use Rattle.laws.specs.Sifting.Rounds.{settling}
 use Rattle.laws.specs.Sifting.Calls.{settle-accepted, settle-keeps}
 
@@ -71,6 +72,12 @@ listing-text l t c {r} e {m} k =
     ∙ ap (λ (z : ℕ). listed (l .n) (length (edges (l .n) (l .adjacency))) (crossingsOf l) z (r .layout .n) r) (s .right)
     ∙ ap (λ (x : Converged). listed (l .n) (length (edges (l .n) (l .adjacency))) (crossingsOf l) (crossingsOf (x .layout)) (x .layout .n) x) e
 
+-- the bytes that hold the text hold the listing
+pub listing-written : (l : Layout) → T (valid l) → CountRight l → {r : Converged} → r ≡ settleOf l 50 → {m : ℕ} → m ≡ length (edges (l .n) (l .adjacency))
+    → {start bytes : List ℕ} {at : ℕ} → Written start 0 (listed (l .n) m (l .count) (r .layout .count) (l .n) r) bytes at
+    → (bytes ≡ listing l ++ drop (length (listing l)) start) × (at ≡ length (listing l))
+listing-written l t c e k {start} {bytes} {at} w = written-whole (subst (λ (s : List ℕ). Written start 0 s bytes at) (listing-text l t c e k) w)
+
 -- ---- a chart's listing
 
 module _ (s : List ℕ) {r : ChartRead} (e : r ≡ readOf s) where
@@ -82,15 +89,27 @@ module _ (s : List ℕ) {r : ChartRead} (e : r ≡ readOf s) where
   unfolding listingOf byRefusal
   listing-accepted z = rw (← e, z)
 
+-- a buffer without room stays as it is
+pub listed-short : (s buffer : List ℕ) → length buffer < 1024 → (0 ≡ listedLength s buffer) × (buffer ≡ listedBytes s buffer)
+unfolding listedLength listedBytes
+listed-short s buffer h = let e = lt-ltb (length buffer) 1024 h in (rw e, rw e)
+
 -- into a buffer with room
 module _ (s buffer : List ℕ) (room : 1024 ≤ length buffer) where
-  pub listed-length : listedLength s buffer ≡ length (listingOf s)
+  listed-length : listedLength s buffer ≡ length (listingOf s)
   unfolding listedLength
   listed-length = rw (le-ltb (length buffer) 1024 room)
 
-  pub listed-bytes : listedBytes s buffer ≡ listingOf s ++ drop (length (listingOf s)) buffer
+  listed-bytes : listedBytes s buffer ≡ listingOf s ++ drop (length (listingOf s)) buffer
   unfolding listedBytes
   listed-bytes = rw (le-ltb (length buffer) 1024 room)
+
+  pub listed-as : {t bytes : List ℕ} {r : ℕ} → listingOf s ≡ t → (bytes ≡ t ++ drop (length t) buffer) × (r ≡ length t)
+      → (r ≡ listedLength s buffer) × (bytes ≡ listedBytes s buffer)
+  listed-as same w = (
+    w .1 ∙ ap length (sym same) ∙ sym listed-length,
+    w .0 ∙ ap (λ (x : List ℕ). x ++ drop (length x) buffer) (sym same) ∙ sym listed-bytes,
+  )
 
 -- the listing is no longer than the buffer that holds it
 pub listed-fits : (s buffer : List ℕ) {after : List ℕ} → after ≡ listedBytes s buffer → length after ≡ length buffer → listedLength s buffer ≤ length buffer

@@ -8,10 +8,10 @@ ghost use Rattle.model.specs.Crossings.{edges as edgesIn};
 ghost use Rattle.model.specs.Listing.{text, line, spaced};
 ghost use Rattle.laws.specs.Layouts.Recount.{Drawn};
 ghost use Rattle.laws.specs.Buffers.Writing.{Written, written};
-use super::writing::put_byte;
-use super::writing::put_line;
-use super::writing::put_order;
-use super::writing::put_text;
+use text::put_byte;
+use text::put_bytes;
+use text::put_line;
+use text::put_text;
 
 // The numbers of a listing, one to a line.
 pub struct Numbers {
@@ -24,7 +24,7 @@ pub struct Numbers {
 
 pub(crate) fn put_numbers(out: &mut [u8], x: Numbers) -> usize
     requires { ⌜ 1024 ≤ length (now out) ⌝ }
-    ensures { λ r. ⌜ Written (now (out .entry)) 0 (line "devices" (spaced (x .vertices)) ++ line "links" (spaced (x .edges)) ++ line "before" (spaced (x .before)) ++ line "after" (spaced (x .after)) ++ line "rounds" (spaced (x .rounds))) (now (out .exit)) r × (r ≤ 100) ⌝ }
+    ensures { λ r. ⌜ Written (now (out .entry)) 0 (line "devices" (spaced (x .vertices)) ++ line "links" (spaced (x .edges)) ++ line "before" (spaced (x .before)) ++ line "after" (spaced (x .after)) ++ line "rounds" (spaced (x .rounds))) (now (out .exit)) r × (r ≤ 150) ⌝ }
 {
     let links = put_line(out, 0, b"devices", x.vertices);
     let before = put_line(out, links, b"links", x.edges);
@@ -51,6 +51,6 @@ pub(crate) fn put_order_line(out: &mut [u8], at: usize, order: &[u8]) -> usize
     ensures { λ r. ⌜ Written (now (out .entry)) at (line "order" (flatMap spaced (now (order .entry)))) (now (out .exit)) r × (r ≤ length (now (out .exit))) ⌝ }
 {
     let places = put_text(out, at, b"order");
-    let end = put_order(out, places, order);
+    let end = put_bytes(out, places, order);
     put_byte(out, end, b'\n')
 }

@@ -6,11 +6,11 @@ ghost use lib.ListN.{length};
 use crate::answer::Played;
 use crate::answer::put_head;
 use crate::answer::told;
-use crate::text::put_number;
-use crate::text::put_text;
 use model::Call;
 use model::Layout;
 use model::Outcome;
+use text::put_number;
+use text::put_text;
 
 // Makes the call and writes its line.
 pub(crate) fn play_call(l: Layout, c: Call, line: &mut [u8]) -> Played

@@ -276,7 +276,7 @@ mod tests {
     fn the_naive_model_prints_what_is_stored() {
         let stored = |name: &str| {
             let crates = concat!(env!("CARGO_MANIFEST_DIR"), "/../../crates");
-            std::fs::read(format!("{crates}/layout_run/{name}")).expect("a stored file")
+            std::fs::read(format!("{crates}/play_list/{name}")).expect("a stored file")
         };
         let calls = stored("stdin");
         assert!(calls == list(&Known::all()), "tests/store writes it anew");

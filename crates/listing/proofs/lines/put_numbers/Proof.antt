@@ -1,8 +1,8 @@
 use borrow.Author.Needs.{needs}
 use native.Mathlib.Omega.{arith}
 use Rattle.model.specs.Lists.{upto}
-use Rattle.model.specs.Listing.{text, line, spaced}
-use Rattle.laws.specs.Buffers.Writing.{Written, written-none, written-step}
+use Rattle.model.specs.Listing.{text, line}
+use Rattle.text.specs.Parts.{behind}
 use Rattle.listing.proofs.lines.put_numbers.Statement.{statement}
 use Rattle.listing.proofs.lines.put_numbers.Tie as tie
 
@@ -42,18 +42,15 @@ same-length c = search needs
 returns : tie.Need-returns
 unfolding line text upto
 returns c =
-    let start = c .before .before .before .before .before .before .before .before .before .before .before .before .before .before .before .before .before .before .before .before .before .before .before .before .before .before in
-    let e1 = c .before .before .before .before .before .before .before .before .before .before .before .before .before .before .before .before .before .before .before .before .before .before .put-line .ensures in
-    let e2 = c .before .before .before .before .before .before .before .before .before .before .before .before .before .before .before .before .before .put-line2 .ensures in
-    let e3 = c .before .before .before .before .before .before .before .before .before .before .before .before .put-line3 .ensures in
-    let e4 = c .before .before .before .before .before .before .before .put-line4 .ensures in
-    let e5 = c .before .before .put-line5 .ensures in
-    let w1 = written-step (written-none (start .args .out .now) 0) (line "devices" (spaced (start .args .x .vertices))) (omega arith) (e1 .0) (e1 .1) in
-    let w2 = written-step w1 (line "links" (spaced (start .args .x .edges))) (omega arith) (e2 .0) (e2 .1) in
-    let w3 = written-step w2 (line "before" (spaced (start .args .x .before))) (omega arith) (e3 .0) (e3 .1) in
-    let w4 = written-step w3 (line "after" (spaced (start .args .x .after))) (omega arith) (e4 .0) (e4 .1) in
-    let w5 = written-step w4 (line "rounds" (spaced (start .args .x .rounds))) (omega arith) (e5 .0) (e5 .1) in
-    (w5, omega arith)
+    let rounds = c .before .before in
+    let after = rounds .before .before .before .before .before in
+    let before = after .before .before .before .before .before in
+    let links = before .before .before .before .before .before in
+    let devices = links .before .before .before .before .before in
+    let one = behind (omega arith) (devices .put-line .ensures .0) (links .put-line2 .ensures .0) in
+    let two = behind (omega arith) one (before .put-line3 .ensures .0) in
+    let three = behind (omega arith) two (after .put-line4 .ensures .0) in
+    (behind (omega arith) three (rounds .put-line5 .ensures .0), omega arith)
 
 pub put-numbers-spec : {M : Type 1} → statement M
 put-numbers-spec =

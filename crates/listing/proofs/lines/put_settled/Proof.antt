@@ -2,7 +2,7 @@ use borrow.Author.Needs.{needs}
 use native.Mathlib.Omega.{arith}
 use Rattle.model.specs.Lists.{upto}
 use Rattle.model.specs.Listing.{text, line}
-use Rattle.laws.specs.Buffers.Writing.{Written, written-none, written-step}
+use Rattle.laws.specs.Buffers.Writing.{Written}
 use Rattle.listing.proofs.lines.put_settled.Statement.{statement}
 use Rattle.listing.proofs.lines.put_settled.Tie as tie
 
@@ -24,10 +24,8 @@ same-length c = search needs
 returns : tie.Need-returns
 unfolding line text upto
 returns c =
-    let start = c .before .before .before .before .before .before .before in
-    let e = c .before .before .put-text .ensures in
-    rw (c .before .before .before .before .before .if1 .taken)
-    (written-step (written-none (start .args .out .now) (start .args .at)) (line "settled" (text " yes")) (omega arith) (e .0) (e .1), omega (arith, e .1))
+    let put = c .before .before in
+    rw (put .before .before .before .if1 .taken) (put .put-text .ensures, omega (arith, put .put-text .ensures .place))
 
 same-length-2 : tie.Need-same-length-2
 same-length-2 c = search needs
@@ -35,10 +33,8 @@ same-length-2 c = search needs
 returns-2 : tie.Need-returns-2
 unfolding line text upto
 returns-2 c =
-    let start = c .before .before .before .before .before .before .before in
-    let e = c .before .before .put-text2 .ensures in
-    rw (c .before .before .before .before .before .if1 .left)
-    (written-step (written-none (start .args .out .now) (start .args .at)) (line "settled" (text " no")) (omega arith) (e .0) (e .1), omega (arith, e .1))
+    let put = c .before .before in
+    rw (put .before .before .before .if1 .left) (put .put-text2 .ensures, omega (arith, put .put-text2 .ensures .place))
 
 pub put-settled-spec : {M : Type 1} → statement M
 put-settled-spec =

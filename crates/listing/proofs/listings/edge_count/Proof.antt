@@ -21,6 +21,13 @@ low-bits-requires c κs = search needs
 loop-holds : tie.Need-loop-holds Inv-loop μ-loop
 loop-holds c = (ones-none, c .low-bits .ensures ∙ ap (λ (m : ℕ). 2 ^ m - 1) (min-eq-left (c .before .pre)))
 
+abbrev start : tie.At-loop Inv-loop μ-loop → tie.Start Inv-loop μ-loop
+start c = c .before .before
+
+-- the word of this turn
+abbrev word : tie.At-loop Inv-loop μ-loop → ℕ
+word c = getD (start c .args .adjacency .now) (c .loop .v) 0
+
 mul-count : tie.Need-mul-count Inv-loop μ-loop
 mul-count c = omega (arith, c .before .before .before .pre)
 
@@ -31,7 +38,11 @@ count-requires : tie.Need-count-requires Inv-loop μ-loop
 count-requires c κs = search needs
 
 add-total : tie.Need-add-total Inv-loop μ-loop
-add-total c = omega (arith, c .before .before .before .loop .inv .0 .bounded, c .before .before .before .loop .inv .0 .inside, c .before .before .before .before .before .pre, c .before .before .before .before .before .pre, c .count .ensures, maskedOnes-le (getD (c .before .before .before .before .before .args .adjacency .now) (c .before .before .before .loop .v) 0) (c .before .before .before .before .low-bits .result))
+add-total c =
+    let old = c .before .before .before in
+    let sum = old .loop .inv .0 in
+    let few = maskedOnes-le (word old) (old .before .low-bits .result) in
+    omega (arith, sum .bounded, sum .inside, start old .pre, c .count .ensures, few)
 
 add-v : tie.Need-add-v Inv-loop μ-loop
 add-v c = omega arith
@@ -40,10 +51,11 @@ loop-less : tie.Need-loop-less Inv-loop μ-loop
 loop-less c = omega arith
 
 loop-again : tie.Need-loop-again Inv-loop μ-loop
-loop-again c = (
-  ones-next (c .before .before .before .loop .inv .0) (c .before .before .loop-test .taken) (c .count .ensures ∙ ap (maskedOnes (getD (c .before .before .before .before .before .args .adjacency .now) (c .before .before .before .loop .v) 0)) (c .before .before .before .loop .inv .1)),
-  c .before .before .before .loop .inv .1,
-)
+loop-again c =
+    let turn = c .before .before in
+    let old = turn .before in
+    let all = old .loop .inv .1 in
+    (ones-next (old .loop .inv .0) (turn .loop-test .taken) (c .count .ensures ∙ ap (maskedOnes (word old)) all), all)
 
 returns : tie.Need-returns Inv-loop μ-loop
 returns c = ap (λ (x : ℕ). x / 2) (ones-all (c .before .loop .inv .0) (c .loop-test .left))

@@ -1,23 +1,19 @@
 use borrow.Author.Needs.{needs}
-use native.Mathlib.Omega.{arith}
-use Prim.Native.Nat.{ℕ}
-use mathlib.Core.Path.{_≡_, sym, ap, _∙_}
-use mathlib.Core.List.{List, _++_}
-use lib.ListN.{length, drop}
-use borrow.Author.Tests.{lt-ltb}
-use denote.Ref.{now}
+use mathlib.Core.Path.{sym, ap, _∙_}
 use Rattle.model.specs.declared.ChartRead.{ChartRead}
 use Rattle.model.specs.Lists.{upto}
-use Rattle.model.specs.Listing.{text, line, spaced, listingOf, listedLength, listedBytes}
+use Rattle.model.specs.Listing.{text, line}
 use Rattle.chart.specs.Laws.{read-valid}
-use Rattle.laws.specs.Buffers.Writing.{Written, written-none, written-step, written-whole}
-use Rattle.listing.specs.Text.{listing-refused, listing-accepted, listed-length, listed-bytes}
+use Rattle.laws.specs.Buffers.Writing.{written-whole}
+use Rattle.listing.specs.Text.{listing-refused, listing-accepted, listed-short, listed-as}
 use Rattle.listing.proofs.listings.list_chart.Statement.{statement}
 use Rattle.listing.proofs.listings.list_chart.Tie as tie
 
+abbrev start : tie.After-read → tie.Start
+start c = c .before .before .before .before
+
 returns : tie.Need-returns
-unfolding listedLength listedBytes
-returns c = (rw (lt-ltb (length (c .before .before .before .args .out .now)) 1024 (c .if1 .taken)), rw (lt-ltb (length (c .before .before .before .args .out .now)) 1024 (c .if1 .taken)))
+returns c = listed-short _ _ (c .if1 .taken)
 
 read-requires : tie.Need-read-requires
 read-requires c κs = search needs
@@ -37,38 +33,30 @@ same-length c = search needs
 returns-2 : tie.Need-returns-2
 unfolding line text upto
 returns-2 c =
-    let start = c .before .before .before .before .before .before .before .before .before .before in
-    let s = start .args .bytes .now in
-    let out = start .args .out .now in
-    let room = c .before .before .before .before .before .before .before .if1 .left in
-    let read = c .before .before .before .before .before .before .read in
-    let put = c .before .before .put-line .ensures in
-    let whole = written-whole (written-step (written-none out 0) (line "refused" (spaced (read .result .refusal))) (omega arith) (put .0) (put .1)) in
-    let same = listing-refused s (read .ensures) (c .before .before .before .before .before .if2 .taken) in (
-      whole .1 ∙ ap length (sym same) ∙ sym (listed-length s out room),
-      whole .0 ∙ ap (λ (t : List ℕ). t ++ drop (length t) out) (sym same) ∙ sym (listed-bytes s out room),
-    )
+    let put = c .before .before in
+    let refused = put .before .before .before in
+    let read = refused .before in
+    let s = start read .args .bytes .now in
+    listed-as s _ (read .before .if1 .left) (listing-refused s (read .read .ensures) (refused .if2 .taken)) (written-whole (put .put-line .ensures .0))
 
 list-layout-requires : tie.Need-list-layout-requires
 list-layout-requires c κs =
-    let read = c .before .before .before .read in
-    let good = read-valid (c .before .before .before .before .before .before .before .args .bytes .now) (ap (λ (r : ChartRead). r .refusal) (sym (read .ensures)) ∙ c .before .before .if2 .left) in
-    (rw (read .ensures) (good .0), rw (read .ensures) (good .1), c .before .before .before .before .if1 .left)
+    let accepted = c .before .before in
+    let read = accepted .before in
+    let same = read .read .ensures in
+    let good = read-valid (start read .args .bytes .now) (ap (λ (r : ChartRead). r .refusal) (sym same) ∙ accepted .if2 .left) in
+    (rw same (good .0), rw same (good .1), read .before .if1 .left)
 
 same-length-2 : tie.Need-same-length-2
 same-length-2 c = search needs
 
 returns-3 : tie.Need-returns-3
 returns-3 c =
-    let start = c .before .before .before .before .before .before .before .before .before .before in
-    let s = start .args .bytes .now in
-    let out = start .args .out .now in
-    let room = c .before .before .before .before .before .before .before .if1 .left in
-    let whole = c .before .before .list-layout .ensures in
-    let same = listing-accepted s (c .before .before .before .before .before .before .read .ensures) (c .before .before .before .before .before .if2 .left) in (
-      whole .1 ∙ ap length (sym same) ∙ sym (listed-length s out room),
-      whole .0 ∙ ap (λ (t : List ℕ). t ++ drop (length t) out) (sym same) ∙ sym (listed-bytes s out room),
-    )
+    let listed = c .before .before in
+    let accepted = listed .before .before .before in
+    let read = accepted .before in
+    let s = start read .args .bytes .now in
+    listed-as s _ (read .before .if1 .left) (listing-accepted s (read .read .ensures) (accepted .if2 .left)) (listed .list-layout .ensures)
 
 pub list-chart-spec : {M : Type 1} → statement M
 list-chart-spec =

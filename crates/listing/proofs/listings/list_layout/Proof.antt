@@ -1,32 +1,48 @@
 use borrow.Author.Needs.{needs}
 use Prim.Native.Nat.{ℕ, _≤_}
 use native.Mathlib.Omega.{arith}
-use mathlib.Core.Path.{_≡_, sym, ap, subst, _∙_}
-use mathlib.Core.Bool.{cond}
-use mathlib.Core.List.{List, flatMap}
-use lib.ListN.{length, take}
+use mathlib.Core.Path.{_≡_, sym}
+use lib.ListN.{length}
 use lib.Seq.{length-take-le}
-use Rattle.model.specs.Listing.{text, line, spaced, listing}
 use Rattle.laws.specs.Layouts.Validity.{sound}
-use Rattle.laws.specs.Buffers.Writing.{Written, written-size, written-step, written-whole}
-use Rattle.listing.specs.Text.{edges-halved, listed, listing-text}
+use Rattle.text.specs.Parts.{behind}
+use Rattle.listing.specs.Text.{edges-halved, listing-written}
 use Rattle.listing.proofs.listings.list_layout.Statement.{statement}
 use Rattle.listing.proofs.listings.list_layout.Tie as tie
 
+-- the moments, from the last to the first
+abbrev state : tie.After-put-order-line-arg → tie.After-put-settled
+state c = c .before .before .before
+
+abbrev numbers : tie.After-put-settled → tie.After-put-numbers
+numbers c = c .before .before .before .before
+
+abbrev edges : tie.After-put-numbers → tie.After-edge-count
+edges c = c .before .before .before
+
+abbrev settled : tie.After-edge-count → tie.After-converge
+settled c = c .before .before .before
+
+abbrev start : tie.After-converge → tie.Start
+start c = c .before .before .before
+
+few : (c : tie.Start) → c .args .l .n ≤ 64
+few c = sound (c .args .l) (c .pre .0) .small
+
 -- the order that settling gives has 64 places
-inside : (c : tie.After-put-order-line-arg) → c .before .before .before .before .before .before .before .before .before .before .before .before .before .before .before .before .args .l .n ≤ length (c .before .before .before .before .before .before .before .before .before .before .before .before .before .converge .result .layout .order)
+inside : (c : tie.After-converge) → start c .args .l .n ≤ length (c .converge .result .layout .order)
 inside c =
-    let size : length (c .before .before .before .before .before .before .before .before .before .before .before .before .before .converge .result .layout .order) ≡ 64 = search needs in
-    omega (arith, sound (c .before .before .before .before .before .before .before .before .before .before .before .before .before .before .before .before .args .l) (c .before .before .before .before .before .before .before .before .before .before .before .before .before .before .before .before .pre .0) .small)
+    let size : length (c .converge .result .layout .order) ≡ 64 = search needs in
+    omega (arith, few (start c))
 
 converge-requires : tie.Need-converge-requires
 converge-requires c κs = search needs
 
 cast-t11 : tie.Need-cast-t11
-cast-t11 c = omega (arith, sound (c .before .before .before .before .args .l) (c .before .before .before .before .pre .0) .small)
+cast-t11 c = omega (arith, few (start (c .before)))
 
 edge-count-requires : tie.Need-edge-count-requires
-edge-count-requires c κs = sound (c .before .before .before .before .before .args .l) (c .before .before .before .before .before .pre .0) .small
+edge-count-requires c κs = few (start (c .before .before))
 
 put-numbers-requires : tie.Need-put-numbers-requires
 put-numbers-requires c κs = search needs
@@ -35,19 +51,19 @@ put-settled-requires : tie.Need-put-settled-requires
 put-settled-requires c κs = search needs
 
 array-share-prefix-order : tie.Need-array-share-prefix-order
-array-share-prefix-order c = inside c
+array-share-prefix-order c = inside (settled (edges (numbers (state c))))
 
 slice-aggregate-put-order-line : tie.Need-slice-aggregate-put-order-line
-slice-aggregate-put-order-line c = sym (length-take-le (c .before .before .before .before .before .before .before .before .before .before .before .before .before .before .before .before .before .args .l .n) (c .before .before .before .before .before .before .before .before .before .before .before .before .before .before .converge .result .layout .order) (inside (c .before)))
+slice-aggregate-put-order-line c = sym (length-take-le _ _ (inside (settled (edges (numbers (state (c .before)))))))
 
 put-order-line-requires : tie.Need-put-order-line-requires
 put-order-line-requires c κs =
-    let numbers = c .before .before .before .before .before .before .before .before .put-numbers .ensures in
-    let state = c .before .before .before .before .put-settled .ensures in
-    let places = length-take-le (c .before .before .before .before .before .before .before .before .before .before .before .before .before .before .before .before .before .args .l .n) (c .before .before .before .before .before .before .before .before .before .before .before .before .before .before .converge .result .layout .order) (inside (c .before)) in (
-      omega (arith, numbers .1, state .1),
-      omega (arith, places, sound (c .before .before .before .before .before .before .before .before .before .before .before .before .before .before .before .before .before .args .l) (c .before .before .before .before .before .before .before .before .before .before .before .before .before .before .before .before .before .pre .0) .small),
-      omega (arith, c .before .before .before .before .before .before .before .before .before .before .before .before .before .before .before .before .before .pre .2, c .before .before .before .before .before .before .before .before .put-numbers .kept .0, c .before .before .before .before .put-settled .kept .0),
+    let written = state (c .before) in
+    let counted = numbers written in
+    let at = settled (edges counted) in (
+      omega (arith, counted .put-numbers .ensures .1, written .put-settled .ensures .1),
+      omega (arith, length-take-le (start at .args .l .n) (at .converge .result .layout .order) (inside at), few (start at)),
+      omega (arith, start at .pre .2, counted .put-numbers .kept .0, written .put-settled .kept .0),
     )
 
 same-length : tie.Need-same-length
@@ -55,16 +71,17 @@ same-length c = search needs
 
 returns : tie.Need-returns
 returns c =
-    let start = c .before .before .before .before .before .before .before .before .before .before .before .before .before .before .before .before .before .before .before .before in
-    let settled = c .before .before .before .before .before .before .before .before .before .before .before .before .before .before .before .before .before .converge in
-    let numbers = c .before .before .before .before .before .before .before .before .before .before .before .put-numbers .ensures in
-    let state = c .before .before .before .before .before .before .before .put-settled .ensures in
-    let places = c .before .before .put-order-line .ensures in
-    let one = written-step (numbers .0) (line "settled" (text (cond (settled .result .converged) " yes" " no"))) (omega (arith, start .pre .2, numbers .1)) (state .0 .held) (state .0 .place) in
-    let two = written-step one (line "order" (flatMap spaced (take (start .args .l .n) (settled .result .layout .order)))) (omega (arith, start .pre .2, numbers .1, state .1)) (places .0 .held) (places .0 .place) in
-    let whole : listed (start .args .l .n) (c .before .before .before .before .before .before .before .before .before .before .before .before .before .before .edge-count .result) (start .args .l .count) (settled .result .layout .count) (start .args .l .n) (settled .result) ≡ listing (start .args .l) =
-    listing-text (start .args .l) (start .pre .0) (start .pre .1) (settled .ensures) (edges-halved (start .args .l) (start .pre .0) (c .before .before .before .before .before .before .before .before .before .before .before .before .before .before .edge-count .ensures)) in
-    written-whole (subst (λ (t : List ℕ). Written (start .args .out .now) 0 t (c .before .before .put-order-line .last .0) (c .before .before .put-order-line .result)) whole two)
+    let end = c .before .before in
+    let written = state (end .before .before) in
+    let counted = numbers written in
+    let linked = edges counted in
+    let at = settled linked in
+    let s = start at in
+    let room = s .pre .2 in
+    let held = counted .put-numbers .ensures in
+    let told = written .put-settled .ensures in
+    listing-written (s .args .l) (s .pre .0) (s .pre .1) (at .converge .ensures) (edges-halved (s .args .l) (s .pre .0) (linked .edge-count .ensures))
+    (behind (omega (arith, room, held .1, told .1)) (behind (omega (arith, room, held .1)) (held .0) (told .0)) (end .put-order-line .ensures .0))
 
 pub list-layout-spec : {M : Type 1} → statement M
 list-layout-spec =
