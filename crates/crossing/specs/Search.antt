@@ -162,6 +162,10 @@ module _ {word a : ℕ} {lows₀ highs₀ : List ℕ} {count : ℕ} where
             ∙ ap (λ (es : List Edge). listed lows₀ highs₀ count ++ es) (sym (edges-next word a b (r .later) e ∙ rw f));
       })
 
+  pub row-end : {lows highs : List ℕ} {end b n : ℕ} → b ≤ n → n ≤ b → RowListed word a lows₀ highs₀ count lows highs end b
+      → RowListed word a lows₀ highs₀ count lows highs end n
+  row-end h l r = rw (← (le-antisymm h l)) r
+
 -- ---- all edges, listed vertex by vertex
 
 -- the edges with a lower end below a, for n vertices
