@@ -162,6 +162,10 @@ module _ {word a : ℕ} {lows₀ highs₀ : List ℕ} {count : ℕ} where
             ∙ ap (λ (es : List Edge). listed lows₀ highs₀ count ++ es) (sym (edges-next word a b (r .later) e ∙ rw f));
       })
 
+  pub row-end : {lows highs : List ℕ} {end b n : ℕ} → b ≤ n → n ≤ b → RowListed word a lows₀ highs₀ count lows highs end b
+      → RowListed word a lows₀ highs₀ count lows highs end n
+  row-end h l r = rw (← (le-antisymm h l)) r
+
 -- ---- all edges, listed vertex by vertex
 
 -- the edges with a lower end below a, for n vertices
@@ -223,50 +227,66 @@ pub record PlacesOf (n : ℕ) (order places : List ℕ) : Type 0 where
   pub size : length places ≡ 64
   pub stands : (v : ℕ) → v < n → getD places v 0 ≡ place (take n order) v
 
--- the vertices before place p
+-- the vertices before place p, of an order that holds each vertex once
 pub record PlacesUpTo (n : ℕ) (order places : List ℕ) (p : ℕ) : Type 0 where
+  pub small : n ≤ 64
+  pub permutation : Permutation n (take n order)
   pub inside : p ≤ n
   pub size : length places ≡ 64
   pub stand : (k : ℕ) → k < p → getD places (getD order k 0) 0 ≡ k
 
-module _ {n : ℕ} (order : List ℕ) (small : n ≤ 64) (perm : Permutation n (take n order)) where
-  -- the byte at a place is a vertex
-  pub vertex-lt : (p : ℕ) → p < n → getD order p 0 < n
-  vertex-lt p h = rw (← (getD-take n order p 0 h)) (at-lt perm p h)
+-- the place of the vertex at a place
+place-of-vertex : {n : ℕ} (order : List ℕ) → Permutation n (take n order) → (p : ℕ) → p < n → place (take n order) (getD order p 0) ≡ p
+place-of-vertex {n} order perm p h = rw (← (getD-take n order p 0 h)) (place-of-at perm p h)
 
-  -- at that place
-  place-of-vertex : (p : ℕ) → p < n → place (take n order) (getD order p 0) ≡ p
-  place-of-vertex p h = rw (← (getD-take n order p 0 h)) (place-of-at perm p h)
-
-  pub places-start : PlacesUpTo n order (replicate 64 0) 0
-  places-start = record { inside = omega arith; size = length-replicate {A = ℕ} 64 0; stand = λ k l. absurd (not-suc-le-zero l) }
-
-  pub places-next : {places : List ℕ} {p : ℕ} → PlacesUpTo n order places p → p < n → PlacesUpTo n order (set places (getD order p 0) p) (p + 1)
-  places-next {places} {p} r h =
+module _ {n : ℕ} {order : List ℕ} where
+  pub places-start : n ≤ 64 → Permutation n (take n order) → PlacesUpTo n order (replicate 64 0) 0
+  places-start small perm =
       record {
+        small = small;
+        permutation = perm;
         inside = omega arith;
-        size = length-set places (getD order p 0) p ∙ r .size;
-        stand = λ k l. elim (which k p) [ less b ↦ before k b | same e ↦ rw e here | more b ↦ absurd (omega arith) ];
+        size = length-replicate {A = ℕ} 64 0;
+        stand = λ k l. absurd (not-suc-le-zero l);
       }
-    where
-      here : getD (set places (getD order p 0) p) (getD order p 0) 0 ≡ p
-      here = getD-set-same places (getD order p 0) p 0 (omega (arith, vertex-lt p h, r .size))
 
-      before : (k : ℕ) → k < p → getD (set places (getD order p 0) p) (getD order k 0) 0 ≡ k
-      before k b =
-          getD-set-other places (getD order p 0) (getD order k 0) p 0
-          (λ e. omega (arith, sym (place-of-vertex k (omega arith)) ∙ ap (place (take n order)) e ∙ place-of-vertex p h))
-          ∙ r .stand k b
+  module _ {places : List ℕ} {p : ℕ} (r : PlacesUpTo n order places p) where
+    -- the byte at the next place is a vertex
+    pub vertex-lt : p < n → getD order p 0 < n
+    vertex-lt h = rw (← (getD-take n order p 0 h)) (at-lt (r .permutation) p h)
 
-  pub places-end : {places : List ℕ} {p : ℕ} → PlacesUpTo n order places p → n ≤ p → PlacesOf n order places
-  places-end {places} r h =
-      record {
-        size = r .size;
-        stands = λ v l.
-            let p = place (take n order) v in
-            let below : p < n = place-below perm v l in
-            ap (λ (u : ℕ). getD places u 0) (sym (sym (getD-take n order p 0 below) ∙ at-of-place perm v l)) ∙ r .stand p (omega arith);
-      }
+    pub places-next : p < n → PlacesUpTo n order (set places (getD order p 0) p) (p + 1)
+    places-next h =
+        record {
+          small = r .small;
+          permutation = r .permutation;
+          inside = omega arith;
+          size = length-set places (getD order p 0) p ∙ r .size;
+          stand = λ k l. elim (which k p) [ less b ↦ before k b | same e ↦ rw e here | more b ↦ absurd (omega arith) ];
+        }
+      where
+        here : getD (set places (getD order p 0) p) (getD order p 0) 0 ≡ p
+        here = getD-set-same places (getD order p 0) p 0 (omega (arith, vertex-lt h, r .size, r .small))
+
+        stands-at : (k : ℕ) → k < n → place (take n order) (getD order k 0) ≡ k
+        stands-at = place-of-vertex order (r .permutation)
+
+        before : (k : ℕ) → k < p → getD (set places (getD order p 0) p) (getD order k 0) 0 ≡ k
+        before k b =
+            getD-set-other places (getD order p 0) (getD order k 0) p 0
+            (λ e. omega (arith, sym (stands-at k (omega arith)) ∙ ap (place (take n order)) e ∙ stands-at p h))
+            ∙ r .stand k b
+
+    pub places-end : n ≤ p → PlacesOf n order places
+    places-end h =
+        record {
+          size = r .size;
+          stands = λ v l.
+              let k = place (take n order) v in
+              let below : k < n = place-below (r .permutation) v l in
+              let stands-there : getD order k 0 ≡ v = sym (getD-take n order k 0 below) ∙ at-of-place (r .permutation) v l in
+              ap (λ (u : ℕ). getD places u 0) (sym stands-there) ∙ r .stand k (omega arith);
+        }
 
 -- ---- the search
 

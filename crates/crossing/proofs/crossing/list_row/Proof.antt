@@ -1,10 +1,8 @@
 use borrow.Author.Needs.{needs}
 use Prim.Native.Nat.{_-_, _≤_}
 use native.Mathlib.Omega.{arith}
-use native.Mathlib.Nat.{le-antisymm}
 use mathlib.Core.Logic.{⊎-elim}
-use mathlib.Core.Path.{_≡_, sym}
-use Rattle.crossing.specs.Search.{RowListed, row-start, row-skip, row-put}
+use Rattle.crossing.specs.Search.{RowListed, row-start, row-skip, row-put, row-end}
 use Rattle.crossing.proofs.crossing.list_row.Statement.{statement}
 use Rattle.crossing.proofs.crossing.list_row.Tie as tie
 
@@ -46,10 +44,11 @@ loop-less c = omega arith
 
 loop-again : tie.Need-loop-again Inv-loop μ-loop
 loop-again c =
-    let at-loop = c .before .before .before .loop in
+    let row = c .before .before .before .loop .inv .1 in
+    let test = c .before .is-set .ensures in
     ⊎-elim
-    (λ w. (omega arith, rw (w .1, w .2, w .3) (row-put (at-loop .inv .1) (omega arith) (omega arith) (c .before .is-set .ensures) (w .0 .taken))))
-    (λ w. (omega arith, rw (w .1, w .2, w .3) (row-skip (at-loop .inv .1) (c .before .is-set .ensures) (w .0 .left))))
+    (λ w. (omega arith, rw (w .1, w .2, w .3) (row-put row (omega arith) (omega arith) test (w .0 .taken))))
+    (λ w. (omega arith, rw (w .1, w .2, w .3) (row-skip row test (w .0 .left))))
     (c .if1 .came)
 
 same-length : tie.Need-same-length Inv-loop μ-loop
@@ -59,10 +58,7 @@ same-length-2 : tie.Need-same-length-2 Inv-loop μ-loop
 same-length-2 c = omega arith
 
 returns : tie.Need-returns Inv-loop μ-loop
-returns c =
-    let at-loop = c .before .loop in
-    let end : at-loop .b ≡ c .before .before .before .before .args .n = le-antisymm (at-loop .inv .0) (c .loop-test .left) in
-    rw (sym end) (at-loop .inv .1)
+returns c = row-end (c .before .loop .inv .0) (c .loop-test .left) (c .before .loop .inv .1)
 
 pub list-row-spec : {M : Type 1} → statement M
 list-row-spec =

@@ -11,7 +11,7 @@ abbrev μ-loop : tie.MeasureT-loop
 μ-loop n order places₀ p₀ places p = n - p
 
 loop-holds : tie.Need-loop-holds Inv-loop μ-loop
-loop-holds c = places-start (c .args .order .now) (c .pre .0) (c .pre .2)
+loop-holds c = places-start (c .pre .0) (c .pre .2)
 
 shared-slice-read-v : tie.Need-shared-slice-read-v Inv-loop μ-loop
 shared-slice-read-v c = omega (arith, c .before .before .loop .inv .inside)
@@ -23,9 +23,7 @@ cast-places : tie.Need-cast-places Inv-loop μ-loop
 cast-places c = omega arith
 
 array-write-places : tie.Need-array-write-places Inv-loop μ-loop
-array-write-places c =
-    let start = c .before .before .before in
-    omega (arith, vertex-lt (start .args .order .now) (start .pre .0) (start .pre .2) (c .before .before .loop .p) (c .before .loop-test .taken))
+array-write-places c = omega (arith, vertex-lt (c .before .before .loop .inv) (c .before .loop-test .taken))
 
 add-p : tie.Need-add-p Inv-loop μ-loop
 add-p c = omega arith
@@ -34,14 +32,10 @@ loop-less : tie.Need-loop-less Inv-loop μ-loop
 loop-less c = omega arith
 
 loop-again : tie.Need-loop-again Inv-loop μ-loop
-loop-again c =
-    let start = c .before .before .before in
-    places-next (start .args .order .now) (start .pre .0) (start .pre .2) (c .before .before .loop .inv) (c .before .loop-test .taken)
+loop-again c = places-next (c .before .before .loop .inv) (c .before .loop-test .taken)
 
 returns : tie.Need-returns Inv-loop μ-loop
-returns c =
-    let start = c .before .before in
-    places-end (start .args .order .now) (start .pre .0) (start .pre .2) (c .before .loop .inv) (c .loop-test .left)
+returns c = places-end (c .before .loop .inv) (c .loop-test .left)
 
 pub places-of-spec : {M : Type 1} → statement M
 places-of-spec =
