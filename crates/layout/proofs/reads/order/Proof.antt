@@ -24,10 +24,8 @@ start c = c .before .before .before .before
 valid-there : (c : tie.Else2) → valid (start c .args .l) ≡ true
 valid-there c = passed (c .before .before .is-valid .ensures) (c .before .if1 .left)
 
-inside : (c : tie.Else2) → start c .args .l .n ≤ length (start c .args .l .order)
-inside c =
-    let size : length (start c .args .l .order) ≡ 64 = search needs in
-    omega (arith, sound (start c .args .l) (subst T (sym (valid-there c)) tt) .small)
+sizes : (c : tie.Else2) → let l = start c .args .l in (length (l .order) ≡ 64) × (l .n ≤ 64)
+sizes c = (search needs, sound (start c .args .l) (subst T (sym (valid-there c)) tt) .small)
 
 -- a list's start, copied whole over the start of another list
 over-start : (n : ℕ) (xs ys : List ℕ) → n ≤ length xs
@@ -51,13 +49,13 @@ returns-2 c =
     (rw (is-valid, short), rw (is-valid, short))
 
 array-share-prefix-places : tie.Need-array-share-prefix-places
-array-share-prefix-places c = omega (arith, inside (c .before))
+array-share-prefix-places c = let h = sizes (c .before) in omega (arith, h .0, h .1)
 
 slice-aggregate-copy : tie.Need-slice-aggregate-copy
-slice-aggregate-copy c = let h = inside (c .before .before) in simp length-take (omega arith)
+slice-aggregate-copy c = let h = sizes (c .before .before) in simp length-take (omega (arith, h .0, h .1))
 
 copy-requires : tie.Need-copy-requires
-copy-requires c κs = let h = inside (c .before .before .before) in simp length-take (omega arith)
+copy-requires c κs = let h = sizes (c .before .before .before) in simp length-take (omega (arith, h .0, h .1))
 
 same-length : tie.Need-same-length
 same-length c = search needs
@@ -71,7 +69,7 @@ returns-3 c =
     let s = start passed .args in
     let fits = le-leb (s .l .n) (length (now (s .buffer))) (passed .if2 .left) in (
       rw (valid-there passed, fits),
-      rw (valid-there passed, fits) (copied .copy .ensures .1 ∙ over-start (s .l .n) (s .l .order) (now (s .buffer)) (inside passed)),
+      rw (valid-there passed, fits) (copied .copy .ensures .1 ∙ over-start (s .l .n) (s .l .order) (now (s .buffer)) (omega (arith, sizes passed .0, sizes passed .1))),
     )
 
 pub order-spec : {M : Type 1} → statement M
