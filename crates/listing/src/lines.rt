@@ -1,13 +1,10 @@
 // The lines of a listing.
-ghost use mathlib.Core.Path.{_≡_};
 ghost use mathlib.Core.Bool.{cond};
 ghost use mathlib.Core.List.{_++_, flatMap};
 ghost use Prim.Native.Nat.{_+_, _≤_};
 ghost use lib.ListN.{length};
-ghost use Rattle.model.specs.Crossings.{edges as edgesIn};
 ghost use Rattle.model.specs.Listing.{text, line, spaced};
-ghost use Rattle.laws.specs.Layouts.Recount.{Drawn};
-ghost use Rattle.laws.specs.Buffers.Writing.{Written, written};
+ghost use Rattle.laws.specs.Buffers.Writing.{Written};
 use text::put_byte;
 use text::put_bytes;
 use text::put_line;

@@ -34,7 +34,7 @@ array-share-prefix-out : tie.Need-array-share-prefix-out
 array-share-prefix-out c = fits (c .before)
 
 slice-aggregate-write-all : tie.Need-slice-aggregate-write-all
-slice-aggregate-write-all c = sym (length-take-le (c .before .before .list-chart .result) (c .before .before .list-chart .last .1 .0) (fits (c .before .before)))
+slice-aggregate-write-all c = sym (length-take-le _ _ (fits (c .before .before)))
 
 write-all-requires : tie.Need-write-all-requires
 write-all-requires c κs = search needs

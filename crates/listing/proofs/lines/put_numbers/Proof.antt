@@ -47,10 +47,10 @@ returns c =
     let before = after .before .before .before .before .before in
     let links = before .before .before .before .before .before in
     let devices = links .before .before .before .before .before in
-    let one = behind (omega arith) (devices .put-line .ensures .0) (links .put-line2 .ensures .0) in
-    let two = behind (omega arith) one (before .put-line3 .ensures .0) in
-    let three = behind (omega arith) two (after .put-line4 .ensures .0) in
-    (behind (omega arith) three (rounds .put-line5 .ensures .0), omega arith)
+    let two = behind (devices .put-line .ensures .0) (links .put-line2 .ensures .0) (omega arith) in
+    let three = behind two (before .put-line3 .ensures .0) (omega arith) in
+    let four = behind three (after .put-line4 .ensures .0) (omega arith) in
+    (behind four (rounds .put-line5 .ensures .0) (omega arith), omega arith)
 
 pub put-numbers-spec : {M : Type 1} → statement M
 put-numbers-spec =

@@ -27,8 +27,8 @@ unfolding line text upto
 returns c =
     let end = c .before .before in
     let places = end .before .before .before .before in
-    let name = places .before .before .before .before in
-    let whole = behind (omega arith) (behind (omega arith) (name .put-text .ensures) (places .put-bytes .ensures .0)) (end .put-byte .ensures) in
+    let named = places .before .before .before .before .put-text .ensures in
+    let whole = behind (behind named (places .put-bytes .ensures .0) (omega arith)) (end .put-byte .ensures) (omega arith) in
     (whole, omega (arith, written-size whole (omega arith)))
 
 pub put-order-line-spec : {M : Type 1} → statement M

@@ -2,7 +2,6 @@ use borrow.Author.Needs.{needs}
 use native.Mathlib.Omega.{arith}
 use Rattle.model.specs.Lists.{upto}
 use Rattle.model.specs.Listing.{text, line}
-use Rattle.laws.specs.Buffers.Writing.{Written}
 use Rattle.listing.proofs.lines.put_settled.Statement.{statement}
 use Rattle.listing.proofs.lines.put_settled.Tie as tie
 

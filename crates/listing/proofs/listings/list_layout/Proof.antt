@@ -1,5 +1,5 @@
 use borrow.Author.Needs.{needs}
-use Prim.Native.Nat.{ℕ, _≤_}
+use Prim.Native.Nat.{_≤_}
 use native.Mathlib.Omega.{arith}
 use mathlib.Core.Path.{_≡_, sym}
 use lib.ListN.{length}
@@ -81,7 +81,7 @@ returns c =
     let held = counted .put-numbers .ensures in
     let told = written .put-settled .ensures in
     listing-written (s .args .l) (s .pre .0) (s .pre .1) (at .converge .ensures) (edges-halved (s .args .l) (s .pre .0) (linked .edge-count .ensures))
-    (behind (omega (arith, room, held .1, told .1)) (behind (omega (arith, room, held .1)) (held .0) (told .0)) (end .put-order-line .ensures .0))
+    (behind (behind (held .0) (told .0) (omega (arith, room, held .1))) (end .put-order-line .ensures .0) (omega (arith, room, held .1, told .1)))
 
 pub list-layout-spec : {M : Type 1} → statement M
 list-layout-spec =

@@ -1,7 +1,6 @@
-use Prim.Native.Nat.{ℕ, _+_, _*_, _-_, _≤_}
+use Prim.Native.Nat.{_+_, _*_, _-_, _≤_}
 use native.Mathlib.Omega.{arith}
-use mathlib.Core.Path.{_≡_, ap}
-use mathlib.Core.List.{List, flatMap}
+use mathlib.Core.List.{flatMap}
 use lib.ListN.{length, take}
 use lib.Seq.{take-all}
 use Rattle.model.specs.Listing.{spaced}
@@ -20,10 +19,10 @@ loop-holds : tie.Need-loop-holds Inv-loop μ-loop
 unfolding flatMap
 loop-holds c = (omega arith, omega arith, written-none _ _)
 
--- what has been written stays inside the buffer
 abbrev start : tie.At-loop Inv-loop μ-loop → tie.Start Inv-loop μ-loop
 start c = c .before .before .before
 
+-- what has been written stays inside the buffer
 fits : (c : tie.At-loop Inv-loop μ-loop) → c .loop .to ≤ length (start c .args .out .now)
 fits c = omega (arith, start c .pre, c .loop .inv .0, c .loop .inv .1)
 
@@ -48,7 +47,7 @@ loop-again c =
     let old = turn .before in (
       omega (arith, turn .loop-test .taken),
       omega (arith, old .loop .inv .1, put .1),
-      rw (flatMap-next spaced (start old .args .bytes .now) (old .loop .i) (turn .loop-test .taken)) (behind (fits old) (old .loop .inv .2) (put .0)),
+      rw (flatMap-next spaced (start old .args .bytes .now) (old .loop .i) (turn .loop-test .taken)) (behind (old .loop .inv .2) (put .0) (fits old)),
     )
 
 same-length : tie.Need-same-length Inv-loop μ-loop
@@ -57,7 +56,8 @@ same-length c = written-size (c .before .loop .inv .2) (fits (c .before))
 returns : tie.Need-returns Inv-loop μ-loop
 returns c =
     let last = c .before in
-    (rw (take-all (last .loop .i) (start last .args .bytes .now) (c .loop-test .left)) at (last .loop .inv .2), omega (arith, last .loop .inv .0, last .loop .inv .1))
+    let all = take-all (last .loop .i) (start last .args .bytes .now) (c .loop-test .left) in
+    (rw all at (last .loop .inv .2), omega (arith, last .loop .inv .0, last .loop .inv .1))
 
 pub put-bytes-spec : {M : Type 1} → statement M
 put-bytes-spec =

@@ -1,11 +1,8 @@
 use borrow.Author.Needs.{needs}
-use Prim.Native.Nat.{ℕ}
 use native.Mathlib.Omega.{arith}
-use mathlib.Core.Path.{_≡_, sym, ap, subst, _∙_}
-use mathlib.Core.List.{List}
-use lib.ListN.{length, take}
+use mathlib.Core.Path.{_≡_, _∙_}
+use lib.ListN.{take}
 use Rattle.model.specs.Listing.{decimal}
-use Rattle.laws.specs.Buffers.Writing.{Written}
 use Rattle.text.specs.Decimals.{digits-decimal}
 use Rattle.text.proofs.numbers.put_decimal.Statement.{statement}
 use Rattle.text.proofs.numbers.put_decimal.Tie as tie

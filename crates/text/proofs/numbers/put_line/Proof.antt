@@ -23,8 +23,8 @@ unfolding text upto
 returns c =
     let end = c .before .before in
     let number = end .before .before .before .before in
-    let name = number .before .before .before .before in
-    (behind (omega arith) (behind (omega arith) (name .put-text .ensures) (number .put-number .ensures .0)) (end .put-byte .ensures), omega arith)
+    let named = number .before .before .before .before .put-text .ensures in
+    (behind (behind named (number .put-number .ensures .0) (omega arith)) (end .put-byte .ensures) (omega arith), omega arith)
 
 pub put-line-spec : {M : Type 1} → statement M
 put-line-spec =

@@ -21,7 +21,7 @@ returns : tie.Need-returns
 unfolding spaced text upto
 returns c =
     let number = c .before .before in
-    behind (omega arith) (number .before .before .before .before .put-byte .ensures) (number .put-decimal .ensures)
+    behind (number .before .before .before .before .put-byte .ensures) (number .put-decimal .ensures) (omega arith)
 
 pub put-spaced-spec : {M : Type 1} → statement M
 put-spaced-spec = tie.close (tie.spec put-byte-requires put-decimal-requires same-length returns)

@@ -1,6 +1,6 @@
 use borrow.Author.Needs.{needs}
 use mathlib.Core.Path.{refl}
-use Rattle.laws.specs.Buffers.Writing.{Written, written-byte}
+use Rattle.laws.specs.Buffers.Writing.{written-byte}
 use Rattle.text.proofs.writing.put_byte.Statement.{statement}
 use Rattle.text.proofs.writing.put_byte.Tie as tie
 

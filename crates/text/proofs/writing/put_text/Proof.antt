@@ -5,7 +5,7 @@ use mathlib.Core.Path.{_≡_, refl, ap, sym, _∙_}
 use mathlib.Core.List.{List}
 use lib.ListN.{length, getD, take, set, length-set}
 use lib.Seq.{take-all}
-use Rattle.laws.specs.Buffers.Writing.{Written, written, written-nothing, written-next}
+use Rattle.laws.specs.Buffers.Writing.{written, written-nothing, written-next}
 use Rattle.text.proofs.writing.put_text.Statement.{statement}
 use Rattle.text.proofs.writing.put_text.Tie as tie
 
