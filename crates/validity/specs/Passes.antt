@@ -122,6 +122,12 @@ module _ (n : ℕ) (xs : List ℕ) where
   once-if : n ≤ length xs → T (eachOnce n (take n xs)) → Permutation n (take n xs)
   once-if h t = each-once n (take n xs) (le-trans (le-of-eq (length-take n xs)) (min-le-left n (length xs))) t
 
+  -- there are not n places
+  pub too-short : length xs < n → false ≡ eachOnce n (take n xs)
+  too-short h =
+      let short : length (take n xs) ≤ n = omega (arith, length-take n xs) in
+      sym (not-T-false (eachOnce n (take n xs)) (λ t. omega (arith, length-take n xs, each-once n (take n xs) short t .size)))
+
 module _ {n : ℕ} {xs : List ℕ} where
   pub seen-none : SeenUpTo n xs 0 0
   unfolding sum
@@ -173,12 +179,6 @@ module _ {n : ℕ} {xs : List ℕ} where
           (eq-eqb (occurrences v (take n xs)) 1
           (all-one n (λ u. occurrences u (take n xs)) (λ u m. rw (count u) (le-of-suc-le-suc (bit-lt seen u))) total v b))
           tt
-
-  -- there are not n places
-  pub too-short : length xs < n → false ≡ eachOnce n (take n xs)
-  too-short h =
-      let short : length (take n xs) ≤ n = omega (arith, length-take n xs) in
-      sym (not-T-false (eachOnce n (take n xs)) (λ t. omega (arith, length-take n xs, each-once n (take n xs) short t .size)))
 
   -- a place holds no vertex
   pub not-a-vertex : {seen p : ℕ} → n ≤ length xs → SeenUpTo n xs seen p → p < n → n ≤ at xs p → false ≡ eachOnce n (take n xs)

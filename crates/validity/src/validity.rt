@@ -27,10 +27,7 @@ fn order_valid(n: usize, order: &[u8]) -> bool
     requires { ⌜ length (now order) ≡ 64 ⌝ }
     ensures { λ r. ⌜ r ≡ (leb n 64 && eachOnce n (take n (now (order .entry))) && zeroFrom n (now (order .entry))) ⌝ }
 {
-    if 64 < n {
-        return false;
-    }
-    if !each_once(n, order) {
+    if !is_order(n, order) {
         return false;
     }
     zero_bytes_from(n, order)
