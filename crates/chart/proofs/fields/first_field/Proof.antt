@@ -11,17 +11,18 @@ returns c = answer-short _ (c .if1 .taken)
 shared-slice-read-length : tie.Need-shared-slice-read-length
 shared-slice-read-length c = search needs
 
+-- of both bytes, whichever is read first
 cast-length : tie.Need-cast-length
-cast-length c = omega (arith, c .shared-slice-known .given 1)
+cast-length c = omega (arith, c .shared-slice-known .given 1, c .shared-slice-known .given 2)
 
 mul-length : tie.Need-mul-length
-mul-length c = omega (arith, c .shared-slice-known .given 1)
+mul-length c = omega (arith, c .shared-slice-known .given 1, c .shared-slice-known .given 2)
 
 shared-slice-read-length-2 : tie.Need-shared-slice-read-length-2
 shared-slice-read-length-2 c = search needs
 
 cast-length-2 : tie.Need-cast-length-2
-cast-length-2 c = omega (arith, c .shared-slice-known2 .given 2)
+cast-length-2 c = omega (arith, c .shared-slice-known2 .given 1, c .shared-slice-known2 .given 2)
 
 add-length : tie.Need-add-length
 add-length c = omega (arith, c .shared-slice-known2 .given 1, c .shared-slice-known2 .given 2)
