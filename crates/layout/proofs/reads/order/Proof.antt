@@ -67,9 +67,10 @@ returns-3 c =
     let lent = copied .before .before in
     let passed = lent .before .before in
     let s = start passed .args in
+    let h = sizes passed in
     let fits = le-leb (s .l .n) (length (now (s .buffer))) (passed .if2 .left) in (
       rw (valid-there passed, fits),
-      rw (valid-there passed, fits) (copied .copy .ensures .1 ∙ over-start (s .l .n) (s .l .order) (now (s .buffer)) (omega (arith, sizes passed .0, sizes passed .1))),
+      rw (valid-there passed, fits) (copied .copy .ensures .1 ∙ over-start (s .l .n) (s .l .order) (now (s .buffer)) (omega (arith, h .0, h .1))),
     )
 
 pub order-spec : {M : Type 1} → statement M
