@@ -22,7 +22,7 @@ use Rattle.laws.specs.Orders.Permutations.{at, Permutation}
 use Rattle.laws.specs.Sums.Pairs.{Symmetric}
 use Rattle.laws.specs.Crossings.Counting.{crossingSum, placed}
 use Rattle.laws.specs.Crossings.Edges.{weight, crossings-sum}
-use Rattle.laws.specs.Crossings.Bound.{crossingSum-bound}
+use Rattle.laws.specs.Crossings.Bound.{mostCrossings, crossingSum-bound}
 use Rattle.laws.specs.Layouts.Validity.{sound}
 use Rattle.laws.specs.Layouts.Sizes.{Sized, reordered-sized}
 use Rattle.laws.specs.Layouts.Refusals.{checked-either, vertex-passed, all-passed, when-accepted, when-refused, checked-number}
@@ -133,7 +133,7 @@ module _ {n : ℕ} (adj : List ℕ) (symmetry : Symmetric n (weight adj)) where
       laid-more k (omega arith) (laid-next laid (next .0) (next .1))
 
   -- so the tally is at no step more than the most crossings possible
-  pub laid-bound : {m : ℕ} {s : Placing} → n ≤ 64 → Laid n adj m s → s .tally ≤ 635376
+  pub laid-bound : {m : ℕ} {s : Placing} → n ≤ 64 → Laid n adj m s → s .tally ≤ mostCrossings
   laid-bound {m} {s} small laid =
       let finished = laid-more (n - m) (omega (arith, placed-count (laid .order), laid .size)) laid in
       le-trans (tally-grows n adj (n - m) s)
@@ -192,7 +192,7 @@ module _ (l : Layout) (s : ℕ) where
   pub lay-tally : layOf l s .refusal ≡ 0 → layOf l s .tally ≡ crossingsOf (layOf l s .layout)
   lay-tally e = let passed = lay-passed e in rw (lay-accepted (passed .0) (passed .1)) (lay-crossings (passed .0) (passed .1))
 
-  pub lay-tally-bound : layOf l s .tally ≤ 635376
+  pub lay-tally-bound : layOf l s .tally ≤ mostCrossings
   lay-tally-bound =
       elim (ℕ-discrete (layOf l s .refusal) 0) [
         | yes e ↦

@@ -116,8 +116,8 @@ beq-comm false true = refl
 beq-comm false false = refl
 
 -- a test that a call found to hold, and one that it found not to, where code asks for the opposite
-pub passed : {r p : Bool} → r ≡ p → not r ≡ false → p ≡ true
-passed {r} {p} e f = sym e ∙ not-false r f
+pub test-held : {r p : Bool} → r ≡ p → not r ≡ false → p ≡ true
+test-held {r} {p} e f = sym e ∙ not-false r f
 
-pub failed : {r p : Bool} → r ≡ p → not r ≡ true → p ≡ false
-failed {r} {p} e t = sym e ∙ not-true r t
+pub test-failed : {r p : Bool} → r ≡ p → not r ≡ true → p ≡ false
+test-failed {r} {p} e t = sym e ∙ not-true r t

@@ -4,7 +4,7 @@ use lib.Dec.{T}
 use Rattle.model.specs.Layouts.{valid}
 use Rattle.model.specs.Checks.{checked, byRefusal, refusal, isValid}
 use Rattle.model.specs.Reading.{shown, firstCrossingOf}
-use Rattle.laws.specs.Sums.Indicators.{passed, failed}
+use Rattle.laws.specs.Sums.Indicators.{test-held, test-failed}
 use Rattle.laws.specs.Layouts.Validity.{sound}
 use Rattle.crossing.specs.Search.{searchable, search-shown}
 use Rattle.crossing.proofs.crossing.first_crossing.Statement.{statement}
@@ -12,7 +12,7 @@ use Rattle.crossing.proofs.crossing.first_crossing.Tie as tie
 
 -- the layout is valid
 accepted : (c : tie.Else1) → T (valid (c .before .before .args .l))
-accepted c = subst T (sym (passed (c .before .is-valid .ensures) (c .if1 .left))) tt
+accepted c = subst T (sym (test-held (c .before .is-valid .ensures) (c .if1 .left))) tt
 
 -- from where the edges are listed to where the check was passed
 abbrev past-check : tie.After-highs → tie.Else1
@@ -23,7 +23,7 @@ is-valid-requires c κs = search needs
 
 returns : tie.Need-returns
 unfolding shown firstCrossingOf checked byRefusal refusal isValid
-returns c = rw (failed (c .before .is-valid .ensures) (c .if1 .taken))
+returns c = rw (test-failed (c .before .is-valid .ensures) (c .if1 .taken))
 
 slice-aggregate-list-edges : tie.Need-slice-aggregate-list-edges
 slice-aggregate-list-edges c = search needs

@@ -1,7 +1,7 @@
 use borrow.Author.Needs.{needs}
 use Rattle.model.specs.Checks.{checked, byRefusal, refusal, isValid}
 use Rattle.model.specs.Reading.{countOf}
-use Rattle.laws.specs.Sums.Indicators.{passed, failed}
+use Rattle.laws.specs.Sums.Indicators.{test-held, test-failed}
 use Rattle.layout.proofs.reads.count.Statement.{statement}
 use Rattle.layout.proofs.reads.count.Tie as tie
 
@@ -10,11 +10,11 @@ is-valid-requires c κs = search needs
 
 returns : tie.Need-returns
 unfolding countOf checked byRefusal refusal isValid
-returns c = rw (failed (c .before .is-valid .ensures) (c .if1 .taken))
+returns c = rw (test-failed (c .before .is-valid .ensures) (c .if1 .taken))
 
 returns-2 : tie.Need-returns-2
 unfolding countOf checked byRefusal refusal isValid
-returns-2 c = rw (passed (c .before .is-valid .ensures) (c .if1 .left))
+returns-2 c = rw (test-held (c .before .is-valid .ensures) (c .if1 .left))
 
 pub count-spec : {M : Type 1} → statement M
 count-spec = tie.close (tie.spec is-valid-requires returns returns-2)

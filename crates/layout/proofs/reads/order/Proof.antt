@@ -13,7 +13,7 @@ use borrow.Author.Tests.{le-leb, lt-leb}
 use Rattle.model.specs.Checks.{checked, byRefusal, refusal, isValid, bufferFits}
 use Rattle.model.specs.Reading.{orderChecks, orderRefusal, orderBytes}
 use Rattle.model.specs.Layouts.{vertexOrder, valid}
-use Rattle.laws.specs.Sums.Indicators.{passed, failed}
+use Rattle.laws.specs.Sums.Indicators.{test-held, test-failed}
 use Rattle.layout.proofs.reads.order.Statement.{statement}
 use Rattle.layout.proofs.reads.order.Tie as tie
 
@@ -22,7 +22,7 @@ abbrev start : tie.Else2 → tie.Start
 start c = c .before .before .before .before
 
 valid-there : (c : tie.Else2) → valid (start c .args .l) ≡ true
-valid-there c = passed (c .before .before .is-valid .ensures) (c .before .if1 .left)
+valid-there c = test-held (c .before .before .is-valid .ensures) (c .before .if1 .left)
 
 sizes : (c : tie.Else2) → let l = start c .args .l in (length (l .order) ≡ 64) × (l .n ≤ 64)
 sizes c = (search needs, sound (start c .args .l) (subst T (sym (valid-there c)) tt) .small)
@@ -37,14 +37,14 @@ is-valid-requires c κs = search needs
 
 returns : tie.Need-returns
 unfolding orderRefusal orderBytes orderChecks checked byRefusal refusal isValid bufferFits
-returns c = let e = failed (c .before .is-valid .ensures) (c .if1 .taken) in (rw e, rw e)
+returns c = let e = test-failed (c .before .is-valid .ensures) (c .if1 .taken) in (rw e, rw e)
 
 returns-2 : tie.Need-returns-2
 unfolding orderRefusal orderBytes orderChecks checked byRefusal refusal isValid bufferFits
 returns-2 c =
     let tested = c .before in
     let s = tested .before .before .before .args in
-    let is-valid = passed (tested .before .is-valid .ensures) (tested .if1 .left) in
+    let is-valid = test-held (tested .before .is-valid .ensures) (tested .if1 .left) in
     let short = lt-leb (s .l .n) (length (now (s .buffer))) (c .if2 .taken) in
     (rw (is-valid, short), rw (is-valid, short))
 
@@ -65,12 +65,12 @@ unfolding orderRefusal orderBytes orderChecks checked byRefusal refusal isValid 
 returns-3 c =
     let copied = c .before .before in
     let lent = copied .before .before in
-    let passed = lent .before .before in
-    let s = start passed .args in
-    let h = sizes passed in
-    let fits = le-leb (s .l .n) (length (now (s .buffer))) (passed .if2 .left) in (
-      rw (valid-there passed, fits),
-      rw (valid-there passed, fits) (copied .copy .ensures .1 ∙ over-start (s .l .n) (s .l .order) (now (s .buffer)) (omega (arith, h .0, h .1))),
+    let both = lent .before .before in
+    let s = start both .args in
+    let h = sizes both in
+    let fits = le-leb (s .l .n) (length (now (s .buffer))) (both .if2 .left) in (
+      rw (valid-there both, fits),
+      rw (valid-there both, fits) (copied .copy .ensures .1 ∙ over-start (s .l .n) (s .l .order) (now (s .buffer)) (omega (arith, h .0, h .1))),
     )
 
 pub order-spec : {M : Type 1} → statement M

@@ -4,7 +4,7 @@ use lib.Dec.{T}
 use Rattle.model.specs.Checks.{checked, byRefusal, refusal, isValid}
 use Rattle.model.specs.Layouts.{valid}
 use Rattle.model.specs.Sifting.{roundOf}
-use Rattle.laws.specs.Sums.Indicators.{passed, failed}
+use Rattle.laws.specs.Sums.Indicators.{test-held, test-failed}
 use Rattle.sifting.proofs.rounds.sifting_round.Statement.{statement}
 use Rattle.sifting.proofs.rounds.sifting_round.Tie as tie
 
@@ -13,14 +13,14 @@ is-valid-requires c κs = search needs
 
 returns : tie.Need-returns
 unfolding roundOf checked byRefusal refusal isValid
-returns c = rw (failed (c .before .is-valid .ensures) (c .if1 .taken))
+returns c = rw (test-failed (c .before .is-valid .ensures) (c .if1 .taken))
 
 sift-all-requires : tie.Need-sift-all-requires
-sift-all-requires c κs = subst T (sym (passed (c .before .is-valid .ensures) (c .if1 .left))) tt
+sift-all-requires c κs = subst T (sym (test-held (c .before .is-valid .ensures) (c .if1 .left))) tt
 
 returns-2 : tie.Need-returns-2
 unfolding roundOf checked byRefusal refusal isValid
-returns-2 c = rw (passed (c .before .before .is-valid .ensures) (c .before .if1 .left)) (c .sift-all .ensures)
+returns-2 c = rw (test-held (c .before .before .is-valid .ensures) (c .before .if1 .left)) (c .sift-all .ensures)
 
 pub sifting-round-spec : {M : Type 1} → statement M
 sifting-round-spec = tie.close (tie.spec is-valid-requires returns sift-all-requires returns-2)

@@ -6,7 +6,7 @@ use mathlib.Core.Path.{_≡_}
 use Rattle.model.specs.Layouts.{valid}
 use Rattle.model.specs.Checks.{refusal, isValid, isVertex, differ}
 use Rattle.model.specs.Edits.{moveChecks}
-use Rattle.laws.specs.Sums.Indicators.{passed, failed}
+use Rattle.laws.specs.Sums.Indicators.{test-held, test-failed}
 use Rattle.validity.proofs.checks.pair_refusal.Statement.{statement}
 use Rattle.validity.proofs.checks.pair_refusal.Tie as tie
 
@@ -15,11 +15,11 @@ is-valid-requires c κs = search needs
 
 returns : tie.Need-returns
 unfolding moveChecks refusal isValid isVertex differ
-returns c = rw (failed (c .before .is-valid .ensures) (c .if1 .taken))
+returns c = rw (test-failed (c .before .is-valid .ensures) (c .if1 .taken))
 
 -- the layout is valid
 accepted : (c : tie.Else1) → valid (c .before .before .args .l) ≡ true
-accepted c = passed (c .before .is-valid .ensures) (c .if1 .left)
+accepted c = test-held (c .before .is-valid .ensures) (c .if1 .left)
 
 returns-2 : tie.Need-returns-2
 unfolding moveChecks refusal isValid isVertex differ

@@ -1,5 +1,5 @@
 use borrow.Author.Needs.{needs}
-use Rattle.laws.specs.Sums.Indicators.{passed, failed}
+use Rattle.laws.specs.Sums.Indicators.{test-held, test-failed}
 use Rattle.validity.proofs.validity.order_valid.Statement.{statement}
 use Rattle.validity.proofs.validity.order_valid.Tie as tie
 
@@ -7,13 +7,13 @@ is-order-requires : tie.Need-is-order-requires
 is-order-requires c κs = search needs
 
 returns : tie.Need-returns
-returns c = rw (failed (c .before .is-order .ensures) (c .if1 .taken))
+returns c = rw (test-failed (c .before .is-order .ensures) (c .if1 .taken))
 
 zero-bytes-from-requires : tie.Need-zero-bytes-from-requires
 zero-bytes-from-requires c κs = search needs
 
 returns-2 : tie.Need-returns-2
-returns-2 c = let ordered = c .before in rw (passed (ordered .before .is-order .ensures) (ordered .if1 .left)) (c .zero-bytes-from .ensures)
+returns-2 c = let ordered = c .before in rw (test-held (ordered .before .is-order .ensures) (ordered .if1 .left)) (c .zero-bytes-from .ensures)
 
 pub order-valid-spec : {M : Type 1} → statement M
 order-valid-spec = tie.close (tie.spec is-order-requires returns zero-bytes-from-requires returns-2)

@@ -1,5 +1,5 @@
 use borrow.Author.Needs.{needs}
-use Rattle.laws.specs.Sums.Indicators.{passed, failed}
+use Rattle.laws.specs.Sums.Indicators.{test-held, test-failed}
 use Rattle.validity.proofs.validity.words_valid.Statement.{statement}
 use Rattle.validity.proofs.validity.words_valid.Tie as tie
 
@@ -7,7 +7,7 @@ symmetric-requires : tie.Need-symmetric-requires
 symmetric-requires c κs = search needs
 
 returns : tie.Need-returns
-returns c = rw (failed (c .before .symmetric .ensures) (c .if1 .taken))
+returns c = rw (test-failed (c .before .symmetric .ensures) (c .if1 .taken))
 
 loopless-requires : tie.Need-loopless-requires
 loopless-requires c κs = search needs
@@ -15,7 +15,7 @@ loopless-requires c κs = search needs
 returns-2 : tie.Need-returns-2
 returns-2 c =
     let symmetry = c .before .before in
-    rw (passed (symmetry .before .symmetric .ensures) (symmetry .if1 .left), failed (c .before .loopless .ensures) (c .if2 .taken))
+    rw (test-held (symmetry .before .symmetric .ensures) (symmetry .if1 .left), test-failed (c .before .loopless .ensures) (c .if2 .taken))
 
 bits-below-requires : tie.Need-bits-below-requires
 bits-below-requires c κs = search needs
@@ -25,9 +25,9 @@ returns-3 c =
     let no-loop = c .before .before in
     let symmetry = no-loop .before .before in
     rw (
-      passed (symmetry .before .symmetric .ensures) (symmetry .if1 .left),
-      passed (no-loop .before .loopless .ensures) (no-loop .if2 .left),
-      failed (c .before .bits-below .ensures) (c .if3 .taken),
+      test-held (symmetry .before .symmetric .ensures) (symmetry .if1 .left),
+      test-held (no-loop .before .loopless .ensures) (no-loop .if2 .left),
+      test-failed (c .before .bits-below .ensures) (c .if3 .taken),
     )
 
 zero-words-from-requires : tie.Need-zero-words-from-requires
@@ -39,9 +39,9 @@ returns-4 c =
     let no-loop = bits .before .before in
     let symmetry = no-loop .before .before in
     rw (
-      passed (symmetry .before .symmetric .ensures) (symmetry .if1 .left),
-      passed (no-loop .before .loopless .ensures) (no-loop .if2 .left),
-      passed (bits .before .bits-below .ensures) (bits .if3 .left),
+      test-held (symmetry .before .symmetric .ensures) (symmetry .if1 .left),
+      test-held (no-loop .before .loopless .ensures) (no-loop .if2 .left),
+      test-held (bits .before .bits-below .ensures) (bits .if3 .left),
     )
     (c .zero-words-from .ensures)
 
