@@ -107,7 +107,7 @@ add-end-2 : tie.Need-add-end-2
 add-end-2 c = omega (arith, three c .inside)
 
 field-at-requires-4 : tie.Need-field-at-requires-4
-field-at-requires-4 c κs = three c .inside
+field-at-requires-4 c κs = omega (arith, three c .inside)
 
 enum-told-4 : tie.Need-enum-told-4
 enum-told-4 c = search needs
