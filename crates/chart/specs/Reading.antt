@@ -175,6 +175,20 @@ pub asked-passed : {r : Asked} → r ≡ asks.Passed → asked r .accepted ≡ t
 unfolding asked accept
 asked-passed told = ap (λ (y : Asked). asked y .accepted) told
 
+-- the code of a refusal is handed back
+module _ {k code : ℕ} where
+  pub asked-number : {r : Asked} → r ≡ asks.Refused k → code ≡ asked r .code → refusedRead code ≡ refusedRead k
+  unfolding asked refuse
+  asked-number e c = ap refusedRead (c ∙ ap (λ (x : Asked). asked x .code) e)
+
+  pub bodies-number : {r : BodiesFound} → r ≡ bodies.Refused k → code ≡ bodiesFound r .code → refusedRead code ≡ refusedRead k
+  unfolding bodiesFound refuse
+  bodies-number e c = ap refusedRead (c ∙ ap (λ (x : BodiesFound). bodiesFound x .code) e)
+
+  pub size-number : {r : SizeFound} → r ≡ size.Refused k → code ≡ sizeFound r .code → refusedRead code ≡ refusedRead k
+  unfolding sizeFound refuse
+  size-number e c = ap refusedRead (c ∙ ap (λ (x : SizeFound). sizeFound x .code) e)
+
 module _ {xs : List Check} (m : Numbered xs) (ys : List Check) (x : ChartRead) {r : Asked} where
   asked-on : r ≡ asks.Passed → asked r ≡ answer xs [] → checked ys x refusedRead ≡ checked (xs ++ ys) x refusedRead
   asked-on told said = pass-accepted m [] ys x said (asked-passed told)

@@ -13,7 +13,7 @@ ghost use mathlib.Core.Path.{_≡_};
 ghost use Prim.Native.Nat.{_≤_};
 ghost use mathlib.Core.Bool.{true};
 ghost use Rattle.model.specs.Lists.{every};
-ghost use Rattle.model.specs.Charts.{edgesIn, edgeWithin, readOf};
+ghost use Rattle.model.specs.Charts.{edgesIn, edgeWithin, readOf, asked, bodiesFound, sizeFound};
 ghost use Rattle.chart.specs.Fields.{BodiesAt};
 ghost use Rattle.chart.specs.Reading.{refusedRead, readDivided, readFields, readBodies, readEdges, readOrder};
 
@@ -21,20 +21,22 @@ ghost use Rattle.chart.specs.Reading.{refusedRead, readDivided, readFiel
 pub fn read(bytes: &[u8]) -> ChartRead
     ensures { λ r. ⌜ r ≡ readOf (now (bytes .entry)) ⌝ }
 {
-    match fields::ask_fields(bytes) {
-        Asked::Passed => read_divided(bytes),
-        Asked::Refused(code) => refused(code),
-    }
+    let divided = fields::ask_fields(bytes);
+    let Asked::Passed = divided else {
+        return refused(asked_code(divided));
+    };
+    read_divided(bytes)
 }
 
 // Question 3 and those behind it.
 fn read_divided(bytes: &[u8]) -> ChartRead
     ensures { λ r. ⌜ r ≡ readDivided (now (bytes .entry)) ⌝ }
 {
-    match fields::find_bodies(bytes) {
-        BodiesFound::Found(size, links, order) => read_fields(bytes, size, links, order),
-        BodiesFound::Refused(code) => refused(code),
-    }
+    let bodies = fields::find_bodies(bytes);
+    let BodiesFound::Found(size, links, order) = bodies else {
+        return refused(bodies_code(bodies));
+    };
+    read_fields(bytes, size, links, order)
 }
 
 // Questions 4 to 8, once the lengths of the three bodies are known. A header is three bytes.
@@ -47,14 +49,15 @@ fn read_fields(bytes: &[u8], size: usize, links: usize, order: usize) -> ChartRe
     let links_end = links_start + links;
     let order_start = links_end + 3;
     let order_end = order_start + order;
-    match fields::find_size(&bytes[3..size_end]) {
-        SizeFound::Found(n) => read_bodies(
-            n,
-            &bytes[links_start..links_end],
-            &bytes[order_start..order_end],
-        ),
-        SizeFound::Refused(code) => refused(code),
-    }
+    let found = fields::find_size(&bytes[3..size_end]);
+    let SizeFound::Found(n) = found else {
+        return refused(size_code(found));
+    };
+    read_bodies(
+        n,
+        &bytes[links_start..links_end],
+        &bytes[order_start..order_end],
+    )
 }
 
 // Questions 5 to 8, once the number of vertices is known: links is the body of field 4C, body that of
@@ -63,10 +66,11 @@ fn read_bodies(n: usize, links: &[u8], body: &[u8]) -> ChartRead
     requires { ⌜ n ≤ 64 ⌝ }
     ensures { λ r. ⌜ r ≡ readBodies n (now (links .entry)) (now (body .entry)) ⌝ }
 {
-    match edges::ask_ends(n, links) {
-        Asked::Passed => read_edges(n, links, body),
-        Asked::Refused(code) => refused(code),
-    }
+    let within = edges::ask_ends(n, links);
+    let Asked::Passed = within else {
+        return refused(asked_code(within));
+    };
+    read_edges(n, links, body)
 }
 
 // Questions 7 and 8, once the ends are known to be below n and different.
@@ -75,10 +79,11 @@ fn read_edges(n: usize, links: &[u8], body: &[u8]) -> ChartRead
     ensures { λ r. ⌜ r ≡ readEdges n (now (links .entry)) (now (body .entry)) ⌝ }
 {
     let mut adjacency = [0u64; 64];
-    match edges::join_edges(links, &mut adjacency) {
-        Asked::Passed => read_order(n, body, adjacency),
-        Asked::Refused(code) => refused(code),
-    }
+    let different = edges::join_edges(links, &mut adjacency);
+    let Asked::Passed = different else {
+        return refused(asked_code(different));
+    };
+    read_order(n, body, adjacency)
 }
 
 // Question 8, once the words are known, and the layout.
@@ -86,22 +91,21 @@ fn read_order(n: usize, body: &[u8], adjacency: [u64; 64]) -> ChartRead
     requires { ⌜ n ≤ 64 ⌝ }
     ensures { λ r. ⌜ r ≡ readOrder n adjacency (now (body .entry)) ⌝ }
 {
-    match order::ask_order(n, body) {
-        Asked::Passed => {
-            let mut order = [0u8; 64];
-            order::copy_order(body, &mut order);
-            let count = counting::count_crossings(n, &order, &adjacency);
-            ChartRead {
-                refusal: 0,
-                layout: Layout {
-                    n: n,
-                    order: order,
-                    adjacency: adjacency,
-                    count: count,
-                },
-            }
-        }
-        Asked::Refused(code) => refused(code),
+    let once = order::ask_order(n, body);
+    let Asked::Passed = once else {
+        return refused(asked_code(once));
+    };
+    let mut order = [0u8; 64];
+    order::copy_order(body, &mut order);
+    let count = counting::count_crossings(n, &order, &adjacency);
+    ChartRead {
+        refusal: 0,
+        layout: Layout {
+            n: n,
+            order: order,
+            adjacency: adjacency,
+            count: count,
+        },
     }
 }
 
@@ -112,5 +116,34 @@ fn refused(code: u8) -> ChartRead
     ChartRead {
         refusal: code,
         layout: layout::empty(),
+    }
+}
+
+// The refusal of each answer, to be handed back.
+
+fn asked_code(answer: Asked) -> u8
+    ensures { λ r. ⌜ r ≡ asked answer .code ⌝ }
+{
+    match answer {
+        Asked::Passed => 0,
+        Asked::Refused(code) => code,
+    }
+}
+
+fn bodies_code(answer: BodiesFound) -> u8
+    ensures { λ r. ⌜ r ≡ bodiesFound answer .code ⌝ }
+{
+    match answer {
+        BodiesFound::Found(_, _, _) => 0,
+        BodiesFound::Refused(code) => code,
+    }
+}
+
+fn size_code(answer: SizeFound) -> u8
+    ensures { λ r. ⌜ r ≡ sizeFound answer .code ⌝ }
+{
+    match answer {
+        SizeFound::Found(_) => 0,
+        SizeFound::Refused(code) => code,
     }
 }

@@ -2,7 +2,7 @@ use borrow.Author.Needs.{needs}
 use mathlib.Core.Path.{_≡_, ap, ap₂, _∙_}
 use Rattle.model.specs.Charts.{bodyOf, sizeFound, sizeAnswer}
 use Rattle.chart.specs.Fields.{size-part, links-part, order-part}
-use Rattle.chart.specs.Reading.{readBodies, SizeRead, size-read, read-missized}
+use Rattle.chart.specs.Reading.{readBodies, SizeRead, size-read, size-number, read-missized}
 use Rattle.chart.proofs.read_fields.Statement.{statement}
 use Rattle.chart.proofs.read_fields.Tie as tie
 
@@ -13,8 +13,8 @@ start c = c .before .before .before
 size-said : (c : tie.After-find-size) → sizeFound (c .find-size .result) ≡ sizeAnswer (bodyOf (start c .args .bytes .now) 0)
 size-said c = c .find-size .ensures ∙ ap sizeAnswer (size-part (start c .pre))
 
-read-size : (c : tie.After-known-told) → SizeRead (start (c .before .before .before) .args .bytes .now) (c .before .n .given .0 .0)
-read-size c = size-read (c .before .n .given .1) (size-said (c .before .before .before))
+read-size : (c : tie.After-known-told) → SizeRead (start (c .before .before .before) .args .bytes .now) (c .before .found .given .0 .0)
+read-size c = size-read (c .before .found .given .1) (size-said (c .before .before .before))
 
 add-size-end : tie.Need-add-size-end
 add-size-end c = search needs
@@ -43,8 +43,23 @@ part-find-size-end c = search needs
 find-size-requires : tie.Need-find-size-requires
 find-size-requires c κs = search needs
 
-enum-known-n : tie.Need-enum-known-n
-enum-known-n c = search needs
+enum-known-found : tie.Need-enum-known-found
+enum-known-found c = search needs
+
+enum-told : tie.Need-enum-told
+enum-told c = search needs
+
+size-code-requires : tie.Need-size-code-requires
+size-code-requires c κs = search needs
+
+refused-requires : tie.Need-refused-requires
+refused-requires c κs = search needs
+
+returns : tie.Need-returns
+returns c =
+    let told = c .before .before in
+    let e = told .enum-told .given .1 in
+    c .refused .ensures ∙ size-number e (c .before .size-code .ensures) ∙ read-missized _ e (size-said (told .before .before))
 
 sub-read-bodies : tie.Need-sub-read-bodies
 sub-read-bodies c = search needs
@@ -67,22 +82,11 @@ part-read-bodies-end-2 c = search needs
 read-bodies-requires : tie.Need-read-bodies-requires
 read-bodies-requires c κs = read-size (c .before .before) .small
 
-enum-known-code : tie.Need-enum-known-code
-enum-known-code c = search needs
-
-refused-requires : tie.Need-refused-requires
-refused-requires c κs = search needs
-
-returns : tie.Need-returns
-returns c =
+returns-2 : tie.Need-returns-2
+returns-2 c =
     let told = c .before .before .before in
     let at = start (told .before .before .before) .pre in
     c .read-bodies .ensures ∙ ap₂ (readBodies _) (links-part at) (order-part at) ∙ read-size told .left
-
-returns-2 : tie.Need-returns-2
-returns-2 c =
-    let told = c .before .before in
-    c .refused .ensures ∙ read-missized _ (told .code .given .1) (size-said (told .before .before))
 
 pub read-fields-spec : {M : Type 1} → statement M
 read-fields-spec =
@@ -97,7 +101,11 @@ read-fields-spec =
     part-find-size-start
     part-find-size-end
     find-size-requires
-    enum-known-n
+    enum-known-found
+    enum-told
+    size-code-requires
+    refused-requires
+    returns
     sub-read-bodies
     part-read-bodies-start
     part-read-bodies-end
@@ -105,7 +113,4 @@ read-fields-spec =
     part-read-bodies-start-2
     part-read-bodies-end-2
     read-bodies-requires
-    enum-known-code
-    refused-requires
-    returns
     returns-2)

@@ -1,7 +1,7 @@
 use borrow.Author.Needs.{needs}
 use native.Mathlib.Omega.{arith}
 use mathlib.Core.Path.{refl, _∙_}
-use Rattle.chart.specs.Reading.{order-long, read-misplaced, read-placed}
+use Rattle.chart.specs.Reading.{asked-number, order-long, read-misplaced, read-placed}
 use Rattle.chart.proofs.read_order.Statement.{statement}
 use Rattle.chart.proofs.read_order.Tie as tie
 
@@ -11,6 +11,21 @@ ask-order-requires c κs = search needs
 enum-told : tie.Need-enum-told
 enum-told c = search needs
 
+enum-told-2 : tie.Need-enum-told-2
+enum-told-2 c = search needs
+
+asked-code-requires : tie.Need-asked-code-requires
+asked-code-requires c κs = search needs
+
+refused-requires : tie.Need-refused-requires
+refused-requires c κs = search needs
+
+returns : tie.Need-returns
+returns c =
+    let told = c .before .before in
+    let e = told .enum-told2 .given .1 in
+    c .refused .ensures ∙ asked-number e (c .before .asked-code .ensures) ∙ read-misplaced _ _ _ e (told .before .before .ask-order .ensures)
+
 copy-order-requires : tie.Need-copy-order-requires
 copy-order-requires c κs =
     let passed = c .before in
@@ -19,22 +34,11 @@ copy-order-requires c κs =
 count-crossings-requires : tie.Need-count-crossings-requires
 count-crossings-requires c κs = search needs
 
-enum-known-code : tie.Need-enum-known-code
-enum-known-code c = search needs
-
-refused-requires : tie.Need-refused-requires
-refused-requires c κs = search needs
-
-returns : tie.Need-returns
-returns c =
+returns-2 : tie.Need-returns-2
+returns-2 c =
     let copied = c .before .before .before in
     let passed = copied .before .before in
     read-placed _ _ (passed .enum-told .given .1) (passed .before .before .ask-order .ensures) (copied .copy-order .ensures) (c .count-crossings .ensures)
-
-returns-2 : tie.Need-returns-2
-returns-2 c =
-    let told = c .before .before in
-    c .refused .ensures ∙ read-misplaced _ _ _ (told .code .given .1) (told .before .before .ask-order .ensures)
 
 pub read-order-spec : {M : Type 1} → statement M
 read-order-spec =
@@ -42,9 +46,10 @@ read-order-spec =
     (tie.spec
     ask-order-requires
     enum-told
-    copy-order-requires
-    count-crossings-requires
-    enum-known-code
+    enum-told-2
+    asked-code-requires
     refused-requires
     returns
+    copy-order-requires
+    count-crossings-requires
     returns-2)
