@@ -86,7 +86,8 @@ unfolding edgesIn edge
 edges-next s i h =
     ap edgesIn
     (drop-cons s i 0 (omega arith)
-    ∙ ap (λ (x : List ℕ). getD s i 0 ∷ x) (ap (λ (k : ℕ). drop k s) (sym (add-one i)) ∙ drop-cons s (i + 1) 0 h ∙ ap (λ (k : ℕ). getD s (i + 1) 0 ∷ drop k s) (sym (add-suc i 1))))
+    ∙ ap (λ (x : List ℕ). getD s i 0 ∷ x) (ap (λ (k : ℕ). drop k s) (sym (add-one i)) ∙ drop-cons s (i + 1) 0 h ∙ ap
+    (λ (k : ℕ). getD s (i + 1) 0 ∷ drop k s) (sym (add-suc i 1))))
 
 pub edges-last : (s : List ℕ) (i : ℕ) → length s ≤ i + 1 → edgesIn (drop i s) ≡ []
 unfolding edgesIn
@@ -115,7 +116,8 @@ module _ {n : ℕ} {s : List ℕ} where
   pub ends-next : {i : ℕ} → EndsUpTo n s i → i + 1 < length s → edgeWithin n (edge (getD s i 0) (getD s (i + 1) 0)) ≡ true → EndsUpTo n s (i + 2)
   ends-next {i} r h e = record { inside = omega arith; rest = ends-split r h ∙ ap (λ (x : Bool). x && every (edgeWithin n) (edgesIn (drop (i + 2) s))) e }
 
-  pub ends-bad : {i : ℕ} → EndsUpTo n s i → i + 1 < length s → edgeWithin n (edge (getD s i 0) (getD s (i + 1) 0)) ≡ false → every (edgeWithin n) (edgesIn s) ≡ false
+  pub ends-bad : {i : ℕ} → EndsUpTo n s i → i + 1 < length s → edgeWithin n (edge (getD s i 0) (getD s (i + 1) 0)) ≡ false → every (edgeWithin n)
+      (edgesIn s) ≡ false
   ends-bad {i} r h e = ends-split r h ∙ ap (λ (x : Bool). x && every (edgeWithin n) (edgesIn (drop (i + 2) s))) e
 
   pub ends-end : {i : ℕ} → EndsUpTo n s i → length s ≤ i + 1 → every (edgeWithin n) (edgesIn s) ≡ true
@@ -123,8 +125,10 @@ module _ {n : ℕ} {s : List ℕ} where
   ends-end {i} r h = r .rest ∙ ap (every (edgeWithin n)) (edges-last s i h)
 
   -- where all pass, so does the next
-  pub ends-known : {i : ℕ} → EndsUpTo n s i → i + 1 < length s → every (edgeWithin n) (edgesIn s) ≡ true → edgeWithin n (edge (getD s i 0) (getD s (i + 1) 0)) ≡ true
-  ends-known {i} r h e = both-left (edgeWithin n (edge (getD s i 0) (getD s (i + 1) 0))) (every (edgeWithin n) (edgesIn (drop (i + 2) s))) (sym (ends-split r h) ∙ e)
+  pub ends-known : {i : ℕ} → EndsUpTo n s i → i + 1 < length s → every (edgeWithin n) (edgesIn s) ≡ true → edgeWithin n
+      (edge (getD s i 0) (getD s (i + 1) 0)) ≡ true
+  ends-known {i} r h e = both-left (edgeWithin n (edge (getD s i 0) (getD s (i + 1) 0))) (every (edgeWithin n) (edgesIn (drop (i + 2) s)))
+      (sym (ends-split r h) ∙ e)
 
 module _ (n : ℕ) (s : List ℕ) where
   pub answer-odd : (length s % 2 ≡ 0 → ⊥) → asked (asks.Refused 5) ≡ answer (endChecks n s) []

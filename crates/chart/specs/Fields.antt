@@ -108,7 +108,8 @@ pub field-there : {s : List ℕ} {r : FieldFound} {tag size : ℕ} → r ≡ fie
 unfolding fieldFound fieldAnswer accept refuse
 field-there {s} {r} {tag} {size} told said = by-test (startsWithField s) refl (ap fieldFound (sym told) ∙ said)
   where
-    by-test : (b : Bool) → startsWithField s ≡ b → accept (tag ∷ size ∷ []) ≡ cond b (accept (getD s 0 0 ∷ bodyLength s ∷ [])) (refuse 0) → FieldThere s tag size
+    by-test : (b : Bool) → startsWithField s ≡ b → accept (tag ∷ size ∷ []) ≡ cond b (accept (getD s 0 0 ∷ bodyLength s ∷ [])) (refuse 0)
+        → FieldThere s tag size
     by-test true e a =
         let v : tag ∷ size ∷ [] ≡ getD s 0 0 ∷ bodyLength s ∷ [] = ap (λ (x : Answer). x .values) a in
         let z : size ≡ bodyLength s = cc in
@@ -191,7 +192,8 @@ field-at s at f rest h e = by-test (startsWithField (drop at s)) refl
         let size = bodyLength (drop at s) in
         let both : record { tag = getD (drop at s) 0 0; body = take size (drop (at + 3) s) } ∷ fieldsOf (drop (at + 3 + size) s) .fields ≡ f ∷ rest =
         sym (fields-at s at (getD (drop at s) 0 0) size t) ∙ e in
-        let body : f .body ≡ take size (drop (at + 3) s) = ap (λ (x : Field). x .body) (let y : f ≡ record { tag = getD (drop at s) 0 0; body = take size (drop (at + 3) s) } = cc in y) in
+        let body : f .body ≡ take size (drop (at + 3) s) = ap (λ (x : Field). x .body)
+        (let y : f ≡ record { tag = getD (drop at s) 0 0; body = take size (drop (at + 3) s) } = cc in y) in
         let fits : at + 3 + size ≤ length s = field-inside s h t in
         let long : length (f .body) ≡ size = ap length body ∙ length-take-le size (drop (at + 3) s) (omega (arith, length-drop (at + 3) s)) in
         record {
@@ -243,7 +245,8 @@ module _ (s : List ℕ) where
 
   number : (k : ℕ) → length (fieldsOf s .fields) ≡ k → (k ≡ 3 → ⊥) → bodiesFound (bodies.Refused 3) ≡ bodiesAnswer s
   unfolding rightTags tags-of
-  number k e d = wrong (same-length (tags-of (fieldsOf s .fields)) (0x44 ∷ 0x4C ∷ 0x52 ∷ []) (λ z. d (sym e ∙ sym (length-map (fieldsOf s .fields) (λ f. f .tag)) ∙ z)))
+  number k e d = wrong (same-length (tags-of (fieldsOf s .fields)) (0x44 ∷ 0x4C ∷ 0x52 ∷ [])
+      (λ z. d (sym e ∙ sym (length-map (fieldsOf s .fields) (λ f. f .tag)) ∙ z)))
 
   right : {a b c : ℕ} → rightTags (tags-of (fieldsOf s .fields)) ≡ true → a ≡ length (bodyOf s 0) → b ≡ length (bodyOf s 1) → c ≡ length (bodyOf s 2)
       → bodiesFound (bodies.Found a b c) ≡ bodiesAnswer s
@@ -251,7 +254,8 @@ module _ (s : List ℕ) where
   right e p q r = rw (e, p, q, r)
 
 -- the bodies of fields that are known
-body-of : (s : List ℕ) {fields : List Field} → fieldsOf s .fields ≡ fields → (i : ℕ) → bodyOf s i ≡ getD {A = Field} fields i (record { tag = 0; body = [] }) .body
+body-of : (s : List ℕ) {fields : List Field} → fieldsOf s .fields ≡ fields → (i : ℕ) → bodyOf s i ≡ getD {A = Field} fields i
+    (record { tag = 0; body = [] }) .body
 unfolding bodyOf
 body-of s e i = ap (λ (x : List Field). getD {A = Field} x i (record { tag = 0; body = [] }) .body) e
 

@@ -51,7 +51,8 @@ accepted s e = from (all-pass (numbered s) (sym (read-number s) ∙ e))
         record {
           few = leb-true (chartSize s) 64 (both-right (eqb (length (bodyOf s 0)) 1) (leb (chartSize s) 64) size);
           within = ends;
-          long = eqb-true (length (bodyOf s 2)) (chartSize s) (both-left (eqb (length (bodyOf s 2)) (chartSize s)) (eachOnce (chartSize s) (bodyOf s 2)) places);
+          long = eqb-true (length (bodyOf s 2)) (chartSize s)
+              (both-left (eqb (length (bodyOf s 2)) (chartSize s)) (eachOnce (chartSize s) (bodyOf s 2)) places);
           each = both-right (eqb (length (bodyOf s 2)) (chartSize s)) (eachOnce (chartSize s) (bodyOf s 2)) places;
         }
 

@@ -71,13 +71,15 @@ module _ {o places : List ℕ} where
       rw (add-one i)
       (record {
         inside = h;
-        copied = ap (λ (x : List ℕ). set x i (getD o i 0)) (r .copied) ∙ ext-getD 0 (set (padded (take i o)) i (getD o i 0)) (padded (take (suc i) o)) sizes entries;
+        copied = ap (λ (x : List ℕ). set x i (getD o i 0)) (r .copied) ∙ ext-getD 0 (set (padded (take i o)) i (getD o i 0))
+            (padded (take (suc i) o)) sizes entries;
       })
     where
       sizes : length (set (padded (take i o)) i (getD o i 0)) ≡ length (padded (take (suc i) o))
       sizes = length-set (padded (take i o)) i (getD o i 0) ∙ padded-length (take i o) ∙ sym (padded-length (take (suc i) o))
 
-      entries : (k : ℕ) → k < length (set (padded (take i o)) i (getD o i 0)) → getD (set (padded (take i o)) i (getD o i 0)) k 0 ≡ getD (padded (take (suc i) o)) k 0
+      entries : (k : ℕ) → k < length (set (padded (take i o)) i (getD o i 0)) → getD (set (padded (take i o)) i (getD o i 0)) k 0 ≡ getD
+          (padded (take (suc i) o)) k 0
       entries k l =
           let below : k < 64 = omega (arith, length-set (padded (take i o)) i (getD o i 0), padded-length (take i o)) in
           elim (order k i) [

@@ -23,7 +23,8 @@ use Rattle.model.specs.Crossings.{linked, crossings}
 use Rattle.model.specs.Layouts.{emptyLayout, vertexOrder, crossingsOf, eachOnce, valid}
 use Rattle.model.specs.Checks.{Check, refusal, byRefusal, checked}
 use Rattle.model.specs.Charts.{bodyOf, chartSize, chartEdges, chartOrder, edgesIn, edgeWithin, joins, chartChecks, chartLayout, readOf}
-use Rattle.model.specs.Charts.{Answer, accept, refuse, asked, bodiesFound, sizeFound, answer, divisionAnswer, bodiesAnswer, sizeChecks, sizeAnswer, endChecks, repeatChecks, placeChecks}
+use Rattle.model.specs.Charts.{Answer, accept, refuse, asked, bodiesFound, sizeFound, answer, divisionAnswer, bodiesAnswer, sizeChecks, sizeAnswer}
+use Rattle.model.specs.Charts.{endChecks, repeatChecks, placeChecks}
 use Rattle.laws.specs.Sums.Lists.{All, none, also}
 use Rattle.laws.specs.Orders.Permutations.{Permutation}
 use Rattle.laws.specs.Sums.Pairs.{Symmetric}

@@ -164,7 +164,8 @@ module _ (es : List Edge) (a b : ℕ) (first : a < 64) (second : b < 64) (differ
               | no q ↦
                   bits-kept withBit (adjacencyOf es) a b in-first in-second differ 1 set-changes u v (λ e f. p (e, f)) (λ e f. q (e, f))
                   ∙ adjacency-bit es u v hu hv
-                  ∙ sym (ap one (any-old (joins u v) es (edge a b) (joins-edge u v a b ∙ other-edge a b u v (λ z. p (sym (z .0), sym (z .1))) (λ z. q (sym (z .1), sym (z .0))))))
+                  ∙ sym (ap one (any-old (joins u v) es (edge a b)
+                  (joins-edge u v a b ∙ other-edge a b u v (λ z. p (sym (z .0), sym (z .1))) (λ z. q (sym (z .1), sym (z .0))))))
             ]
       ]
 

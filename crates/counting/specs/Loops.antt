@@ -32,7 +32,8 @@ module _ {n : ℕ} {order adj : List ℕ} {j : ℕ} where
         inside = h;
         mask = e;
         counted =
-            sym (sum-zero (suc j) (λ i. one (ltb j i) * countPair n order adj j i) (λ i l. rw (one-ge j i (omega arith)) (zero-mul (countPair n order adj j i))));
+            sym (sum-zero (suc j) (λ i. one (ltb j i) * countPair n order adj j i)
+            (λ i l. rw (one-ge j i (omega arith)) (zero-mul (countPair n order adj j i))));
         bounded = omega arith;
       })
 

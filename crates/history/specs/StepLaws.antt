@@ -15,7 +15,8 @@ use Rattle.model.specs.declared.Call.the-variants as call
 use Rattle.model.specs.Lists.{one, upto, All, none, also}
 use Rattle.model.specs.Layouts.{crossingsOf, valid}
 use Rattle.model.specs.Sifting.{sifted, siftOf, siftRound, roundOf, roundsUpTo, settleOf}
-use Rattle.model.specs.Histories.{Start, empty, read, Step, Sift, Round, Follow, ended, next, outcome, ofAdded, ofChanged, ofAppended, ofSifted, ofRounded, ofConverged, answerOf, accepted, roundsOfStep, siftsOfStep}
+use Rattle.model.specs.Histories.{Start, empty, read, Step, Sift, Round, Follow, ended, next, outcome, ofAdded, ofChanged, ofAppended, ofSifted, ofRounded}
+use Rattle.model.specs.Histories.{ofConverged, answerOf, accepted, roundsOfStep, siftsOfStep}
 use Rattle.model.specs.Histories.{butLast, sifting, siftCalled, roundsOfCall, siftsOfRound, roundsFrom, roundsDue, saysConverged, BestPlace}
 use Rattle.model.specs.Histories.{LocalMinimum}
 use Rattle.laws.specs.Sums.Indicators.{T-true}

@@ -167,7 +167,8 @@ pub moved-array : {l : Layout} {a b : ℕ} → Pair l a b → length (l .order) 
 unfolding vertexOrder
 moved-array {l} {a} {b} pair size {p} {q} {places} hp hq e =
     e
-    ∙ ap (λ (t : Bool). cond t (shifted (l .order) p q) (l .order)) (ap₂ _&&_ (lt-ltb p 64 (omega (arith, below-p, small))) (lt-ltb q 64 (omega (arith, below-q, small))))
+    ∙ ap (λ (t : Bool). cond t (shifted (l .order) p q) (l .order))
+    (ap₂ _&&_ (lt-ltb p 64 (omega (arith, below-p, small))) (lt-ltb q 64 (omega (arith, below-q, small))))
     ∙ ap₂ (shifted (l .order)) hp hq
     ∙ shifted-moved (l .n) (l .order) size small perm a b (pair .first) (pair .second) (pair .different)
   where

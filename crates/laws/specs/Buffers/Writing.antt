@@ -125,7 +125,8 @@ module _ {start : List ℕ} {base : ℕ} {s bytes : List ℕ} {at : ℕ} (w : Wr
   pub written-size : at ≤ length start → length bytes ≡ length start
   written-size h = ap length (w .held) ∙ written-length start base s (omega (arith, w .place))
 
-  pub written-step : (t : List ℕ) {next : List ℕ} {to : ℕ} → at ≤ length start → next ≡ written bytes at t → to ≡ at + length t → Written start base (s ++ t) next to
+  pub written-step : (t : List ℕ) {next : List ℕ} {to : ℕ} → at ≤ length start → next ≡ written bytes at t → to ≡ at + length t → Written start base
+      (s ++ t) next to
   written-step t {next} {to} h e p =
       record {
         held = e ∙ ap₂ (λ (x : List ℕ) (k : ℕ). written x k t) (w .held) (w .place) ∙ written-more start base s t (omega (arith, w .place));

@@ -39,19 +39,145 @@ module _ (p q r s : ℕ) (pq : p < q) (rs : r < s) where
         | same e ↦ simp (eq-eqb p r e, le-ltb p r (omega arith), le-ltb r p (omega arith)) (omega arith)
         | less a ↦
             elim (order r q) [
-              | same e ↦ simp (ne-eqb p r (λ d. omega arith), ne-eqb p s (λ d. omega arith), eq-eqb q r (omega arith), lt-ltb p r (omega arith), le-ltb r q (omega arith), lt-ltb q s (omega arith), le-ltb r p (omega arith), lt-ltb p s (omega arith), le-ltb s q (omega arith)) (omega arith)
-              | more b ↦ simp (ne-eqb p r (λ d. omega arith), ne-eqb p s (λ d. omega arith), ne-eqb q r (λ d. omega arith), ne-eqb q s (λ d. omega arith), lt-ltb p r (omega arith), le-ltb r q (omega arith), lt-ltb q s (omega arith), le-ltb r p (omega arith), lt-ltb p s (omega arith), le-ltb s q (omega arith)) (omega arith)
+              | same e ↦ simp (
+                ne-eqb p r (λ d. omega arith),
+                ne-eqb p s (λ d. omega arith),
+                eq-eqb q r (omega arith),
+                lt-ltb p r
+                    (omega arith),
+                le-ltb r q (omega arith),
+                lt-ltb q s (omega arith),
+                le-ltb r p (omega arith),
+                lt-ltb p s (omega arith),
+                le-ltb s q
+                    (omega arith),
+              ) (omega arith)
+              | more b ↦ simp (
+                ne-eqb p r (λ d. omega arith),
+                ne-eqb p s (λ d. omega arith),
+                ne-eqb q r (λ d. omega arith),
+                ne-eqb q s
+                    (λ d. omega arith),
+                lt-ltb p r (omega arith),
+                le-ltb r q (omega arith),
+                lt-ltb q s (omega arith),
+                le-ltb r p
+                    (omega arith),
+                lt-ltb p s (omega arith),
+                le-ltb s q (omega arith),
+              ) (omega arith)
               | less b ↦
-                  elim (order q s)
-                  [ same e ↦ simp (ne-eqb p r (λ d. omega arith), ne-eqb p s (λ d. omega arith), ne-eqb q r (λ d. omega arith), eq-eqb q s (omega arith), lt-ltb p r (omega arith), lt-ltb r q (omega arith), le-ltb q s (omega arith), le-ltb r p (omega arith), lt-ltb p s (omega arith), le-ltb s q (omega arith)) (omega arith) | less c ↦ simp (ne-eqb p r (λ d. omega arith), ne-eqb p s (λ d. omega arith), ne-eqb q r (λ d. omega arith), ne-eqb q s (λ d. omega arith), lt-ltb p r (omega arith), lt-ltb r q (omega arith), lt-ltb q s (omega arith), le-ltb r p (omega arith), lt-ltb p s (omega arith), le-ltb s q (omega arith)) (omega arith) | more c ↦ simp (ne-eqb p r (λ d. omega arith), ne-eqb p s (λ d. omega arith), ne-eqb q r (λ d. omega arith), ne-eqb q s (λ d. omega arith), lt-ltb p r (omega arith), lt-ltb r q (omega arith), le-ltb q s (omega arith), le-ltb r p (omega arith), lt-ltb p s (omega arith), lt-ltb s q (omega arith)) (omega arith) ]
+                  elim (order q s) [
+                    | same e ↦ simp (
+                      ne-eqb p r (λ d. omega arith),
+                      ne-eqb p s (λ d. omega arith),
+                      ne-eqb q r (λ d. omega arith),
+                      eq-eqb q s
+                          (omega arith),
+                      lt-ltb p r (omega arith),
+                      lt-ltb r q (omega arith),
+                      le-ltb q s (omega arith),
+                      le-ltb r p
+                          (omega arith),
+                      lt-ltb p s (omega arith),
+                      le-ltb s q (omega arith),
+                    ) (omega arith)
+                    | less c ↦ simp (
+                      ne-eqb p r (λ d. omega arith),
+                      ne-eqb p s (λ d. omega arith),
+                      ne-eqb q r (λ d. omega arith),
+                      ne-eqb q s
+                          (λ d. omega arith),
+                      lt-ltb p r (omega arith),
+                      lt-ltb r q (omega arith),
+                      lt-ltb q s (omega arith),
+                      le-ltb r p (omega arith),
+                      lt-ltb p s (omega arith),
+                      le-ltb s q (omega arith),
+                    ) (omega arith)
+                    | more c ↦ simp (
+                      ne-eqb p r (λ d. omega arith),
+                      ne-eqb p s (λ d. omega arith),
+                      ne-eqb q r (λ d. omega arith),
+                      ne-eqb q s (λ d. omega arith),
+                      lt-ltb p r (omega arith),
+                      lt-ltb r q (omega arith),
+                      le-ltb q s (omega arith),
+                      le-ltb r p (omega arith),
+                      lt-ltb p s (omega arith),
+                      lt-ltb s q (omega arith),
+                    ) (omega arith)
+                  ]
             ]
         | more a ↦
             elim (order p s) [
-              | same e ↦ simp (ne-eqb p r (λ d. omega arith), eq-eqb p s (omega arith), le-ltb p r (omega arith), lt-ltb r q (omega arith), le-ltb q s (omega arith), lt-ltb r p (omega arith), le-ltb p s (omega arith), lt-ltb s q (omega arith)) (omega arith)
-              | more b ↦ simp (ne-eqb p r (λ d. omega arith), ne-eqb p s (λ d. omega arith), ne-eqb q r (λ d. omega arith), ne-eqb q s (λ d. omega arith), le-ltb p r (omega arith), lt-ltb r q (omega arith), le-ltb q s (omega arith), lt-ltb r p (omega arith), le-ltb p s (omega arith), lt-ltb s q (omega arith)) (omega arith)
+              | same e ↦ simp (
+                ne-eqb p r (λ d. omega arith),
+                eq-eqb p s (omega arith),
+                le-ltb p r (omega arith),
+                lt-ltb r q
+                    (omega arith),
+                le-ltb q s (omega arith),
+                lt-ltb r p (omega arith),
+                le-ltb p s (omega arith),
+                lt-ltb s q (omega arith),
+              ) (omega arith)
+              | more b ↦ simp (
+                ne-eqb p r (λ d. omega arith),
+                ne-eqb p s (λ d. omega arith),
+                ne-eqb q r (λ d. omega arith),
+                ne-eqb q s
+                    (λ d. omega arith),
+                le-ltb p r (omega arith),
+                lt-ltb r q (omega arith),
+                le-ltb q s (omega arith),
+                lt-ltb r p
+                    (omega arith),
+                le-ltb p s (omega arith),
+                lt-ltb s q (omega arith),
+              ) (omega arith)
               | less b ↦
-                  elim (order q s)
-                  [ same e ↦ simp (ne-eqb p r (λ d. omega arith), ne-eqb p s (λ d. omega arith), ne-eqb q r (λ d. omega arith), eq-eqb q s (omega arith), le-ltb p r (omega arith), lt-ltb r q (omega arith), le-ltb q s (omega arith), lt-ltb r p (omega arith), lt-ltb p s (omega arith), le-ltb s q (omega arith)) (omega arith) | less c ↦ simp (ne-eqb p r (λ d. omega arith), ne-eqb p s (λ d. omega arith), ne-eqb q r (λ d. omega arith), ne-eqb q s (λ d. omega arith), le-ltb p r (omega arith), lt-ltb r q (omega arith), lt-ltb q s (omega arith), lt-ltb r p (omega arith), lt-ltb p s (omega arith), le-ltb s q (omega arith)) (omega arith) | more c ↦ simp (ne-eqb p r (λ d. omega arith), ne-eqb p s (λ d. omega arith), ne-eqb q r (λ d. omega arith), ne-eqb q s (λ d. omega arith), le-ltb p r (omega arith), lt-ltb r q (omega arith), le-ltb q s (omega arith), lt-ltb r p (omega arith), lt-ltb p s (omega arith), lt-ltb s q (omega arith)) (omega arith) ]
+                  elim (order q s) [
+                    | same e ↦ simp (
+                      ne-eqb p r (λ d. omega arith),
+                      ne-eqb p s (λ d. omega arith),
+                      ne-eqb q r (λ d. omega arith),
+                      eq-eqb q s
+                          (omega arith),
+                      le-ltb p r (omega arith),
+                      lt-ltb r q (omega arith),
+                      le-ltb q s (omega arith),
+                      lt-ltb r p
+                          (omega arith),
+                      lt-ltb p s (omega arith),
+                      le-ltb s q (omega arith),
+                    ) (omega arith)
+                    | less c ↦ simp (
+                      ne-eqb p r (λ d. omega arith),
+                      ne-eqb p s (λ d. omega arith),
+                      ne-eqb q r (λ d. omega arith),
+                      ne-eqb q s
+                          (λ d. omega arith),
+                      le-ltb p r (omega arith),
+                      lt-ltb r q (omega arith),
+                      lt-ltb q s (omega arith),
+                      lt-ltb r p (omega arith),
+                      lt-ltb p s (omega arith),
+                      le-ltb s q (omega arith),
+                    ) (omega arith)
+                    | more c ↦ simp (
+                      ne-eqb p r (λ d. omega arith),
+                      ne-eqb p s (λ d. omega arith),
+                      ne-eqb q r (λ d. omega arith),
+                      ne-eqb q s (λ d. omega arith),
+                      le-ltb p r (omega arith),
+                      lt-ltb r q (omega arith),
+                      le-ltb q s (omega arith),
+                      lt-ltb r p (omega arith),
+                      lt-ltb p s (omega arith),
+                      lt-ltb s q (omega arith),
+                    ) (omega arith)
+                  ]
             ]
       ])
 

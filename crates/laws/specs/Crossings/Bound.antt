@@ -30,7 +30,8 @@ pairSum-mono n m F G nm h =
     le-trans
     (sum-mono n (λ i. sum n (λ j. one (ltb i j) * F i j)) (λ i. sum m (λ j. one (ltb i j) * G i j))
     (λ i a.
-    le-trans (sum-mono n (λ j. one (ltb i j) * F i j) (λ j. one (ltb i j) * G i j) (λ j b. guarded i j (F i j) (G i j) (λ l. h i j l b))) (sum-more n m (λ j. one (ltb i j) * G i j) nm)))
+    le-trans (sum-mono n (λ j. one (ltb i j) * F i j) (λ j. one (ltb i j) * G i j) (λ j b. guarded i j (F i j) (G i j) (λ l. h i j l b)))
+    (sum-more n m (λ j. one (ltb i j) * G i j) nm)))
     (sum-more n m (λ i. sum m (λ j. one (ltb i j) * G i j)) nm)
 
 -- places i < j < k < l below n, counted

@@ -90,7 +90,8 @@ module _ {n : ℕ} {o : List ℕ} (perm : Permutation n o) where
   unfolding crossings crossedTwice
   crossings-twice adj =
       sumPairs-twice X (all-edges n adj)
-      (λ e f p q. crosses-places e f p q ∙ cross-exchange (place o (e .low)) (place o (e .high)) (place o (f .low)) (place o (f .high)) ∙ sym (crosses-places f e q p))
+      (λ e f p q. crosses-places e f p q ∙ cross-exchange (place o (e .low)) (place o (e .high)) (place o (f .low)) (place o (f .high)) ∙ sym
+      (crosses-places f e q p))
       (λ e p. crosses-places e e p p ∙ cross-self (place o (e .low)) (place o (e .high)))
       ∙ sumOver-edges n adj (λ e. sumOver (X e) (edges n adj))
       ∙ pairSum-ext n (λ a b. weight adj a b * sumOver (X (edge a b)) (edges n adj)) (λ a b. pairSum n (term a b)) inner

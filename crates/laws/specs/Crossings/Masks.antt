@@ -62,7 +62,8 @@ pub sum-occurrences : (n : ℕ) (f : ℕ → ℕ) {xs : List ℕ} → All (λ x.
 unfolding occurrences sumOver
 sum-occurrences n f none = sum-zero n (λ v. f v * 0) (λ v l. omega arith)
 sum-occurrences n f (also {x} {xs} p ps) =
-    sum-ext n (λ v. f v * (one (eqb v x) + occurrences v xs)) (λ v. f v * one (eqb v x) + f v * occurrences v xs) (λ v l. mul-add (f v) (one (eqb v x)) (occurrences v xs))
+    sum-ext n (λ v. f v * (one (eqb v x) + occurrences v xs)) (λ v. f v * one (eqb v x) + f v * occurrences v xs)
+    (λ v l. mul-add (f v) (one (eqb v x)) (occurrences v xs))
     ∙ sum-add n (λ v. f v * one (eqb v x)) (λ v. f v * occurrences v xs)
     ∙ ap₂ (λ (a b : ℕ). a + b) (sum-at-right n x f p) (sum-occurrences n f ps)
 

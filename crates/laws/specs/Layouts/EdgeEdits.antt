@@ -91,8 +91,10 @@ module _ (f : ℕ → ℕ → ℕ) (adj : List ℕ) (a b : ℕ) (first : a < len
     pub still-symmetric : (n : ℕ) → Symmetric n (weight adj) → Symmetric n (weight (atBothEnds f adj a b))
     still-symmetric n s =
         record {
-          swap = λ u v i j. rw (weight-bit (atBothEnds f adj a b) u v, weight-bit (atBothEnds f adj a b) v u) (swapped u v (sym (weight-bit adj u v) ∙ s .swap u v i j ∙ weight-bit adj v u));
-          diagonal = λ v i. weight-bit (atBothEnds f adj a b) v v ∙ bits-kept v v (λ e d. different (sym e ∙ d)) (λ e d. different (sym d ∙ e)) ∙ sym (weight-bit adj v v) ∙ s .diagonal v i;
+          swap = λ u v i j. rw (weight-bit (atBothEnds f adj a b) u v, weight-bit (atBothEnds f adj a b) v u)
+              (swapped u v (sym (weight-bit adj u v) ∙ s .swap u v i j ∙ weight-bit adj v u));
+          diagonal = λ v i. weight-bit (atBothEnds f adj a b) v v ∙ bits-kept v v (λ e d. different (sym e ∙ d)) (λ e d. different (sym d ∙ e)) ∙ sym
+              (weight-bit adj v v) ∙ s .diagonal v i;
         }
       where
         swapped : (u v : ℕ) → bit (getD adj u 0) v ≡ bit (getD adj v 0) u

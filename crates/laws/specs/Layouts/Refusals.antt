@@ -127,7 +127,8 @@ pub record Pair (l : Layout) (a b : ℕ) : Type 0 where
 codes-positive : (l : Layout) (a b : ℕ) → Numbered (moveChecks l a b)
 unfolding moveChecks isValid isVertex differ
 codes-positive l a b =
-    also {x = isValid l} (omega arith) (also {x = isVertex l a} (omega arith) (also {x = isVertex l b} (omega arith) (also {x = differ a b} (omega arith) none)))
+    also {x = isValid l} (omega arith) (also {x = isVertex l a} (omega arith)
+    (also {x = isVertex l b} (omega arith) (also {x = differ a b} (omega arith) none)))
 
 pub pair-passed : (l : Layout) (a b : ℕ) → refusal (moveChecks l a b) ≡ 0 → Pair l a b
 unfolding moveChecks isVertex differ

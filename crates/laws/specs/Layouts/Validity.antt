@@ -140,7 +140,8 @@ sound l t =
       places = zero-from-at (l .n) (l .order) (search (and-left, and-right) depth 7);
       symmetry =
           symmetric-weight (l .n) (l .adjacency) (search (and-left, and-right) depth 7) (search (and-left, and-right) depth 7);
-      bits = λ v b. ltb→lt (getD (l .adjacency) v 0) (2 ^ l .n) (every-upto (λ v. ltb (getD (l .adjacency) v 0) (2 ^ l .n)) capacity (search (and-left, and-right) depth 7) v b);
+      bits = λ v b. ltb→lt (getD (l .adjacency) v 0) (2 ^ l .n)
+          (every-upto (λ v. ltb (getD (l .adjacency) v 0) (2 ^ l .n)) capacity (search (and-left, and-right) depth 7) v b);
       unused = zero-from-at (l .n) (l .adjacency) (search (and-left, and-right) depth 7);
     }
 

@@ -104,7 +104,8 @@ member-occurs v (x ∷ xs) = by-test (eqb v x) (member-occurs v xs)
 pub sum-hits : (n k : ℕ) → sum n (λ v. one (eqb v k)) ≡ one (ltb k n)
 sum-hits n k =
     elim (order k n) [
-      | less l ↦ sum-ext n (λ v. one (eqb v k)) (λ v. one (eqb k v) * 1) (λ v b. one-sym v k ∙ sym (mul-one (one (eqb k v)))) ∙ sum-at n k (λ v. 1) l ∙ sym (one-lt k n l)
+      | less l ↦ sum-ext n (λ v. one (eqb v k)) (λ v. one (eqb k v) * 1) (λ v b. one-sym v k ∙ sym (mul-one (one (eqb k v)))) ∙ sum-at n k (λ v. 1) l
+          ∙ sym (one-lt k n l)
       | same e ↦ none-hit (omega arith)
       | more l ↦ none-hit (omega arith)
     ]
@@ -136,7 +137,12 @@ module _ {n : ℕ} {o : List ℕ} (perm : Permutation n o) where
           ∙ sum-const n 1 ∙ mul-one n
 
       below : one (ltb (at o i) n) ≡ 1 → at o i < n
-      below e = elim (order (at o i) n) [ less l ↦ l | same k ↦ absurd (omega (arith, one-ge (at o i) n (omega arith))) | more k ↦ absurd (omega (arith, one-ge (at o i) n (omega arith))) ]
+      below e = elim (order (at o i) n) [
+        | less l ↦ l
+        | same k ↦ absurd (omega (arith, one-ge (at o i) n (omega arith)))
+        | more k ↦ absurd
+            (omega (arith, one-ge (at o i) n (omega arith)))
+      ]
 
   -- place and vertex are inverse
   pub place-of-at : (i : ℕ) → i < n → place o (at o i) ≡ i
