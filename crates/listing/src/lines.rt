@@ -5,10 +5,10 @@ ghost use Prim.Native.Nat.{_+_, _≤_};
 ghost use lib.ListN.{length};
 ghost use Rattle.model.specs.Listing.{text, line, spaced};
 ghost use Rattle.laws.specs.Buffers.Writing.{Written};
-use text::put_byte;
-use text::put_bytes;
-use text::put_line;
-use text::put_text;
+use crate::numbers::put_bytes;
+use crate::numbers::put_line;
+use crate::writing::put_byte;
+use crate::writing::put_text;
 
 // The numbers of a listing, one to a line.
 pub struct Numbers {

@@ -1,14 +1,14 @@
 // The answer line: a name and a refusal number, the call's own answers, and the layout that then
 // stands.
 ghost use mathlib.Core.Path.{_≡_};
-ghost use Prim.Native.Nat.{_+_, _≤_, _<_};
+ghost use Prim.Native.Nat.{_+_, _*_, _≤_, _<_};
 ghost use lib.ListN.{length};
+use crate::text::put;
+use crate::text::put_byte;
+use crate::text::put_bytes;
+use crate::text::put_number;
+use crate::text::put_text;
 use model::Layout;
-use text::put_byte;
-use text::put_bytes;
-use text::put_number;
-use text::put_small;
-use text::put_text;
 
 // What a record did: the layout that now stands, how many bytes of the line are written, and whether
 // the list ends here.
@@ -35,7 +35,7 @@ pub(crate) fn put_head(line: &mut [u8], name: &[u8], refusal: u8) -> usize
     ensures { λ r. ⌜ r ≤ 10 ⌝ }
 {
     let at = put_text(line, 0, name);
-    put_small(line, at, refusal)
+    put_byte(line, at, refusal)
 }
 
 // The line's second half, from place at on: the layout that now stands, and the words that differ
@@ -48,7 +48,7 @@ pub(crate) fn told(line: &mut [u8], at: usize, before: Layout, after: Layout) ->
     let old_words = before.adjacency;
     let words = after.adjacency;
     let words_end = put_words(line, fields_end, &old_words, &words);
-    let end = put_byte(line, words_end, b'\n');
+    let end = put(line, words_end, b'\n');
     Played {
         layout: after,
         written: end,
@@ -103,6 +103,6 @@ fn put_changed(line: &mut [u8], at: usize, v: usize, before: u64, after: u64) ->
     if before == after {
         return at;
     }
-    let end = put_small(line, at, v as u8);
+    let end = put_byte(line, at, v as u8);
     put_number(line, end, after)
 }

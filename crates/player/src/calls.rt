@@ -1,16 +1,16 @@
 // The calls that change a layout, each through history::step: what is compared is what the theorem
 // over lists of calls speaks of.
-ghost use Prim.Native.Nat.{_≤_};
+ghost use Prim.Native.Nat.{_+_, _≤_};
 ghost use mathlib.Core.Path.{_≡_};
 ghost use lib.ListN.{length};
 use crate::answer::Played;
 use crate::answer::put_head;
 use crate::answer::told;
+use crate::text::put_number;
+use crate::text::put_text;
 use model::Call;
 use model::Layout;
 use model::Outcome;
-use text::put_number;
-use text::put_text;
 
 // Makes the call and writes its line.
 pub(crate) fn play_call(l: Layout, c: Call, line: &mut [u8]) -> Played

@@ -10,9 +10,9 @@ use crate::fields;
 use crate::reads;
 use crate::record::number;
 use crate::starts;
+use crate::text::put_text;
 use model::Decoded;
 use model::Layout;
-use text::put_text;
 
 // Plays a record that starts from no chart, and ends the list at one that is cut short.
 pub fn play(l: Layout, record: &[u8], line: &mut [u8; 4096]) -> Played

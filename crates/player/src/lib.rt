@@ -10,6 +10,7 @@ mod fields;
 mod reads;
 mod record;
 mod starts;
+mod text;
 
 pub use answer::Played;
 pub use dispatch::play;

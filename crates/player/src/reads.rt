@@ -5,12 +5,12 @@ ghost use lib.ListN.{length};
 use crate::answer::Played;
 use crate::answer::put_head;
 use crate::answer::told;
+use crate::text::put_bytes;
+use crate::text::put_number;
+use crate::text::put_text;
 use model::Edge;
 use model::FirstCrossing;
 use model::Layout;
-use text::put_bytes;
-use text::put_number;
-use text::put_text;
 
 pub(crate) fn count(l: Layout, line: &mut [u8]) -> Played
     requires { ⌜ length (now line) ≡ 4096 ⌝ }

@@ -2,7 +2,7 @@ use borrow.Author.Needs.{needs}
 use native.Mathlib.Omega.{arith}
 use Rattle.model.specs.Lists.{upto}
 use Rattle.model.specs.Listing.{text, line}
-use Rattle.text.specs.Parts.{behind}
+use Rattle.listing.specs.Parts.{behind}
 use Rattle.listing.proofs.lines.put_numbers.Statement.{statement}
 use Rattle.listing.proofs.lines.put_numbers.Tie as tie
 

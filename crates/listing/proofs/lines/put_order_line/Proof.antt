@@ -3,7 +3,7 @@ use native.Mathlib.Omega.{arith}
 use Rattle.model.specs.Lists.{upto}
 use Rattle.model.specs.Listing.{text, line}
 use Rattle.laws.specs.Buffers.Writing.{written-size}
-use Rattle.text.specs.Parts.{behind}
+use Rattle.listing.specs.Parts.{behind}
 use Rattle.listing.proofs.lines.put_order_line.Statement.{statement}
 use Rattle.listing.proofs.lines.put_order_line.Tie as tie
 

@@ -5,7 +5,7 @@ use mathlib.Core.Path.{_≡_, sym}
 use lib.ListN.{length}
 use lib.Seq.{length-take-le}
 use Rattle.laws.specs.Layouts.Validity.{sound}
-use Rattle.text.specs.Parts.{behind}
+use Rattle.listing.specs.Parts.{behind}
 use Rattle.listing.specs.Text.{edges-halved, listing-written}
 use Rattle.listing.proofs.listings.list_layout.Statement.{statement}
 use Rattle.listing.proofs.listings.list_layout.Tie as tie

@@ -1,14 +1,9 @@
 use borrow.Author.Needs.{needs}
 use native.Mathlib.Omega.{arith}
-use mathlib.Core.Path.{_≡_, sym}
-use lib.ListN.{length, take}
+use mathlib.Core.Path.{sym}
 use lib.Seq.{length-take-le}
 use Rattle.player.proofs.reads.order.Statement.{statement}
 use Rattle.player.proofs.reads.order.Tie as tie
-
--- so many bytes of the buffer are lent
-lent : (c : tie.After-at-most-255) → length (take (c .at-most-255 .result) (c .before .filled .result)) ≡ c .at-most-255 .result
-lent c = length-take-le _ _ (omega arith)
 
 cast-filled : tie.Need-cast-filled
 cast-filled c = search needs
@@ -23,10 +18,10 @@ array-borrow-prefix-buffer : tie.Need-array-borrow-prefix-buffer
 array-borrow-prefix-buffer c = search needs
 
 slice-aggregate-order-into : tie.Need-slice-aggregate-order-into
-slice-aggregate-order-into c = sym (lent (c .before .before))
+slice-aggregate-order-into c = sym (length-take-le (c .before .before .at-most-255 .result) (c .before .before .before .filled .result) (omega arith))
 
 order-into-requires : tie.Need-order-into-requires
-order-into-requires c κs = omega (arith, lent (c .before .before))
+order-into-requires c κs = omega (arith, length-take-le (c .before .before .at-most-255 .result) (c .before .before .before .filled .result) (omega arith))
 
 same-length : tie.Need-same-length
 same-length c = search needs

@@ -3,9 +3,9 @@ use native.Mathlib.Omega.{arith}
 use mathlib.Core.Path.{_≡_, _∙_}
 use lib.ListN.{take}
 use Rattle.model.specs.Listing.{decimal}
-use Rattle.text.specs.Decimals.{digits-decimal}
-use Rattle.text.proofs.numbers.put_decimal.Statement.{statement}
-use Rattle.text.proofs.numbers.put_decimal.Tie as tie
+use Rattle.listing.specs.Decimals.{digits-decimal}
+use Rattle.listing.proofs.numbers.put_decimal.Statement.{statement}
+use Rattle.listing.proofs.numbers.put_decimal.Tie as tie
 
 -- the digits made
 made : (c : tie.After-decimal) → take (c .decimal .result) (c .decimal .last .1 .0) ≡ decimal (c .before .before .before .args .x)

@@ -7,7 +7,7 @@ ghost use Rattle.laws.specs.Buffers.Writing.{Written};
 use crate::writing::put_byte;
 use crate::writing::put_text;
 
-pub fn put_decimal(out: &mut [u8], at: usize, x: u64) -> usize
+pub(crate) fn put_decimal(out: &mut [u8], at: usize, x: u64) -> usize
     requires { ⌜ at + length (decimal x) ≤ length (now out) ⌝ }
     ensures { λ r. ⌜ Written (now (out .entry)) at (decimal x) (now (out .exit)) r ⌝ }
 {
@@ -17,7 +17,7 @@ pub fn put_decimal(out: &mut [u8], at: usize, x: u64) -> usize
 }
 
 // A number behind a space.
-pub fn put_spaced(out: &mut [u8], at: usize, x: u64) -> usize
+pub(crate) fn put_spaced(out: &mut [u8], at: usize, x: u64) -> usize
     requires { ⌜ at + length (spaced x) ≤ length (now out) ⌝ }
     ensures { λ r. ⌜ Written (now (out .entry)) at (spaced x) (now (out .exit)) r ⌝ }
 {
@@ -26,7 +26,7 @@ pub fn put_spaced(out: &mut [u8], at: usize, x: u64) -> usize
 }
 
 // The same, where there is room for any number.
-pub fn put_number(out: &mut [u8], at: usize, x: u64) -> usize
+pub(crate) fn put_number(out: &mut [u8], at: usize, x: u64) -> usize
     requires { ⌜ at + 21 ≤ length (now out) ⌝ }
     ensures { λ r. ⌜ Written (now (out .entry)) at (spaced x) (now (out .exit)) r × (r ≤ at + 21) ⌝ }
 {
@@ -34,7 +34,7 @@ pub fn put_number(out: &mut [u8], at: usize, x: u64) -> usize
 }
 
 // The same, where there is room for a number below 256.
-pub fn put_small(out: &mut [u8], at: usize, x: u8) -> usize
+pub(crate) fn put_small(out: &mut [u8], at: usize, x: u8) -> usize
     requires { ⌜ at + 4 ≤ length (now out) ⌝ }
     ensures { λ r. ⌜ Written (now (out .entry)) at (spaced x) (now (out .exit)) r × (r ≤ at + 4) ⌝ }
 {
@@ -42,7 +42,7 @@ pub fn put_small(out: &mut [u8], at: usize, x: u8) -> usize
 }
 
 // Each byte as a number behind a space.
-pub fn put_bytes(out: &mut [u8], at: usize, bytes: &[u8]) -> usize
+pub(crate) fn put_bytes(out: &mut [u8], at: usize, bytes: &[u8]) -> usize
     requires { ⌜ at + 4 * length (now bytes) ≤ length (now out) ⌝ }
     ensures { λ r. ⌜ Written (now (out .entry)) at (flatMap spaced (now (bytes .entry))) (now (out .exit)) r × (r ≤ at + 4 * length (now (bytes .entry))) ⌝ }
 {
@@ -56,7 +56,7 @@ pub fn put_bytes(out: &mut [u8], at: usize, bytes: &[u8]) -> usize
 }
 
 // A line with a name and a number.
-pub fn put_line(out: &mut [u8], at: usize, name: &[u8], x: u32) -> usize
+pub(crate) fn put_line(out: &mut [u8], at: usize, name: &[u8], x: u32) -> usize
     requires { ⌜ at + length (now name) + 22 ≤ length (now out) ⌝ }
     ensures { λ r. ⌜ Written (now (out .entry)) at (now (name .entry) ++ spaced x ++ text "\n") (now (out .exit)) r × (r ≤ at + length (now (name .entry)) + 22) ⌝ }
 {

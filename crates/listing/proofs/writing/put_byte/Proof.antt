@@ -1,8 +1,8 @@
 use borrow.Author.Needs.{needs}
 use mathlib.Core.Path.{refl}
 use Rattle.laws.specs.Buffers.Writing.{written-byte}
-use Rattle.text.proofs.writing.put_byte.Statement.{statement}
-use Rattle.text.proofs.writing.put_byte.Tie as tie
+use Rattle.listing.proofs.writing.put_byte.Statement.{statement}
+use Rattle.listing.proofs.writing.put_byte.Tie as tie
 
 slice-write-out : tie.Need-slice-write-out
 slice-write-out c = search needs

@@ -2,9 +2,9 @@ use borrow.Author.Needs.{needs}
 use native.Mathlib.Nat.{lt-trans}
 use native.Mathlib.Omega.{arith}
 use lib.Dec.{lit<}
-use Rattle.text.specs.Decimals.{spaced-length}
-use Rattle.text.proofs.numbers.put_small.Statement.{statement}
-use Rattle.text.proofs.numbers.put_small.Tie as tie
+use Rattle.listing.specs.Decimals.{spaced-length}
+use Rattle.listing.proofs.numbers.put_small.Statement.{statement}
+use Rattle.listing.proofs.numbers.put_small.Tie as tie
 
 -- at most 3 digits
 put-spaced-requires : tie.Need-put-spaced-requires

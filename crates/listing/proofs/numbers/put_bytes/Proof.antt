@@ -5,9 +5,9 @@ use lib.ListN.{length, take}
 use lib.Seq.{take-all}
 use Rattle.model.specs.Listing.{spaced}
 use Rattle.laws.specs.Buffers.Writing.{Written, written-none, written-size, flatMap-next}
-use Rattle.text.specs.Parts.{behind}
-use Rattle.text.proofs.numbers.put_bytes.Statement.{statement}
-use Rattle.text.proofs.numbers.put_bytes.Tie as tie
+use Rattle.listing.specs.Parts.{behind}
+use Rattle.listing.proofs.numbers.put_bytes.Statement.{statement}
+use Rattle.listing.proofs.numbers.put_bytes.Tie as tie
 
 abbrev Inv-loop : tie.InvT-loop
 Inv-loop out₀ at bytes to₀ i₀ out to i = (i ≤ length bytes) × (to ≤ at + 4 * i) × Written out₀ at (flatMap spaced (take i bytes)) out to

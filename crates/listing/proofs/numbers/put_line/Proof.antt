@@ -2,9 +2,9 @@ use borrow.Author.Needs.{needs}
 use native.Mathlib.Omega.{arith}
 use Rattle.model.specs.Lists.{upto}
 use Rattle.model.specs.Listing.{text}
-use Rattle.text.specs.Parts.{behind}
-use Rattle.text.proofs.numbers.put_line.Statement.{statement}
-use Rattle.text.proofs.numbers.put_line.Tie as tie
+use Rattle.listing.specs.Parts.{behind}
+use Rattle.listing.proofs.numbers.put_line.Statement.{statement}
+use Rattle.listing.proofs.numbers.put_line.Tie as tie
 
 put-text-requires : tie.Need-put-text-requires
 put-text-requires c κs = search needs

@@ -2,9 +2,9 @@ use borrow.Author.Needs.{needs}
 use native.Mathlib.Omega.{arith}
 use Rattle.model.specs.Lists.{upto}
 use Rattle.model.specs.Listing.{text, spaced}
-use Rattle.text.specs.Parts.{behind}
-use Rattle.text.proofs.numbers.put_spaced.Statement.{statement}
-use Rattle.text.proofs.numbers.put_spaced.Tie as tie
+use Rattle.listing.specs.Parts.{behind}
+use Rattle.listing.proofs.numbers.put_spaced.Statement.{statement}
+use Rattle.listing.proofs.numbers.put_spaced.Tie as tie
 
 put-byte-requires : tie.Need-put-byte-requires
 unfolding spaced text upto
