@@ -39,7 +39,9 @@ same-length c = search needs
 
 returns : tie.Need-returns
 returns c =
-    let few = at-most-20 _ _ (c .before .before .before .before .before .before .before .before .before .before .before .before .fits .number .fits) (c .before .before .before .before .before .decimal .ensures .1 .0 .2) in
+    let digits = c .before .before .before .before .before in
+    let start = digits .before .before .before .before .before .before .before in
+    let few = at-most-20 _ _ (start .fits .number .fits) (digits .decimal .ensures .1 .0 .2) in
     omega arith
 
 pub put-number-spec : {M : Type 1} → statement M
