@@ -3,6 +3,7 @@
 // A circular layout (document 01: a ring). Vertices (devices) are 0 to n - 1. The first n places
 // of order hold them clockwise. Bit i of adjacency[v] (the neighbour word of v) is set exactly
 // when v and i are joined by an edge (a link). count is the carried count.
+#[repr(C)]
 pub struct Layout {
     pub n: usize,
     pub order: [u8; 64],
@@ -11,6 +12,7 @@ pub struct Layout {
 }
 
 // An edge (a link), the lower end first.
+#[repr(C)]
 pub struct Edge {
     pub low: usize,
     pub high: usize,
@@ -66,6 +68,7 @@ pub struct Converged {
 }
 
 // The carried count.
+#[repr(C)]
 pub struct Counted {
     pub refusal: u8,
     pub count: u32,
@@ -147,8 +150,53 @@ pub enum Origin {
 }
 
 // A list of calls played: the refusal code, the layout at the end, and how many calls were played.
+#[repr(C)]
 pub struct Played {
     pub refusal: u8,
     pub layout: Layout,
     pub calls: usize,
+}
+
+// What a call on a lent layout returns: its answer without the layout. A call that answers nothing further returns its refusal code alone.
+
+#[repr(C)]
+pub struct AddReport {
+    pub refusal: u8,
+    pub vertex: usize,
+}
+
+#[repr(C)]
+pub struct AppendReport {
+    pub refusal: u8,
+    pub tally: u32,
+}
+
+#[repr(C)]
+pub struct SiftReport {
+    pub refusal: u8,
+    pub reduction: u32,
+}
+
+#[repr(C)]
+pub struct RoundReport {
+    pub refusal: u8,
+    pub reduction: u32,
+    pub moved: u32,
+}
+
+#[repr(C)]
+pub struct ConvergeReport {
+    pub refusal: u8,
+    pub reduction: u32,
+    pub rounds: u32,
+    pub converged: bool,
+}
+
+// found says that two edges cross, and first and second are then the pair. Neither refused nor found: no two edges cross.
+#[repr(C)]
+pub struct CrossingReport {
+    pub refusal: u8,
+    pub found: bool,
+    pub first: Edge,
+    pub second: Edge,
 }

@@ -1,0 +1,50 @@
+// A chart read over a lent layout, and the calls that only read one.
+ghost use mathlib.Core.Path.{_≡_};
+ghost use Rattle.model.specs.Layouts.{valid};
+ghost use Rattle.model.specs.Reading.{countOf, orderRefusal, orderBytes};
+ghost use Rattle.model.specs.Reports.{readOver, crossingReportOf};
+use super::reports::crossing_report;
+use super::reports::read_over;
+use model::Counted;
+use model::CrossingReport;
+use model::Layout;
+
+#[no_mangle]
+pub extern "C" fn rl_read_chart(l: &mut Layout, chart: &[u8]) -> u8
+    ensures { λ r. ⌜ (r ≡ readOver (now (l .entry)) (now (chart .entry)) .refusal)
+        × (now (l .exit) ≡ readOver (now (l .entry)) (now (chart .entry)) .layout) ⌝ }
+{
+    let answer = read_over(*l, chart);
+    *l = answer.layout;
+    answer.refusal
+}
+
+#[no_mangle]
+pub extern "C" fn rl_count(l: &Layout) -> Counted
+    ensures { λ r. ⌜ r ≡ countOf (now (l .entry)) ⌝ }
+{
+    layout::count(*l)
+}
+
+#[no_mangle]
+pub extern "C" fn rl_first_crossing(l: &Layout) -> CrossingReport
+    ensures { λ r. ⌜ r ≡ crossingReportOf (now (l .entry)) ⌝ }
+{
+    crossing_report(*l)
+}
+
+#[no_mangle]
+pub extern "C" fn rl_is_valid(l: &Layout) -> bool
+    ensures { λ r. ⌜ r ≡ valid (now (l .entry)) ⌝ }
+{
+    validity::is_valid(*l)
+}
+
+// Writes the order to the first n bytes of the buffer, and answers the refusal code.
+#[no_mangle]
+pub extern "C" fn rl_order(l: &Layout, buffer: &mut [u8]) -> u8
+    ensures { λ r. ⌜ (r ≡ orderRefusal (now (l .entry)) (now (buffer .entry)))
+        × (now (buffer .exit) ≡ orderBytes (now (l .entry)) (now (buffer .entry))) ⌝ }
+{
+    layout::order(*l, buffer)
+}

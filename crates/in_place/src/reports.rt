@@ -1,0 +1,48 @@
+// By value: what the calls by value do not answer in the form that a host gets.
+ghost use mathlib.Core.Path.{_≡_};
+ghost use mathlib.Core.List.{[]};
+ghost use Rattle.model.specs.Reports.{readOver, crossingReportOf, pairReport};
+use crossing::first_crossing;
+use model::ChartRead;
+use model::CrossingReport;
+use model::Edge;
+use model::FirstCrossing;
+use model::Layout;
+
+// The chart's layout, or the one handed in where the chart is refused.
+pub(crate) fn read_over(l: Layout, chart: &[u8]) -> ChartRead
+    ensures { λ r. ⌜ r ≡ readOver l (now (chart .entry)) ⌝ }
+{
+    let read = chart::read(chart);
+    let refusal = read.refusal;
+    if refusal != 0 {
+        return ChartRead { refusal, layout: l };
+    }
+    read
+}
+
+pub(crate) fn crossing_report(l: Layout) -> CrossingReport
+    ensures { λ r. ⌜ r ≡ crossingReportOf l ⌝ }
+{
+    match first_crossing(l) {
+        FirstCrossing::Pair(e, f) => CrossingReport {
+            refusal: 0,
+            found: true,
+            first: e,
+            second: f,
+        },
+        FirstCrossing::Nothing => no_pair(0),
+        FirstCrossing::Refused(code) => no_pair(code),
+    }
+}
+
+fn no_pair(refusal: u8) -> CrossingReport
+    ensures { λ r. ⌜ r ≡ pairReport refusal [] ⌝ }
+{
+    CrossingReport {
+        refusal,
+        found: false,
+        first: Edge { low: 0, high: 0 },
+        second: Edge { low: 0, high: 0 },
+    }
+}
