@@ -1,9 +1,12 @@
 //! A run: makes every chart and list, and compares the sides on it.
 
 use std::path::PathBuf;
+use std::thread;
 
 use crate::difference::{first_difference, plant};
-use crate::make::{charts, lists};
+use crate::entries::{entries, Entry};
+use crate::label::Output;
+use crate::make::{charts, five, lists};
 use crate::naive;
 use crate::options::Options;
 use crate::rng::Rng;
@@ -42,7 +45,7 @@ impl Failure {
 }
 
 /// Compares all sides on all charts, unless lists are to be of some calls only,
-/// and on all lists.
+/// on all lists, and on all graphs on five vertices.
 pub fn compare(options: &Options) -> Result<Tally, Failure> {
     let mut tally = Tally::default();
     if options.only.is_none() {
@@ -51,33 +54,40 @@ pub fn compare(options: &Options) -> Result<Tally, Failure> {
         }
     }
     let mut rng = Rng::new(options.seed, "plant", 0);
-    let planted = options.plant.then(|| rng.below(options.count));
+    let planted = options.plant.then(|| list_to_plant(options, &mut rng));
     for index in 0..options.count {
-        let plant = if planted == Some(index) {
-            Some(&mut rng)
-        } else {
-            None
-        };
+        let plant = (planted == Some(index)).then_some(&mut rng);
         compare_list(options, index, &mut tally, plant)?;
+    }
+    if five::open(&options.known) {
+        for number in 0..five::LISTS {
+            compare_five(options, number)?;
+        }
     }
     Ok(tally)
 }
 
+/// A list in which an answer is to be changed: any that the naive model plays,
+/// so that it is noticed with one program too.
+fn list_to_plant(options: &Options, rng: &mut Rng) -> usize {
+    let first = rng.below(options.count);
+    let mut indices = (first..options.count).chain(0..first);
+    let naive = |&index: &usize| lists::list(options.seed, index, &options.known).naive;
+    indices.find(naive).unwrap_or(first)
+}
+
 fn compare_chart(options: &Options, index: usize, tally: &mut Tally) -> Result<(), Failure> {
     let made = charts::chart(options.seed, index);
-    let due = naive::list::listing(&made.bytes);
-    tally.chart(made.kind, &due);
-    let failure = |text| Failure {
+    let input = Input {
         what: "chart",
         index,
-        input: made.bytes.clone(),
-        text,
+        bytes: &made.bytes,
+        output: Output::Listing,
     };
-    check_refusal(made.refusal, &due).map_err(failure)?;
-    for side in &options.list {
-        check(side, &made.bytes, &due, None).map_err(failure)?;
-    }
-    Ok(())
+    let model = made.naive.then_some(naive::list::listing as Model);
+    let listing = input.compare(&options.list, model, None)?;
+    tally.chart(&made, &listing);
+    check_refusal(made.refusal, &listing).map_err(|text| input.failure(text))
 }
 
 /// Whether a chart of a known kind got the refusal number due to it.
@@ -90,7 +100,7 @@ fn check_refusal(refusal: Option<u8>, listing: &str) -> Result<(), String> {
     if listing.starts_with(&start) {
         Ok(())
     } else {
-        Err(format!("naive model: {listing}due: {start}"))
+        Err(format!("listed: {listing}due: {start}"))
     }
 }
 
@@ -98,35 +108,205 @@ fn compare_list(
     options: &Options,
     index: usize,
     tally: &mut Tally,
-    mut plant: Option<&mut Rng>,
+    plant: Option<&mut Rng>,
 ) -> Result<(), Failure> {
     let made = lists::list(options.seed, index, &options.known);
-    let due = naive::play::play(&made.bytes);
-    tally.list(&made, &due);
-    for side in &options.play {
-        check(side, &made.bytes, &due, plant.take()).map_err(|text| Failure {
-            what: "list",
-            index,
-            input: made.bytes.clone(),
-            text,
-        })?;
-    }
+    let input = Input::list("list", index, &made.bytes);
+    let naive = made.naive || plant.is_some();
+    let model = naive.then_some(naive::play::play as Model);
+    let lines = input.compare(&options.play, model, plant)?;
+    tally.list(&made, &lines);
     Ok(())
 }
 
-/// Runs a side on an input, with an answer changed if one is to be planted,
-/// and compares what it printed with what is due.
-fn check(side: &Side, input: &[u8], due: &str, planted: Option<&mut Rng>) -> Result<(), String> {
-    let name = &side.name;
-    let mut given = side.run(input).map_err(|error| format!("{name} {error}"))?;
-    if let Some(rng) = planted {
-        given = plant(&given, rng);
+fn compare_five(options: &Options, number: usize) -> Result<(), Failure> {
+    let list = five::list(number);
+    let input = Input::list("list-of-five-vertices", number, &list);
+    let model: Model = naive::play::play;
+    input.compare(&options.play, Some(model), None)?;
+    Ok(())
+}
+
+/// What the naive model prints for an input.
+type Model = fn(&[u8]) -> String;
+
+const NAIVE: &str = "naive model";
+
+/// What is given to every side.
+struct Input<'a> {
+    what: &'static str,
+    index: usize,
+    bytes: &'a [u8],
+    output: Output,
+}
+
+impl Input<'_> {
+    fn list<'a>(what: &'static str, index: usize, bytes: &'a [u8]) -> Input<'a> {
+        Input {
+            what,
+            index,
+            bytes,
+            output: Output::Answers,
+        }
     }
-    match first_difference(due.as_bytes(), &given) {
-        None => Ok(()),
-        Some(found) => Err(format!(
-            "{name} differs in line {}\nnaive model: {}\n{name}: {}",
-            found.line, found.due, found.given
-        )),
+
+    fn failure(&self, text: String) -> Failure {
+        Failure {
+            what: self.what,
+            index: self.index,
+            input: self.bytes.to_vec(),
+            text,
+        }
+    }
+
+    /// Compares the sides with the naive model, or with the first side where
+    /// that is left out, an answer of the first side changed if one is to be
+    /// planted. Gives what all of them print.
+    fn compare(
+        &self,
+        sides: &[Side],
+        model: Option<Model>,
+        planted: Option<&mut Rng>,
+    ) -> Result<String, Failure> {
+        let mut outputs = self.outputs(sides, model)?;
+        if let Some(rng) = planted {
+            let first = outputs.len() - sides.len();
+            outputs[first].1 = plant(&outputs[first].1, rng);
+        }
+        let (one, due) = &outputs[0];
+        for (other, given) in &outputs[1..] {
+            if let Some(text) = self.difference((one, due), (other, given)) {
+                return Err(self.failure(text));
+            }
+        }
+        Ok(String::from_utf8_lossy(due).into_owned())
+    }
+
+    /// What the naive model and the sides print, each with its name. They run
+    /// at the same time.
+    fn outputs<'a>(
+        &self,
+        sides: &'a [Side],
+        model: Option<Model>,
+    ) -> Result<Vec<(&'a str, Vec<u8>)>, Failure> {
+        let mut outputs = Vec::new();
+        thread::scope(|scope| {
+            let naive = model.map(|model| scope.spawn(move || model(self.bytes)));
+            let run = |side: &'a Side| {
+                let name = &side.name[..];
+                let given = side.run(self.bytes);
+                given
+                    .map(|given| (name, given))
+                    .map_err(|error| format!("{name} {error}"))
+            };
+            let given: Result<Vec<_>, String> = sides.iter().map(run).collect();
+            if let Some(naive) = naive {
+                let lines = naive.join().map_err(|_| format!("{NAIVE} ended early"))?;
+                outputs.push((NAIVE, lines.into_bytes()));
+            }
+            outputs.extend(given?);
+            Ok(())
+        })
+        .map_err(|text| self.failure(text))?;
+        Ok(outputs)
+    }
+
+    /// Where two outputs differ, in words.
+    fn difference(&self, one: (&str, &[u8]), other: (&str, &[u8])) -> Option<String> {
+        let found = first_difference(self.output, one.1, other.1)?;
+        let place = match self.output {
+            Output::Listing => format!("line {}", found.line),
+            Output::Answers => record_of(self.bytes, found.line),
+        };
+        let words = found.text();
+        Some(format!("{place}, {} against {}\n{words}", one.0, other.0))
+    }
+}
+
+/// The record of a list for which some line is printed, with its number and in
+/// words; both numbers are counted from 1.
+fn record_of(list: &[u8], line: usize) -> String {
+    let entries = entries(list);
+    let mut said = entries.iter().enumerate().filter(|(_, entry)| entry.says());
+    match said.nth(line - 1) {
+        Some((number, entry)) => format!("record {}, {}", number + 1, Entry::text(entry)),
+        None => format!("line {line}, behind the last record"),
+    }
+}
+
+#[cfg(test)]
+mod tests {
+    use super::*;
+    use crate::make::ops::{ADD, LINK, SET_N};
+    use crate::make::records::bytes;
+
+    fn two_links() -> Vec<u8> {
+        let records = [
+            [SET_N, 0, 0, 0],
+            [ADD, 0, 0, 0],
+            [ADD, 0, 0, 0],
+            [LINK, 0, 1, 0],
+        ];
+        records.map(bytes).concat()
+    }
+
+    #[test]
+    fn the_record_of_a_line_is_found() {
+        let list = two_links();
+        assert_eq!(record_of(&list, 1), "record 2, add");
+        assert_eq!(record_of(&list, 3), "record 4, link 0 1");
+        assert_eq!(record_of(&list, 4), "line 4, behind the last record");
+    }
+
+    /// What is said of an input when one side prints what is due, and the other
+    /// one that with something replaced.
+    fn told(from: &str, to: &str) -> Result<String, String> {
+        let list = two_links();
+        let due = naive::play::play(&list);
+        let print = |text: &str| format!("printf '%s' '{text}'");
+        let sides = [&due, &due.replace(from, to)].map(|text| Side::shell(&print(text)));
+        let compared = Input::list("list", 3, &list).compare(&sides, None, None);
+        compared.map_err(|failure| failure.text)
+    }
+
+    #[test]
+    fn sides_are_compared_among_themselves() {
+        assert_eq!(told("link", "link"), Ok(naive::play::play(&two_links())));
+        let text = told("link 0", "link 14").expect_err("a difference");
+        assert!(text.starts_with("record 4, link 0 1, "), "{text}");
+        assert!(
+            text.ends_with("\nword 2, the refusal number: 0 against 14"),
+            "{text}"
+        );
+    }
+
+    #[test]
+    fn sides_are_compared_with_the_naive_model() {
+        let list = two_links();
+        let model: Model = naive::play::play;
+        let silent = [Side::shell("true")];
+        let failure = Input::list("list", 3, &list).compare(&silent, Some(model), None);
+        let text = failure.expect_err("a difference").text;
+        let due = "record 2, add, naive model against true\nthe line: add against no line";
+        assert_eq!(text, due);
+    }
+
+    #[test]
+    fn a_planted_answer_is_noticed_without_a_second_program() {
+        let list = two_links();
+        let model: Model = naive::play::play;
+        let due = naive::play::play(&list);
+        let side = [Side::shell(&format!("printf '%s' '{due}'"))];
+        let input = Input::list("list", 3, &list);
+        assert!(input.compare(&side, Some(model), None).is_ok());
+        let mut rng = Rng::new(1, "plant", 0);
+        assert!(input.compare(&side, Some(model), Some(&mut rng)).is_err());
+    }
+
+    #[test]
+    fn a_side_that_fails_is_told() {
+        let failure = Input::list("list", 0, &[]).compare(&[Side::shell("exit 3")], None, None);
+        let text = failure.expect_err("a failure").text;
+        assert!(text.starts_with("exit 3 ended with "), "{text}");
     }
 }

@@ -1,11 +1,13 @@
 //! Graphs with an order, of which charts and layouts are made.
 
+use super::density;
 use crate::rng::Rng;
 
 /// An edge, its ends either way round.
 pub type Edge = (u8, u8);
 
 /// Edges and an order of the vertices.
+#[derive(Clone)]
 pub struct Graph {
     pub edges: Vec<Edge>,
     pub order: Vec<u8>,
@@ -30,10 +32,22 @@ impl Graph {
     /// A graph of n vertices with any number of edges up to the most, from
     /// none to all.
     pub fn random(rng: &mut Rng, n: usize, most_edges: usize) -> Graph {
+        let quarter = rng.below(density::QUARTERS);
+        let m = density::edge_count(rng, n, quarter);
+        Graph::with_edges(rng, n, m.min(most_edges))
+    }
+
+    /// A graph of n vertices with edges in some quarter of all.
+    pub fn in_quarter(rng: &mut Rng, n: usize, quarter: usize) -> Graph {
+        let m = density::edge_count(rng, n, quarter);
+        Graph::with_edges(rng, n, m)
+    }
+
+    /// A graph of n vertices with any m edges.
+    pub fn with_edges(rng: &mut Rng, n: usize, m: usize) -> Graph {
         let mut edges = all_pairs(n);
-        let m = edge_count(rng, n, edges.len());
         rng.shuffle(&mut edges);
-        edges.truncate(m.min(most_edges));
+        edges.truncate(m);
         Graph::new(rng, n, edges)
     }
 
@@ -61,16 +75,4 @@ pub fn vertices(n: usize) -> Vec<u8> {
 pub fn all_pairs(n: usize) -> Vec<Edge> {
     let pairs = |a: u8| (a + 1..n as u8).map(move |b| (a, b));
     (0..n as u8).flat_map(pairs).collect()
-}
-
-/// How many of all edges there are: none, all, nearly all, few, or any.
-fn edge_count(rng: &mut Rng, n: usize, all: usize) -> usize {
-    match rng.below(10) {
-        0 => 0,
-        1 => all,
-        2 => all.saturating_sub(rng.within(1, 3)),
-        3 => rng.below(n + 1).min(all),
-        4 | 5 => (n + rng.below(n + 1)).min(all),
-        _ => rng.below(all + 1),
-    }
 }
