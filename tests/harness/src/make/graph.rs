@@ -32,9 +32,11 @@ impl Graph {
     /// A graph of n vertices with any number of edges up to the most, from
     /// none to all.
     pub fn random(rng: &mut Rng, n: usize, most_edges: usize) -> Graph {
-        let quarter = rng.below(density::QUARTERS);
-        let m = density::edge_count(rng, n, quarter);
-        Graph::with_edges(rng, n, m.min(most_edges))
+        let mut edges = all_pairs(n);
+        let m = edge_count(rng, n, edges.len());
+        rng.shuffle(&mut edges);
+        edges.truncate(m.min(most_edges));
+        Graph::new(rng, n, edges)
     }
 
     /// A graph of n vertices with edges in some quarter of all.
@@ -75,4 +77,16 @@ pub fn vertices(n: usize) -> Vec<u8> {
 pub fn all_pairs(n: usize) -> Vec<Edge> {
     let pairs = |a: u8| (a + 1..n as u8).map(move |b| (a, b));
     (0..n as u8).flat_map(pairs).collect()
+}
+
+/// How many of all edges there are: none, all, nearly all, few, or any.
+fn edge_count(rng: &mut Rng, n: usize, all: usize) -> usize {
+    match rng.below(10) {
+        0 => 0,
+        1 => all,
+        2 => all.saturating_sub(rng.within(1, 3)),
+        3 => rng.below(n + 1).min(all),
+        4 | 5 => (n + rng.below(n + 1)).min(all),
+        _ => rng.below(all + 1),
+    }
 }

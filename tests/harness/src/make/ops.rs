@@ -145,7 +145,7 @@ mod tests {
         for number in (0..=8).chain(11..=18) {
             assert!(answers.iter().any(|answer| answer.1 == number), "{number}");
         }
-        assert_eq!(answers.len(), 12 + 8 + 23);
+        assert_eq!(answers.len(), 12 + 8 + 24);
     }
 
     #[test]

@@ -95,11 +95,12 @@ mod tests {
                 };
                 followed.line(line);
                 let after = followed.edges();
-                match line.split_once(" 0 ").map_or("", |(name, _)| name) {
-                    "link" => assert_eq!(after, before + 1),
-                    "unlink" => assert_eq!(after + 1, before),
-                    "chart" | "empty" => {}
-                    _ => assert_eq!(after, before),
+                let mut words = line.split(' ');
+                match (words.next(), words.next()) {
+                    (Some("link"), Some("0")) => assert_eq!(after, before + 1),
+                    (Some("unlink"), Some("0")) => assert_eq!(after + 1, before),
+                    (Some("chart" | "empty"), _) => {}
+                    _ => assert_eq!(after, before, "{line}"),
                 }
             }
         }

@@ -113,7 +113,7 @@ mod tests {
     const GRAPHS: usize = 15;
     /// Calls, and their answers; those of charts.
     const CALLS: usize = 11;
-    const ANSWERS: usize = 43;
+    const ANSWERS: usize = 44;
     const LISTINGS: usize = 9;
 
     fn list(records: &[[u64; 4]]) -> lists::Made {
