@@ -89,7 +89,7 @@ impl Shape {
             n,
             turn: accepted / 2,
             of_family: n < 2 || accepted % 2 == 1,
-            settled: accepted % 5 == 0,
+            settled: accepted.is_multiple_of(5),
         }
     }
 

@@ -5,7 +5,7 @@
 const ROUNDS: u64 = 6;
 
 /// What the naive model may do for one chart or list; above it, it is left out.
-pub const NAIVE: u64 = 1 << 29;
+pub const NAIVE: u64 = 1 << 31;
 
 /// The naive model: pairs of edges looked at, or what takes as long. Counting
 /// the crossings of m edges once, with finding their places.

@@ -103,7 +103,7 @@ fn without(title: &str, numbers: RangeInclusive<usize>, met: &BTreeSet<usize>) -
 #[cfg(test)]
 mod tests {
     use super::*;
-    use crate::make::ops::{LINK, SET_N};
+    use crate::make::ops::{ADD, LINK, SET_N};
     use crate::make::records;
 
     /// What there is of each: kinds of list, of which two need lay, ways to
@@ -180,12 +180,17 @@ mod tests {
         let line = "link 12 n 40 order 0 count 0 words\n";
         let refused = met(|tally| tally.list(&list(&[[LINK, 3, 40, 0]]), line));
         let due = [
+            "calls on size 40",
             "graph in lists, path",
             "link with refusal 12",
             "list, several starts",
+            "start, empty",
         ];
-        assert_eq!(refused[..3], due);
-        assert_eq!(refused[3..], ["start, empty"]);
+        assert_eq!(refused, due);
+        let line = "add 11 n 40 order 0 count 0 words\n";
+        let refused = met(|tally| tally.list(&list(&[[ADD, 0, 0, 0]]), line));
+        assert!(!refused.contains(&"calls on size 40".to_string()));
+        assert!(refused.contains(&"add with refusal 11".to_string()));
     }
 
     #[test]
@@ -205,7 +210,10 @@ mod tests {
     #[test]
     fn a_buffer_is_met_and_counted() {
         let mut tally = Tally::default();
-        tally.list(&list(&[[25, 2, 1, 0]]), "order 18 buffer 1 1 n 3 order 0\n");
+        tally.list(
+            &list(&[[ORDER, 2, 1, 0]]),
+            "order 18 buffer 1 1 n 3 order 0\n",
+        );
         assert!(!missing(&tally).contains("buffer of 2"));
         assert_eq!(tally.calls(), 1);
         tally.chart(&chart(), "refused 3\n");

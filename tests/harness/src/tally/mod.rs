@@ -16,6 +16,9 @@ pub const ENOUGH: usize = 100;
 
 type Counts = BTreeMap<String, usize>;
 
+/// The refusal number of a call on a layout that isn't valid.
+const NOT_VALID: u8 = 11;
+
 /// How often each quarter of all possible edges occurred in large graphs.
 type Quarters = [usize; QUARTERS];
 
@@ -30,7 +33,8 @@ pub struct Tally {
     answers: BTreeMap<String, BTreeMap<u8, usize>>,
     /// The same of the listings of charts.
     listings: BTreeMap<u8, usize>,
-    /// The numbers of vertices in accepted charts and with accepted calls.
+    /// The numbers of vertices in accepted charts, and in valid layouts that
+    /// calls were made on.
     chart_sizes: BTreeSet<usize>,
     list_sizes: BTreeSet<usize>,
     /// The densities of large graphs in accepted charts, and with each call
@@ -101,9 +105,11 @@ impl Tally {
         };
         let answers = self.answers.entry(name.to_string()).or_default();
         *answers.entry(refusal).or_default() += 1;
-        if refusal == 0 {
-            let n = followed.n as usize;
+        let n = followed.n as usize;
+        if refusal != NOT_VALID {
             self.list_sizes.insert(n);
+        }
+        if refusal == 0 {
             let quarters = self.call_quarters.entry(name.to_string()).or_default();
             add_quarter(quarters, n, followed.edges());
         }
@@ -141,7 +147,10 @@ impl Tally {
         text += &self.answer_table();
         text += &self.quarter_table();
         text += &format!("sizes of accepted charts: {}\n", self.chart_sizes.len());
-        text += &format!("sizes with accepted calls: {}\n", self.list_sizes.len());
+        text += &format!(
+            "sizes of valid layouts in lists: {}\n",
+            self.list_sizes.len()
+        );
         text + &format!("lengths of buffers: {}\n", self.buffers.len())
     }
 
