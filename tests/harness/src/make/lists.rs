@@ -124,12 +124,17 @@ impl Maker {
     }
 
     /// A large graph in each quarter of all edges, and one of a family, with
-    /// every call behind each. Most are too dear for the naive model.
-    fn large_graphs(&mut self, _: usize) {
+    /// every call behind each, and a round behind one that is settled. Most are
+    /// too dear for the naive model.
+    fn large_graphs(&mut self, index: usize) {
         for quarter in 0..QUARTERS {
             let n = self.large_size();
             let graph = Graph::in_quarter(&mut self.rng, n, quarter);
             self.large_graph(&graph);
+            if quarter == index % QUARTERS {
+                self.emit(SETTLE, 1000, 0);
+                self.emit(ROUND, 0, 0);
+            }
         }
         let n = self.large_size();
         let family = self.rng.pick(&families::of_size(n));
@@ -302,6 +307,15 @@ mod tests {
                 assert!((LARGE..=64).contains(&n));
                 assert_eq!(quarter(n, m), wanted);
             }
+        }
+    }
+
+    #[test]
+    fn a_large_graph_is_sifted_again_when_it_is_settled() {
+        for made in lists("large graphs") {
+            let texts: Vec<String> = entries(&made.bytes).iter().map(Entry::text).collect();
+            let again = ["settle with limit 1000", "round"];
+            assert!(texts.windows(2).any(|two| two == again));
         }
     }
 

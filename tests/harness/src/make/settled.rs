@@ -9,7 +9,7 @@ use crate::naive::{calls, chart, layout};
 const LIMIT: u64 = 1000;
 
 /// What the naive model may do to settle one graph.
-const BUDGET: u64 = 1 << 27;
+const BUDGET: u64 = 1 << 29;
 
 /// The most edges with which n vertices are settled here.
 pub fn most_edges(n: usize) -> usize {
