@@ -1,8 +1,10 @@
 //! Makes charts and lists of calls from a seed, gives them to programs and
 //! compares what they print with what a naive model of document 01 gives.
 
+mod counted;
 mod difference;
 mod entries;
+mod followed;
 mod label;
 mod make;
 mod naive;
@@ -64,14 +66,14 @@ fn finish(options: &Options, tally: &Tally) -> ExitCode {
     ExitCode::SUCCESS
 }
 
-/// How much was compared without the naive model, or not at all.
+/// How much the naive model left to the programs, but for counting crossings.
 fn without_naive(options: &Options, tally: &Tally) -> String {
     let (charts, lists) = tally.without_naive();
     let told = |name: &str, times: usize, sides: usize| match sides {
-        0 | 1 => format!("{times} {name}, printed by one program only and compared with nothing"),
-        sides => format!("{times} {name}, {sides} programs compared among themselves"),
+        0 | 1 => format!("{times} {name} of one program only"),
+        sides => format!("{times} {name} compared among {sides} programs"),
     };
     let charts = told("charts", charts, options.list.len());
     let lists = told("lists", lists, options.play.len());
-    format!("without the naive model: {charts}; {lists}")
+    format!("without the naive model, but for its counts: {charts}, {lists}")
 }

@@ -3,6 +3,7 @@
 use std::path::PathBuf;
 use std::thread;
 
+use crate::counted::{check_lines, check_listing};
 use crate::difference::{first_difference, plant};
 use crate::entries::{entries, Entry};
 use crate::label::Output;
@@ -87,6 +88,9 @@ fn compare_chart(options: &Options, index: usize, tally: &mut Tally) -> Result<(
     let model = made.naive.then_some(naive::list::listing as Model);
     let listing = input.compare(&options.list, model, None)?;
     tally.chart(&made, &listing);
+    if !made.naive {
+        check_listing(&made.bytes, &listing).map_err(|text| input.failure(text))?;
+    }
     check_refusal(made.refusal, &listing).map_err(|text| input.failure(text))
 }
 
@@ -116,7 +120,13 @@ fn compare_list(
     let model = naive.then_some(naive::play::play as Model);
     let lines = input.compare(&options.play, model, plant)?;
     tally.list(&made, &lines);
-    Ok(())
+    if naive {
+        return Ok(());
+    }
+    check_lines(&made.bytes, &lines).map_err(|(line, text)| {
+        let record = record_of(&made.bytes, line);
+        input.failure(format!("{record}: {text}"))
+    })
 }
 
 fn compare_five(options: &Options, number: usize) -> Result<(), Failure> {

@@ -1,15 +1,14 @@
 //! How often each thing occurred in a run.
 
-mod followed;
 mod missing;
 
 use std::collections::{BTreeMap, BTreeSet};
 
 use crate::entries::{entries, Entry};
+use crate::followed::Followed;
 use crate::make::charts;
 use crate::make::density::{quarter, LARGE, QUARTERS};
 use crate::make::lists;
-use followed::Followed;
 
 /// From so many charts and lists on, everything must have occurred.
 pub const ENOUGH: usize = 100;
@@ -105,7 +104,7 @@ impl Tally {
         };
         let answers = self.answers.entry(name.to_string()).or_default();
         *answers.entry(refusal).or_default() += 1;
-        let n = followed.n as usize;
+        let n = followed.n();
         if refusal != NOT_VALID {
             self.list_sizes.insert(n);
         }

@@ -1,58 +1,69 @@
-//! The vertices and edges of a layout, followed through a list of calls by its
-//! records and its answer lines.
+//! A layout, followed through a list of calls by its records and its answer
+//! lines.
 
 use crate::entries::Entry;
-use crate::make::ops::{SET_N, SET_WORD};
+use crate::make::ops::{SET_COUNT, SET_N, SET_ORDER, SET_WORD};
+use crate::naive::layout::{empty, Layout};
 
-/// What is known of the layout.
-pub struct Followed {
-    pub n: u64,
-    words: [u64; 64],
-}
+/// The layout as records set it and lines tell it.
+pub struct Followed(pub Layout);
 
 impl Followed {
     pub fn new() -> Followed {
-        Followed {
-            n: 0,
-            words: [0; 64],
-        }
+        Followed(empty())
+    }
+
+    pub fn n(&self) -> usize {
+        usize::try_from(self.0.n).unwrap_or(usize::MAX)
     }
 
     /// How many edges there are, in a valid layout.
     pub fn edges(&self) -> usize {
-        let ends: u32 = self.words.iter().map(|word| word.count_ones()).sum();
+        let ends: u32 = self.0.words.iter().map(|word| word.count_ones()).sum();
         ends as usize / 2
     }
 
     /// Sets a field, if that is what the record does.
     pub fn set(&mut self, entry: &Entry) {
+        let Followed(layout) = self;
         match *entry {
-            Entry::Record([SET_N, n, ..]) => self.n = n,
-            Entry::Record([SET_WORD, v, word, _]) => self.set_word(v, word),
+            Entry::Record([SET_N, n, ..]) => layout.n = n,
+            Entry::Record([SET_ORDER, place, v, _]) => put(&mut layout.order, place, v as u8),
+            Entry::Record([SET_WORD, v, word, _]) => put(&mut layout.words, v, word),
+            Entry::Record([SET_COUNT, count, ..]) => layout.count = count as u32,
             _ => {}
         }
     }
 
     /// Takes in what an answer line says of the layout.
     pub fn line(&mut self, line: &str) {
-        let part = |name: &str| line.split_once(name).map_or("", |(_, rest)| rest);
-        let numbers = |text: &str| -> Vec<u64> {
-            let numbers = text.split(' ').map_while(|word| word.parse().ok());
-            numbers.collect()
-        };
-        if let Some(&n) = numbers(part(" n ")).first() {
-            self.n = n;
+        let Followed(layout) = self;
+        if let Some(&n) = numbers(line, " n ").first() {
+            layout.n = n;
         }
-        for changed in numbers(part(" words ")).chunks_exact(2) {
-            self.set_word(changed[0], changed[1]);
+        for (place, v) in numbers(line, " order ").into_iter().enumerate() {
+            put(&mut layout.order, place as u64, v as u8);
+        }
+        if let Some(&count) = numbers(line, " count ").first() {
+            layout.count = count as u32;
+        }
+        for changed in numbers(line, " words ").chunks_exact(2) {
+            put(&mut layout.words, changed[0], changed[1]);
         }
     }
+}
 
-    fn set_word(&mut self, v: u64, word: u64) {
-        let v = usize::try_from(v).unwrap_or(usize::MAX);
-        if let Some(held) = self.words.get_mut(v) {
-            *held = word;
-        }
+/// The numbers behind a word of a line.
+fn numbers(line: &str, word: &str) -> Vec<u64> {
+    let behind = line.split_once(word).map_or("", |(_, behind)| behind);
+    let numbers = behind.split(' ').map_while(|word| word.parse().ok());
+    numbers.collect()
+}
+
+fn put<T>(places: &mut [T], place: u64, value: T) {
+    let place = usize::try_from(place).unwrap_or(usize::MAX);
+    if let Some(held) = places.get_mut(place) {
+        *held = value;
     }
 }
 
@@ -68,15 +79,19 @@ mod tests {
     fn a_layout_is_followed_by_records_and_lines() {
         let mut followed = Followed::new();
         followed.line("chart 0 n 4 order 0 1 2 3 count 1 words 0 4 1 8 2 1 3 2");
-        assert_eq!((followed.n, followed.edges()), (4, 2));
+        assert_eq!((followed.n(), followed.edges()), (4, 2));
         followed.line("unlink 0 n 4 order 0 1 2 3 count 0 words 0 0 2 0");
-        assert_eq!((followed.n, followed.edges()), (4, 1));
+        assert_eq!((followed.n(), followed.edges()), (4, 1));
         followed.set(&Entry::Record([SET_N, 5, 0, 0]));
         followed.set(&Entry::Record([SET_WORD, 4, 3, 0]));
         followed.set(&Entry::Record([SET_WORD, 64, 3, 0]));
-        assert_eq!((followed.n, followed.words[4]), (5, 3));
+        followed.set(&Entry::Record([SET_ORDER, 4, 256 + 4, 0]));
+        followed.set(&Entry::Record([SET_COUNT, (1 << 32) + 9, 0, 0]));
+        let layout = &followed.0;
+        assert_eq!((layout.n, layout.words[4], layout.count), (5, 3, 9));
+        assert_eq!(layout.order[..6], [0, 1, 2, 3, 4, 0]);
         followed.line("end");
-        assert_eq!(followed.n, 5);
+        assert_eq!(followed.n(), 5);
     }
 
     /// An accepted link adds an edge, an accepted unlink takes one away.
