@@ -26,46 +26,52 @@ const ANSWERS: [(&str, &[&str]); 6] = [
     ("count", &["the count read"]),
 ];
 
-/// The words of a line with what they are; `word` where that isn't known. The
-/// numbers of neighbour words stand in what those words are.
+/// The words of a line with what they are. The numbers of neighbour words are
+/// not among them; they stand in what those words are.
 pub fn labelled(output: Output, line: &str) -> Vec<Labelled<'_>> {
     let words: Vec<&str> = line.split(' ').collect();
-    let name = words[0];
     let mut part = match output {
-        Output::Listing => name,
+        Output::Listing => words[0],
         Output::Answers => "",
     };
-    let mut labels = vec![("the name".to_string(), 0)];
     let mut start = 0;
-    for (i, &word) in words.iter().enumerate().skip(1) {
-        let in_part = i - start - 1;
-        if output == Output::Answers && begins(part, in_part, word) {
+    let mut labelled = Vec::new();
+    for (i, &word) in words.iter().enumerate() {
+        let begins = output == Output::Answers && begins(part, i - start, word);
+        if begins {
             (part, start) = (word, i);
-            labels.push((format!("`{word}`"), i));
-            continue;
         }
-        match part {
-            "" => labels.push((answer(name, in_part), i)),
-            "words" if in_part % 2 == 0 => {}
-            "words" => labels.push((format!("neighbour word {}", words[i - 1]), i)),
-            "order" => labels.push((format!("place {in_part} of the order"), i)),
-            "buffer" => labels.push((format!("byte {in_part} of the buffer"), i)),
-            other => labels.push((other.to_string(), i)),
+        if let Some(label) = label(&words, i, part, i - start) {
+            let number = i + 1;
+            labelled.push(Labelled {
+                number,
+                label,
+                word,
+            });
         }
     }
-    let labelled = labels.into_iter().map(|(label, i)| Labelled {
-        number: i + 1,
-        label,
-        word: words[i],
-    });
-    labelled.collect()
+    labelled
 }
 
-/// Whether a word begins a further part of an answer line, behind so many words
-/// of the part before.
+/// What a word is: the name, the first word of a part, or a further one.
+fn label(words: &[&str], i: usize, part: &str, in_part: usize) -> Option<String> {
+    Some(match (part, in_part) {
+        _ if i == 0 => "the name".to_string(),
+        (part, 0) => format!("`{part}`"),
+        ("", number) => answer(words[0], number - 1),
+        ("words", number) if number % 2 == 1 => return None,
+        ("words", _) => format!("neighbour word {}", words[i - 1]),
+        ("order", number) => format!("place {} of the order", number - 1),
+        ("buffer", number) => format!("byte {} of the buffer", number - 1),
+        (part, _) => part.to_string(),
+    })
+}
+
+/// Whether a word begins a further part of an answer line, so many words behind
+/// the beginning of the part before.
 fn begins(part: &str, behind: usize, word: &str) -> bool {
     match word {
-        "buffer" => part.is_empty() && behind == 1,
+        "buffer" => part.is_empty() && behind == 2,
         "n" => part.is_empty() || part == "buffer",
         "order" => part == "n",
         "count" => part == "order",

@@ -5,6 +5,7 @@ mod counted;
 mod difference;
 mod entries;
 mod followed;
+mod input;
 mod label;
 mod make;
 mod naive;

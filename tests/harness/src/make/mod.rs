@@ -1,5 +1,6 @@
 //! Makes charts and lists of calls from a seed.
 
+pub mod arguments;
 pub mod charts;
 pub mod cost;
 pub mod density;
