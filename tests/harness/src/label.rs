@@ -17,13 +17,23 @@ pub struct Labelled<'a> {
 }
 
 /// The answers of each call.
-const ANSWERS: [(&str, &[&str]); 6] = [
+const ANSWERS: [(&str, &[&str]); 7] = [
     ("add", &["the new vertex"]),
     ("lay", &["the tally"]),
     ("sift", &["the saving"]),
     ("round", &["the saving", "the vertices moved"]),
     ("settle", &["the saving", "the rounds run", "settled"]),
     ("count", &["the count read"]),
+    (
+        "pair",
+        &[
+            "what is found",
+            "the first edge's lower end",
+            "the first edge's higher end",
+            "the second edge's lower end",
+            "the second edge's higher end",
+        ],
+    ),
 ];
 
 /// The words of a line with what they are. The numbers of neighbour words are
@@ -131,7 +141,10 @@ mod tests {
         );
         assert_eq!(order[10], "place 1 of the order");
         let pair = labels(Output::Answers, "pair 0 pair 1 2 3 4 n 5");
-        assert_eq!(pair[1..4], ["the refusal number", "answer 1", "answer 2"]);
+        let due = ["what is found", "the first edge's lower end"];
+        assert_eq!(pair[2..4], due);
+        let more = labels(Output::Answers, "pair 0 pair 1 2 3 4 5 n 5");
+        assert_eq!(more[7], "answer 6");
         let count = labels(Output::Answers, "count 0 9 n 0 order 0 count 9 words");
         assert_eq!((&count[2][..], &count[8][..]), ("the count read", "count"));
     }
