@@ -1,7 +1,12 @@
 //! Makes charts and lists of calls from a seed, gives them to programs and
 //! compares what they print with what a naive model of document 01 gives.
 
+mod counted;
 mod difference;
+mod entries;
+mod followed;
+mod input;
+mod label;
 mod make;
 mod naive;
 mod options;
@@ -13,7 +18,7 @@ mod tally;
 use std::io::Write;
 use std::process::ExitCode;
 
-use make::stored;
+use make::{five, stored};
 use options::Options;
 use tally::{Tally, ENOUGH};
 
@@ -47,14 +52,29 @@ fn finish(options: &Options, tally: &Tally) -> ExitCode {
         println!("compare: seed {seed}, never met: {}", missing.join(", "));
         return ExitCode::FAILURE;
     }
+    println!("{}", without_naive(options, tally));
     let calls = tally.calls();
-    match &options.only {
-        None => {
-            println!("compare: seed {seed}, {count} charts and {count} lists ({calls} calls) agree")
-        }
-        Some(names) => {
-            println!("compare: seed {seed}, {count} lists of {names} ({calls} calls) agree")
-        }
-    }
+    let inputs = match &options.only {
+        None => format!("{count} charts and {count} lists ({calls} calls)"),
+        Some(names) => format!("{count} lists of {names} ({calls} calls)"),
+    };
+    let five = if five::open(&options.known) {
+        format!(" and all {} graphs on five vertices", five::GRAPHS)
+    } else {
+        String::new()
+    };
+    println!("compare: seed {seed}, {inputs}{five} agree");
     ExitCode::SUCCESS
+}
+
+/// How much the naive model left to the programs, but for counting crossings.
+fn without_naive(options: &Options, tally: &Tally) -> String {
+    let (charts, lists) = tally.without_naive();
+    let told = |name: &str, times: usize, sides: usize| match sides {
+        0 | 1 => format!("{times} {name} of one program only"),
+        sides => format!("{times} {name} compared among {sides} programs"),
+    };
+    let charts = told("charts", charts, options.list.len());
+    let lists = told("lists", lists, options.play.len());
+    format!("without the naive model, but for its counts: {charts}, {lists}")
 }

@@ -1,48 +1,16 @@
 //! A run: makes every chart and list, and compares the sides on it.
 
-use std::path::PathBuf;
-
-use crate::difference::{first_difference, plant};
-use crate::make::{charts, lists};
+use crate::counted::{check_lines, check_listing};
+use crate::input::{record_of, Failure, Input, Model};
+use crate::label::Output;
+use crate::make::{charts, five, lists};
 use crate::naive;
 use crate::options::Options;
 use crate::rng::Rng;
-use crate::side::Side;
 use crate::tally::Tally;
 
-/// An input on which the sides do not agree.
-pub struct Failure {
-    /// What it is: a chart or a list.
-    what: &'static str,
-    index: usize,
-    input: Vec<u8>,
-    /// What is wrong.
-    text: String,
-}
-
-impl Failure {
-    /// Keeps the input in a file, and tells what is wrong.
-    pub fn report(&self, options: &Options) -> String {
-        let (what, seed, index) = (self.what, options.seed, self.index);
-        let path = options.keep.join(format!("{what}-{seed}-{index}.bin"));
-        let kept = match self.write(&path, options) {
-            Ok(()) => format!("input kept in {}", path.display()),
-            Err(error) => format!("input not kept: {error}"),
-        };
-        format!(
-            "compare: seed {seed}, {what} {index}: {}\n{kept}",
-            self.text
-        )
-    }
-
-    fn write(&self, path: &PathBuf, options: &Options) -> std::io::Result<()> {
-        std::fs::create_dir_all(&options.keep)?;
-        std::fs::write(path, &self.input)
-    }
-}
-
 /// Compares all sides on all charts, unless lists are to be of some calls only,
-/// and on all lists.
+/// on all lists, and on all graphs on five vertices.
 pub fn compare(options: &Options) -> Result<Tally, Failure> {
     let mut tally = Tally::default();
     if options.only.is_none() {
@@ -51,33 +19,43 @@ pub fn compare(options: &Options) -> Result<Tally, Failure> {
         }
     }
     let mut rng = Rng::new(options.seed, "plant", 0);
-    let planted = options.plant.then(|| rng.below(options.count));
+    let planted = options.plant.then(|| list_to_plant(options, &mut rng));
     for index in 0..options.count {
-        let plant = if planted == Some(index) {
-            Some(&mut rng)
-        } else {
-            None
-        };
+        let plant = (planted == Some(index)).then_some(&mut rng);
         compare_list(options, index, &mut tally, plant)?;
+    }
+    if five::open(&options.known) {
+        for number in 0..five::LISTS {
+            compare_five(options, number)?;
+        }
     }
     Ok(tally)
 }
 
+/// A list in which an answer is to be changed: any that the naive model plays,
+/// so that it is noticed with one program too.
+fn list_to_plant(options: &Options, rng: &mut Rng) -> usize {
+    let first = rng.below(options.count);
+    let mut indices = (first..options.count).chain(0..first);
+    let naive = |&index: &usize| lists::list(options.seed, index, &options.known).naive;
+    indices.find(naive).unwrap_or(first)
+}
+
 fn compare_chart(options: &Options, index: usize, tally: &mut Tally) -> Result<(), Failure> {
     let made = charts::chart(options.seed, index);
-    let due = naive::list::listing(&made.bytes);
-    tally.chart(made.kind, &due);
-    let failure = |text| Failure {
+    let input = Input {
         what: "chart",
         index,
-        input: made.bytes.clone(),
-        text,
+        bytes: &made.bytes,
+        output: Output::Listing,
     };
-    check_refusal(made.refusal, &due).map_err(failure)?;
-    for side in &options.list {
-        check(side, &made.bytes, &due, None).map_err(failure)?;
+    let model = made.naive.then_some(naive::list::listing as Model);
+    let listing = input.compare(&options.list, model, None)?;
+    tally.chart(&made, &listing);
+    if !made.naive {
+        check_listing(&made.bytes, &listing).map_err(|text| input.failure(text))?;
     }
-    Ok(())
+    check_refusal(made.refusal, &listing).map_err(|text| input.failure(text))
 }
 
 /// Whether a chart of a known kind got the refusal number due to it.
@@ -90,7 +68,7 @@ fn check_refusal(refusal: Option<u8>, listing: &str) -> Result<(), String> {
     if listing.starts_with(&start) {
         Ok(())
     } else {
-        Err(format!("naive model: {listing}due: {start}"))
+        Err(format!("listed: {listing}due: {start}"))
     }
 }
 
@@ -98,35 +76,27 @@ fn compare_list(
     options: &Options,
     index: usize,
     tally: &mut Tally,
-    mut plant: Option<&mut Rng>,
+    plant: Option<&mut Rng>,
 ) -> Result<(), Failure> {
     let made = lists::list(options.seed, index, &options.known);
-    let due = naive::play::play(&made.bytes);
-    tally.list(&made, &due);
-    for side in &options.play {
-        check(side, &made.bytes, &due, plant.take()).map_err(|text| Failure {
-            what: "list",
-            index,
-            input: made.bytes.clone(),
-            text,
-        })?;
+    let input = Input::list("list", index, &made.bytes);
+    let naive = made.naive || plant.is_some();
+    let model = naive.then_some(naive::play::play as Model);
+    let lines = input.compare(&options.play, model, plant)?;
+    tally.list(&made, &lines);
+    if naive {
+        return Ok(());
     }
-    Ok(())
+    check_lines(&made.bytes, &lines).map_err(|(line, text)| {
+        let record = record_of(&made.bytes, line);
+        input.failure(format!("{record}: {text}"))
+    })
 }
 
-/// Runs a side on an input, with an answer changed if one is to be planted,
-/// and compares what it printed with what is due.
-fn check(side: &Side, input: &[u8], due: &str, planted: Option<&mut Rng>) -> Result<(), String> {
-    let name = &side.name;
-    let mut given = side.run(input).map_err(|error| format!("{name} {error}"))?;
-    if let Some(rng) = planted {
-        given = plant(&given, rng);
-    }
-    match first_difference(due.as_bytes(), &given) {
-        None => Ok(()),
-        Some(found) => Err(format!(
-            "{name} differs in line {}\nnaive model: {}\n{name}: {}",
-            found.line, found.due, found.given
-        )),
-    }
+fn compare_five(options: &Options, number: usize) -> Result<(), Failure> {
+    let list = five::list(number);
+    let input = Input::list("list-of-five-vertices", number, &list);
+    let model: Model = naive::play::play;
+    input.compare(&options.play, Some(model), None)?;
+    Ok(())
 }

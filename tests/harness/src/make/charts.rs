@@ -1,7 +1,11 @@
-//! Charts: of every size and density, and those that are refused.
+//! Charts: of every size and density, of every family of graphs, settled
+//! already, and those that are refused.
 
 use super::cost;
+use super::density::QUARTERS;
+use super::families;
 use super::graph::Graph;
+use super::settled::settled;
 use super::special::SPECIALS;
 use crate::rng::Rng;
 
@@ -43,30 +47,79 @@ pub fn field(tag: u8, body: &[u8]) -> Vec<u8> {
 pub struct Made {
     pub bytes: Vec<u8>,
     pub kind: &'static str,
+    /// The family that its graph is of, if it is of one.
+    pub family: Option<&'static str>,
     pub refusal: Option<u8>,
+    /// Whether the naive model can settle it in bearable time.
+    pub naive: bool,
 }
 
-/// Of three charts two are accepted and one is special. Any 65 accepted ones
-/// in a row have every size once.
+/// The kinds of charts that are accepted.
+pub const ACCEPTED: [&str; 3] = [ANY, FAMILY, SETTLED];
+
+const ANY: &str = "any size and density";
+const FAMILY: &str = "graph of a family";
+const SETTLED: &str = "settled already";
+
+/// Of three charts two are accepted and one is special.
 pub fn chart(seed: u64, index: usize) -> Made {
     let mut rng = Rng::new(seed, "chart", index);
     if index % 3 == 2 {
         return special(&mut rng, index / 3);
     }
-    let accepted = index - index / 3;
-    let n = ((seed % 65) as usize + 7 * accepted) % 65;
-    Made {
-        bytes: accepted_chart(&mut rng, n),
-        kind: "any size and density",
-        refusal: Some(0),
+    accepted_chart(&mut rng, Shape::new(seed, index - index / 3))
+}
+
+/// What an accepted chart is to be. Any 65 in a row have every size once; the
+/// quarters of all edges and the families take turns, and one chart in five is
+/// settled already, if its graph can be settled in bearable time.
+struct Shape {
+    n: usize,
+    /// Its number among the charts that are of a family or of any density.
+    turn: usize,
+    of_family: bool,
+    settled: bool,
+}
+
+impl Shape {
+    /// The shape of the accepted chart with some number.
+    fn new(seed: u64, accepted: usize) -> Shape {
+        let n = ((seed % 65) as usize + 7 * accepted) % 65;
+        Shape {
+            n,
+            turn: accepted / 2,
+            of_family: n < 2 || accepted % 2 == 1,
+            settled: accepted.is_multiple_of(5),
+        }
+    }
+
+    /// The graph, and the family that it is of.
+    fn graph(&self, rng: &mut Rng) -> (Graph, Option<&'static str>) {
+        if !self.of_family {
+            return (Graph::in_quarter(rng, self.n, self.turn % QUARTERS), None);
+        }
+        let families = families::of_size(self.n);
+        let family = families[self.turn % families.len()];
+        (family.graph_of_size(rng, self.n), Some(family.name))
     }
 }
 
-/// A chart that settles in bearable time on the naive side.
-fn accepted_chart(rng: &mut Rng, n: usize) -> Vec<u8> {
-    let budget = if rng.once_in(16) { 1 << 31 } else { 1 << 29 };
-    let graph = Graph::random(rng, n, cost::most_edges(n, budget));
-    Chart::of(&graph).bytes()
+fn accepted_chart(rng: &mut Rng, shape: Shape) -> Made {
+    let (graph, family) = shape.graph(rng);
+    let settled = shape.settled.then(|| settled(&graph)).flatten();
+    let kind = match (&settled, family) {
+        (Some(_), _) => SETTLED,
+        (None, Some(_)) => FAMILY,
+        (None, None) => ANY,
+    };
+    let graph = settled.unwrap_or(graph);
+    Made {
+        bytes: Chart::of(&graph).bytes(),
+        kind,
+        family,
+        refusal: Some(0),
+        naive: cost::settle(graph.n(), graph.edges.len()) <= cost::NAIVE,
+    }
 }
 
 /// The special chart with some number. They take turns, but for the first one,
@@ -80,6 +133,50 @@ pub fn special(rng: &mut Rng, number: usize) -> Made {
     Made {
         bytes: (special.make)(rng),
         kind: special.kind,
+        family: None,
         refusal: special.refusal,
+        naive: true,
+    }
+}
+
+#[cfg(test)]
+mod tests {
+    use super::*;
+    use crate::make::density::{quarter, LARGE};
+    use std::collections::BTreeSet;
+
+    /// The shapes of the accepted ones among a hundred charts.
+    fn shapes(seed: u64) -> impl Iterator<Item = Shape> {
+        (0..67).map(move |accepted| Shape::new(seed, accepted))
+    }
+
+    #[test]
+    fn a_hundred_charts_have_every_size_and_family_and_large_ones_every_density() {
+        for seed in 0..65 {
+            let sizes: BTreeSet<usize> = shapes(seed).map(|shape| shape.n).collect();
+            assert_eq!(sizes.len(), 65, "seed {seed}");
+            let (mut families, mut quarters) = (BTreeSet::new(), BTreeSet::new());
+            for (index, shape) in shapes(seed).enumerate() {
+                let (graph, family) = shape.graph(&mut Rng::new(seed, "shape", index));
+                assert_eq!(graph.n(), shape.n);
+                families.extend(family);
+                if shape.n >= LARGE && family.is_none() {
+                    quarters.insert(quarter(shape.n, graph.edges.len()));
+                }
+            }
+            assert_eq!(families.len(), families::all().len(), "seed {seed}");
+            assert_eq!(quarters.len(), QUARTERS, "seed {seed}");
+        }
+    }
+
+    #[test]
+    fn charts_of_every_kind_are_made() {
+        for seed in 1..4 {
+            let made: Vec<Made> = (0..100).map(|index| chart(seed, index)).collect();
+            for kind in ACCEPTED {
+                assert!(made.iter().any(|made| made.kind == kind), "{kind}");
+            }
+            assert!(made.iter().any(|made| !made.naive));
+        }
     }
 }

@@ -17,7 +17,7 @@ pub struct Family {
 }
 
 /// The families in which many vertices tie come first.
-const FAMILIES: [Family; 11] = [
+const FAMILIES: [Family; 15] = [
     family("path", 2, 64, |_, n| path(n)),
     family("cycle", 3, 64, |_, n| {
         [path(n), vec![(0, n as u8 - 1)]].concat()
@@ -32,6 +32,21 @@ const FAMILIES: [Family; 11] = [
         edges.retain(|(a, _)| a % 2 == 0);
         edges
     }),
+    family("grid", 4, 64, |rng, n| {
+        let width = rng.within(2, n / 2);
+        grid(n, width)
+    }),
+    family("disjoint cliques", 4, 64, |rng, n| {
+        let size = rng.within(2, n / 2);
+        cliques(n, size)
+    }),
+    family("complete less a few edges", 4, 64, |rng, n| {
+        let mut edges = all_pairs(n);
+        rng.shuffle(&mut edges);
+        edges.truncate(edges.len() - rng.within(1, FEW));
+        edges
+    }),
+    family("tree", 2, 64, tree),
     family("components", 4, 64, components),
     family("isolated vertices", 3, 64, |rng, n| {
         let others = rng.within(2, n - 1);
@@ -44,7 +59,10 @@ const FAMILIES: [Family; 11] = [
 ];
 
 /// How many families with ties there are.
-const WITH_TIES: usize = 5;
+const WITH_TIES: usize = 8;
+
+/// The most edges that are less than all but a few.
+const FEW: usize = 5;
 
 const fn family(
     name: &'static str,
@@ -69,12 +87,25 @@ pub fn with_ties() -> &'static [Family] {
     &FAMILIES[..WITH_TIES]
 }
 
+/// Those families that have a graph of n vertices.
+pub fn of_size(n: usize) -> Vec<Family> {
+    let mut families = FAMILIES.to_vec();
+    families.retain(|family| (family.fewest..=family.most).contains(&n));
+    families
+}
+
 impl Family {
     /// A graph of the family with at most so many vertices, or as few as it
-    /// can have, numbered as the family has them or in any other way.
+    /// can have.
     pub fn graph(&self, rng: &mut Rng, most: usize) -> Graph {
         let most = most.clamp(self.fewest, self.most);
         let n = rng.within(self.fewest, most);
+        self.graph_of_size(rng, n)
+    }
+
+    /// A graph of the family with n vertices, which it can have, numbered as
+    /// the family has them or in any other way.
+    pub fn graph_of_size(&self, rng: &mut Rng, n: usize) -> Graph {
         let mut edges = (self.edges)(rng, n);
         if rng.once_in(2) {
             renumber(rng, n, &mut edges);
@@ -99,6 +130,45 @@ fn path(n: usize) -> Vec<Edge> {
 fn bipartite(ones: Range<u8>, others: Range<u8>) -> Vec<Edge> {
     let from = |a| others.clone().map(move |b| (a, b));
     ones.flat_map(from).collect()
+}
+
+/// Rows of some width, the last of them as long as the vertices last.
+fn grid(n: usize, width: usize) -> Vec<Edge> {
+    let mut edges = Vec::new();
+    for v in 0..n {
+        let (right, below) = (v + 1, v + width);
+        if right % width != 0 && right < n {
+            edges.push((v as u8, right as u8));
+        }
+        if below < n {
+            edges.push((v as u8, below as u8));
+        }
+    }
+    edges
+}
+
+/// Complete graphs of some size, the last of them of the vertices that remain.
+fn cliques(n: usize, size: usize) -> Vec<Edge> {
+    let mut edges = all_pairs(n);
+    let clique = |v: u8| usize::from(v) / size;
+    edges.retain(|&(a, b)| clique(a) == clique(b));
+    edges
+}
+
+/// A tree whose vertices hang on any earlier one, on one of the last few, or
+/// two on each.
+fn tree(rng: &mut Rng, n: usize) -> Vec<Edge> {
+    let shape = rng.below(3);
+    let mut edges = Vec::new();
+    for v in 1..n {
+        let parent = match shape {
+            0 => rng.below(v),
+            1 => rng.within(v.saturating_sub(3), v - 1),
+            _ => (v - 1) / 2,
+        };
+        edges.push((parent as u8, v as u8));
+    }
+    edges
 }
 
 /// Two components or more, each of two vertices or more.
@@ -133,6 +203,7 @@ fn connected(rng: &mut Rng, n: usize) -> Vec<Edge> {
 #[cfg(test)]
 mod tests {
     use super::*;
+    use crate::make::density;
 
     /// The degrees of a graph's vertices, sorted.
     fn degrees(graph: &Graph) -> Vec<u32> {
@@ -159,6 +230,26 @@ mod tests {
         component.len()
     }
 
+    /// In a grid no vertex has more than four neighbours, there are fewer than
+    /// two edges for each vertex, and no three vertices are all joined.
+    fn is_grid(graph: &Graph) -> bool {
+        let words = graph.words();
+        let triangle = |&(a, b): &Edge| words[usize::from(a)] & words[usize::from(b)] != 0;
+        let (n, m) = (graph.n(), graph.edges.len());
+        degrees(graph)[n - 1] <= 4
+            && (n - 1..2 * n).contains(&m)
+            && !graph.edges.iter().any(triangle)
+    }
+
+    /// Whether both ends of each edge have the same neighbours but for each
+    /// other.
+    fn are_cliques(graph: &Graph) -> bool {
+        let words = graph.words();
+        let with_itself = |v: u8| words[usize::from(v)] | 1 << v;
+        let alike = |&(a, b): &Edge| with_itself(a) == with_itself(b);
+        graph.edges.iter().all(alike)
+    }
+
     /// Whether a graph is what the name of its family says.
     fn belongs(name: &str, graph: &Graph) -> bool {
         let (n, m) = (graph.n(), graph.edges.len());
@@ -173,6 +264,10 @@ mod tests {
                 m == first * (n - first) && components == 1
             }
             "matching" => m == n / 2 && degrees[n - 1] == 1,
+            "grid" => components == 1 && is_grid(graph),
+            "disjoint cliques" => components >= 2 && are_cliques(graph),
+            "complete less a few edges" => (1..=FEW).contains(&(density::possible(n) - m)),
+            "tree" => m == n - 1 && components == 1,
             "components" => components >= 2 && degrees[0] > 0,
             "isolated vertices" => degrees[0] == 0 && m > 0,
             "complete" => n >= 3 && all(n - 1),
@@ -194,6 +289,31 @@ mod tests {
                 assert!(belongs(family.name, &graph), "{}", family.name);
             }
         }
+    }
+
+    #[test]
+    fn grids_cliques_and_trees_by_hand() {
+        assert_eq!(grid(5, 2), [(0, 1), (0, 2), (1, 3), (2, 3), (2, 4)]);
+        assert_eq!(grid(6, 3).len(), 7);
+        assert_eq!(cliques(5, 2), [(0, 1), (2, 3)]);
+        assert_eq!(cliques(64, 32).len(), 2 * density::possible(32));
+        let trees = (0..40).map(|index| tree(&mut Rng::new(1, "tree", index), 7));
+        let binary = [(0, 1), (0, 2), (1, 3), (1, 4), (2, 5), (2, 6)];
+        assert!(trees.filter(|edges| edges[..] == binary).count() < 40);
+        assert!((0..40).any(|index| tree(&mut Rng::new(1, "tree", index), 7) == binary));
+    }
+
+    #[test]
+    fn families_of_a_size_have_graphs_of_it() {
+        for n in 0..=64 {
+            for family in of_size(n) {
+                let graph = family.graph_of_size(&mut Rng::new(3, family.name, n), n);
+                assert_eq!(graph.n(), n);
+                assert!(belongs(family.name, &graph), "{} of {n}", family.name);
+            }
+        }
+        assert_eq!((of_size(0).len(), of_size(1).len()), (1, 1));
+        assert_eq!(of_size(64).len(), all().len() - 2);
     }
 
     #[test]

@@ -1,11 +1,13 @@
 //! Graphs with an order, of which charts and layouts are made.
 
+use super::density;
 use crate::rng::Rng;
 
 /// An edge, its ends either way round.
 pub type Edge = (u8, u8);
 
 /// Edges and an order of the vertices.
+#[derive(Clone)]
 pub struct Graph {
     pub edges: Vec<Edge>,
     pub order: Vec<u8>,
@@ -34,6 +36,20 @@ impl Graph {
         let m = edge_count(rng, n, edges.len());
         rng.shuffle(&mut edges);
         edges.truncate(m.min(most_edges));
+        Graph::new(rng, n, edges)
+    }
+
+    /// A graph of n vertices with edges in some quarter of all.
+    pub fn in_quarter(rng: &mut Rng, n: usize, quarter: usize) -> Graph {
+        let m = density::edge_count(rng, n, quarter);
+        Graph::with_edges(rng, n, m)
+    }
+
+    /// A graph of n vertices with any m edges.
+    pub fn with_edges(rng: &mut Rng, n: usize, m: usize) -> Graph {
+        let mut edges = all_pairs(n);
+        rng.shuffle(&mut edges);
+        edges.truncate(m);
         Graph::new(rng, n, edges)
     }
 

@@ -3,7 +3,9 @@
 use std::collections::BTreeSet;
 
 use super::charts;
+use super::density::{LARGE, QUARTERS};
 use super::families;
+use super::graph::Graph;
 use super::maker::Maker;
 use super::ops::*;
 use super::starts::{self, FAMILY};
@@ -14,13 +16,14 @@ use crate::rng::Rng;
 type Kind = (&'static str, u64, fn(&mut Maker, usize));
 
 /// The kinds, those oftener that are to come oftener.
-const KINDS: [Kind; 6] = [
+const KINDS: [Kind; 7] = [
     SEVERAL_STARTS,
     SEVERAL_STARTS,
     SEVERAL_STARTS,
     ("several hundred calls", EMPTY, Maker::several_hundred_calls),
     ("lay from every vertex", LAY, Maker::lay_from_every_vertex),
     ("lay, then sifting", LAY, Maker::lay_then_sifting),
+    ("large graphs", EMPTY, Maker::large_graphs),
 ];
 
 const SEVERAL_STARTS: Kind = ("several starts", EMPTY, Maker::several_starts);
@@ -33,6 +36,8 @@ pub struct Made {
     pub starts: Vec<&'static str>,
     /// The families of its graphs.
     pub graphs: Vec<&'static str>,
+    /// Whether the naive model can play it in bearable time.
+    pub naive: bool,
 }
 
 /// The list with some number, of known calls.
@@ -41,9 +46,10 @@ pub fn list(seed: u64, index: usize, known: &Known) -> Made {
     let (kind, _, make) = rng.pick(&open(known));
     let mut maker = Maker::new(rng, known);
     make(&mut maker, index);
-    maker.in_turn(index);
+    maker.in_turn(seed, index);
     maker.end();
     Made {
+        naive: maker.is_naive(),
         bytes: maker.bytes,
         kind,
         starts: maker.starts,
@@ -117,8 +123,41 @@ impl Maker {
         }
     }
 
+    /// A large graph in each quarter of all edges, and one of a family, with
+    /// every call behind each, and a round behind one that is settled. Most are
+    /// too dear for the naive model.
+    fn large_graphs(&mut self, index: usize) {
+        for quarter in 0..QUARTERS {
+            let n = self.large_size();
+            let graph = Graph::in_quarter(&mut self.rng, n, quarter);
+            self.large_graph(&graph);
+            if quarter == index % QUARTERS {
+                self.emit(SETTLE, 1000, 0);
+                self.emit(ROUND, 0, 0);
+            }
+        }
+        let n = self.large_size();
+        let family = self.rng.pick(&families::of_size(n));
+        self.graphs.push(family.name);
+        let graph = family.graph_of_size(&mut self.rng, n);
+        self.large_graph(&graph);
+    }
+
+    /// Any large number of vertices, the most too.
+    fn large_size(&mut self) -> usize {
+        let any = self.rng.within(LARGE, 64);
+        self.rng.pick(&[any, any, any, 63, 64])
+    }
+
+    fn large_graph(&mut self, graph: &Graph) {
+        self.without_naive();
+        self.write_graph(graph);
+        self.every_call();
+        self.any_calls(2, 10);
+    }
+
     /// About half of these calls, in their sequence, if the budget allows them.
-    fn some_calls(&mut self, ops: &[u64]) {
+    pub fn some_calls(&mut self, ops: &[u64]) {
         for &op in ops {
             if self.rng.once_in(2) && self.allows(op) {
                 self.call(op);
@@ -126,13 +165,22 @@ impl Maker {
         }
     }
 
-    /// What takes its turn from list to list: each length of a buffer, and
-    /// each special chart.
-    fn in_turn(&mut self, index: usize) {
+    /// What takes its turn from list to list: each size with some density, each
+    /// refusal number of each call, each length of a buffer, and each special
+    /// chart.
+    fn in_turn(&mut self, seed: u64, index: usize) {
+        let n = ((seed % 65) as usize + 7 * index) % 65;
+        let graph = Graph::in_quarter(&mut self.rng, n, index % QUARTERS);
+        self.write_graph(&graph);
+        self.any_calls(2, 5);
         self.emit(ORDER, index as u64 % 66, 7);
+        let refused = self.known.refused();
+        let (_, op, number) = refused[index % refused.len()];
+        self.refused_call(op, number);
         if self.known.has(CHART) {
             let chart = charts::special(&mut self.rng, index);
             self.chart(&chart.bytes);
+            self.forget();
             self.emit(COUNT, 0, 0);
         }
     }
@@ -169,15 +217,24 @@ impl Maker {
 #[cfg(test)]
 mod tests {
     use super::*;
+    use crate::entries::{entries, Entry};
+    use crate::make::density::quarter;
+    use crate::naive::chart::read;
+    use crate::naive::layout::empty;
     use crate::naive::play::play;
+
+    /// Some lists of a kind.
+    fn lists(kind: &str) -> Vec<Made> {
+        let made = (0..200).map(|index| list(1, index, &Known::all()));
+        let lists: Vec<Made> = made.filter(|made| made.kind == kind).take(20).collect();
+        assert_eq!(lists.len(), 20, "{kind}");
+        lists
+    }
 
     /// The answer lines of some lists of a kind.
     fn lines(kind: &str) -> Vec<String> {
-        let made = (0..200).map(|index| list(1, index, &Known::all()));
-        let of_kind = made.filter(|made| made.kind == kind).take(20);
-        let lines: Vec<String> = of_kind.map(|made| play(&made.bytes)).collect();
-        assert_eq!(lines.len(), 20, "{kind}");
-        lines
+        let lists = lists(kind);
+        lists.iter().map(|made| play(&made.bytes)).collect()
     }
 
     fn is_start(line: &str) -> bool {
@@ -194,10 +251,11 @@ mod tests {
 
     #[test]
     fn graphs_with_ties_are_laid_from_every_vertex() {
-        for lines in lines("lay from every vertex") {
+        for made in lists("lay from every vertex") {
+            let lines = play(&made.bytes);
             let lines: Vec<&str> = lines.lines().collect();
-            let starts = lines.split(|line| is_start(line));
-            for behind in starts.filter(|behind| behind.iter().any(|l| l.starts_with("lay "))) {
+            let starts = lines.split(|line| is_start(line)).skip(1);
+            for behind in starts.take(made.graphs.len()) {
                 let lays = |start: &str| behind.iter().filter(|l| l.starts_with(start)).count();
                 let n = behind[0].split(" n ").nth(1).expect("a line has n");
                 let n = n.split(' ').next().expect("a number");
@@ -218,16 +276,68 @@ mod tests {
         }
     }
 
+    /// The numbers of vertices and edges of the layouts that calls start from.
+    fn starts(list: &[u8]) -> Vec<(usize, usize)> {
+        let mut starts = Vec::new();
+        let (mut ring, mut started) = (empty(), false);
+        for entry in entries(list) {
+            match entry {
+                Entry::Chart(chart) => (ring, started) = (read(chart).1, true),
+                Entry::Record([EMPTY, ..]) => (ring, started) = (empty(), true),
+                Entry::Record([SET_N, n, ..]) => ring.n = n,
+                Entry::Record([SET_WORD, v @ ..64, word, _]) => ring.words[v as usize] = word,
+                Entry::Record([op, ..]) if op >= ADD && started => {
+                    let ends: u32 = ring.words.iter().map(|word| word.count_ones()).sum();
+                    starts.push((ring.n as usize, ends as usize / 2));
+                    started = false;
+                }
+                _ => {}
+            }
+        }
+        starts
+    }
+
+    #[test]
+    fn large_graphs_have_every_density() {
+        let lists = lists("large graphs");
+        assert!(lists.iter().any(|made| !made.naive));
+        for made in lists {
+            let starts = starts(&made.bytes);
+            for (wanted, &(n, m)) in starts[..QUARTERS].iter().enumerate() {
+                assert!((LARGE..=64).contains(&n));
+                assert_eq!(quarter(n, m), wanted);
+            }
+        }
+    }
+
+    #[test]
+    fn a_large_graph_is_sifted_again_when_it_is_settled() {
+        for made in lists("large graphs") {
+            let texts: Vec<String> = entries(&made.bytes).iter().map(Entry::text).collect();
+            let again = ["settle with limit 1000", "round"];
+            assert!(texts.windows(2).any(|two| two == again));
+        }
+    }
+
+    #[test]
+    fn every_size_takes_its_turn() {
+        let made = (0..65).map(|index| list(9, index, &Known::all()));
+        let starts = made.map(|made| starts(&made.bytes));
+        let sizes: BTreeSet<usize> = starts.flatten().map(|(n, _)| n).collect();
+        assert!((0..=64).all(|n| sizes.contains(&n)), "{sizes:?}");
+    }
+
     #[test]
     fn kinds_without_their_call_are_not_made() {
         let known = Known::parse("layout,sifting").expect("known names");
         let kinds = kinds(&known);
-        let due = ["several hundred calls", "several starts"];
+        let due = ["large graphs", "several hundred calls", "several starts"];
         assert!(kinds.iter().eq(&due), "{kinds:?}");
         for index in 0..50 {
             let made = list(1, index, &known);
             assert!(kinds.contains(made.kind));
-            assert!(!play(&made.bytes).contains("lay "));
+            let lays = |entry: &Entry| entry.text().starts_with("lay");
+            assert!(!entries(&made.bytes).iter().any(lays));
         }
     }
 }

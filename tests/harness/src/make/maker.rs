@@ -13,8 +13,12 @@ const CALLS: [u64; 25] = [
     SIFT, SIFT, SIFT, ROUND, SETTLE, SETTLE, COUNT, ORDER, ORDER, PAIR,
 ];
 
-/// What the naive model may do for one list.
-const BUDGET: u64 = 1 << 28;
+/// What the naive model may do for the calls of one list that are chosen by it.
+const NAIVE: u64 = 1 << 28;
+
+/// What the proved program may do, in nanoseconds, for one large graph's calls
+/// that are chosen by it.
+const PROVED: u64 = 150_000_000;
 
 /// A list in the making. What is held of the layout is what it is if it was
 /// valid at its start, and otherwise good enough to name vertices and edges by.
@@ -29,8 +33,17 @@ pub struct Maker {
     /// How many calls there are.
     pub calls: usize,
     pub n: usize,
-    edges: Vec<Edge>,
-    budget: u64,
+    pub edges: Vec<Edge>,
+    budget: Budget,
+    /// What the naive model would have to do for all of it.
+    naive: u64,
+}
+
+/// What is left for calls, and who has to bear them.
+#[derive(Clone, Copy)]
+enum Budget {
+    Naive(u64),
+    Proved(u64),
 }
 
 impl Maker {
@@ -44,8 +57,20 @@ impl Maker {
             calls: 0,
             n: 0,
             edges: Vec::new(),
-            budget: BUDGET,
+            budget: Budget::Naive(NAIVE),
+            naive: 0,
         }
+    }
+
+    /// From here on calls may be too dear for the naive model, up to what the
+    /// proved program may do for one graph.
+    pub fn without_naive(&mut self) {
+        self.budget = Budget::Proved(PROVED);
+    }
+
+    /// Whether the naive model can play the list in bearable time.
+    pub fn is_naive(&self) -> bool {
+        self.naive <= cost::NAIVE
     }
 
     pub fn record(&mut self, record: Record) {
@@ -92,7 +117,10 @@ impl Maker {
 
     /// The most edges with which n vertices can be settled a few times.
     pub fn most_edges(&self, n: usize) -> usize {
-        cost::most_edges(n, self.budget / 4)
+        match self.budget {
+            Budget::Naive(left) => cost::most_edges(n, left / 4),
+            Budget::Proved(_) => usize::MAX,
+        }
     }
 
     /// So many calls of any kind.
@@ -125,18 +153,40 @@ impl Maker {
         if !self.known.has(op) {
             return;
         }
-        self.budget = self.budget.saturating_sub(self.cost(op, a));
+        self.spend(op, a);
         self.record([op, a, b, 0]);
         self.calls += 1;
         self.follow(op, a, b);
     }
 
-    /// Whether the budget allows a call, a settling with a high limit too.
-    pub fn allows(&self, op: u64) -> bool {
-        self.cost(op, 1000) <= self.budget
+    /// Every known call once, in any sequence.
+    pub fn every_call(&mut self) {
+        let mut calls = self.known.among(&CALLS);
+        calls.dedup();
+        self.rng.shuffle(&mut calls);
+        for op in calls {
+            self.call(op);
+        }
     }
 
-    fn cost(&self, op: u64, a: u64) -> u64 {
+    /// Whether the budget allows a call, a settling with a high limit too.
+    pub fn allows(&self, op: u64) -> bool {
+        match self.budget {
+            Budget::Naive(left) => self.naive_cost(op, 1000) <= left,
+            Budget::Proved(left) => self.proved_cost(op, 1000) <= left,
+        }
+    }
+
+    fn spend(&mut self, op: u64, a: u64) {
+        let (naive, proved) = (self.naive_cost(op, a), self.proved_cost(op, a));
+        self.naive = self.naive.saturating_add(naive);
+        self.budget = match self.budget {
+            Budget::Naive(left) => Budget::Naive(left.saturating_sub(naive)),
+            Budget::Proved(left) => Budget::Proved(left.saturating_sub(proved)),
+        };
+    }
+
+    fn naive_cost(&self, op: u64, a: u64) -> u64 {
         let (n, m) = (self.n, self.edges.len());
         match op {
             LINK | UNLINK | MOVE => 2 * cost::count(m),
@@ -146,6 +196,16 @@ impl Maker {
             SETTLE if a <= 1000 => cost::rounds(n, m, a),
             _ => 0,
         }
+    }
+
+    fn proved_cost(&self, op: u64, a: u64) -> u64 {
+        let sifts = match op {
+            SIFT => 1,
+            ROUND => cost::sifts(self.n, 1),
+            SETTLE if a <= 1000 => cost::sifts(self.n, a),
+            _ => 0,
+        };
+        cost::proved_sifts(self.n, sifts)
     }
 
     /// What a call does to the vertices and the edges.
@@ -162,87 +222,5 @@ impl Maker {
             }
             _ => {}
         }
-    }
-}
-
-/// Arguments.
-impl Maker {
-    fn arguments(&mut self, op: u64) -> (u64, u64) {
-        match op {
-            LINK if self.rng.once_in(6) => self.known_edge(),
-            UNLINK if !self.rng.once_in(4) => self.known_edge(),
-            LINK | UNLINK | MOVE => self.two_vertices(),
-            LAY | SIFT => (self.vertex(), 0),
-            SETTLE => (self.limit(), 0),
-            ORDER => (self.buffer(), self.rng.below(300) as u64),
-            _ => (0, 0),
-        }
-    }
-
-    /// A vertex, now and then one that isn't there.
-    pub fn vertex(&mut self) -> u64 {
-        let v = self.rng.below(self.n.max(1)) as u64;
-        if !self.rng.once_in(12) {
-            return v;
-        }
-        let n = self.n as u64;
-        let near = [n, n + 1, 63, 64, 255, 256, 256 + v, 65_536 + v];
-        let far = [1 << 32, (1 << 32) + v, (1 << 63) + v, u64::MAX];
-        let from = if self.rng.once_in(2) { &near[..] } else { &far };
-        self.rng.pick(from)
-    }
-
-    /// Two vertices, now and then the same.
-    pub fn two_vertices(&mut self) -> (u64, u64) {
-        let a = self.vertex();
-        let b = if self.rng.once_in(12) {
-            a
-        } else {
-            self.vertex()
-        };
-        (a, b)
-    }
-
-    /// An edge that is there, either way round.
-    fn known_edge(&mut self) -> (u64, u64) {
-        if self.edges.is_empty() {
-            return self.two_vertices();
-        }
-        let (a, b) = self.rng.pick(&self.edges);
-        let ends = (u64::from(a), u64::from(b));
-        self.rng.pick(&[ends, (ends.1, ends.0)])
-    }
-
-    fn limit(&mut self) -> u64 {
-        let any = self.rng.within(1, 1000) as u64;
-        let wide = 1 << 32;
-        self.rng.pick(&[
-            0,
-            1,
-            1,
-            2,
-            2,
-            3,
-            50,
-            50,
-            50,
-            any,
-            any,
-            1000,
-            1000,
-            1001,
-            wide - 1,
-            wide,
-            wide + 1,
-            u64::MAX,
-        ])
-    }
-
-    fn buffer(&mut self) -> u64 {
-        let n = self.n as u64;
-        let any = self.rng.below(66) as u64;
-        let odd = self.rng.pick(&[64, 255, 256, 1 << 32, u64::MAX]);
-        let lengths = [n, n + 1, n.saturating_sub(1), any, any, odd];
-        self.rng.pick(&lengths)
     }
 }

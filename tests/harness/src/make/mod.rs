@@ -1,13 +1,18 @@
 //! Makes charts and lists of calls from a seed.
 
+pub mod arguments;
 pub mod charts;
 pub mod cost;
+pub mod density;
 pub mod families;
+pub mod five;
 pub mod graph;
 pub mod lists;
 pub mod maker;
 pub mod ops;
 pub mod records;
+pub mod refused;
+pub mod settled;
 pub mod special;
 pub mod spoil;
 pub mod starts;

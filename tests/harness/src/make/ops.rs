@@ -1,8 +1,6 @@
 //! The ops of a list's records (tests/README.md), and the calls among them that
 //! the programs under test know.
 
-use std::collections::BTreeSet;
-
 /// A record of a list: an op and three numbers.
 pub type Record = [u64; 4];
 
@@ -108,10 +106,13 @@ impl Known {
         answers
     }
 
-    /// The refusal numbers that the known calls can answer.
-    pub fn refusals(&self) -> BTreeSet<u8> {
-        let numbers = self.answers().into_iter().map(|(_, number)| number);
-        numbers.filter(|&number| number != 0).collect()
+    /// The known calls on a layout: name, op, and each refusal number that
+    /// the call can answer.
+    pub fn refused(&self) -> Vec<(&'static str, u64, u8)> {
+        let on_layout = self.0.iter().filter(|&&(_, op, _)| op != CHART);
+        let each = on_layout
+            .flat_map(|&(name, op, numbers)| numbers.iter().map(move |&number| (name, op, number)));
+        each.collect()
     }
 }
 
@@ -124,8 +125,6 @@ mod tests {
         let known = Known::parse("layout,sift").expect("known names");
         assert!(known.has(MOVE) && known.has(SIFT) && known.has(SET_N));
         assert!(!known.has(SETTLE) && !known.has(CHART));
-        let numbers = [11, 12, 13, 14, 15, 16, 18];
-        assert!(known.refusals().into_iter().eq(numbers));
         assert!(Known::parse("layout,shift").is_none());
         assert!(Known::parse("").is_none());
         assert!(Known::parse("chart").is_none());
@@ -142,7 +141,17 @@ mod tests {
 
     #[test]
     fn all_calls_have_all_refusal_numbers() {
-        let numbers = (1..=8).chain(11..=18);
-        assert!(Known::all().refusals().into_iter().eq(numbers));
+        let answers = Known::all().answers();
+        for number in (0..=8).chain(11..=18) {
+            assert!(answers.iter().any(|answer| answer.1 == number), "{number}");
+        }
+        assert_eq!(answers.len(), 12 + 8 + 24);
+    }
+
+    #[test]
+    fn each_call_on_a_layout_is_refused_with_its_numbers() {
+        let known = Known::parse("chart,add,round").expect("known names");
+        let due = [("add", ADD, 11), ("add", ADD, 16), ("round", ROUND, 11)];
+        assert_eq!(known.refused(), due);
     }
 }

@@ -5,12 +5,12 @@ use super::families::{self, Family};
 use super::graph::Graph;
 use super::maker::Maker;
 use super::ops::*;
-use super::spoil::{n_over_64, SPOILS};
+use super::settled::{self, settled};
 
 /// A way to start: its name, an op that it cannot do without, and what it does.
 pub type Start = (&'static str, u64, fn(&mut Maker));
 
-const STARTS: [Start; 9] = [
+const STARTS: [Start; 10] = [
     ("empty", EMPTY, Maker::start_empty),
     ("chart", CHART, |maker| {
         maker.start_graph(Maker::write_chart)
@@ -27,6 +27,7 @@ const STARTS: [Start; 9] = [
     ("fields at random", EMPTY, Maker::start_random),
     ("refused chart", CHART, Maker::start_refused),
     ("64 vertices, and add", ADD, Maker::start_full),
+    ("settled already", EMPTY, Maker::start_settled),
     FAMILY,
 ];
 
@@ -97,16 +98,7 @@ impl Maker {
         let graph = self.graph();
         write(self, &graph);
         self.any_count();
-        let (name, spoil) = self.rng.pick(&SPOILS);
-        let mut records = spoil(&mut self.rng, &graph);
-        if records.is_empty() {
-            records = n_over_64(&mut self.rng, &graph);
-        } else {
-            self.starts.push(name);
-        }
-        for record in records {
-            self.record(record);
-        }
+        self.spoil(&graph);
         self.any_calls(2, 8);
     }
 
@@ -142,6 +134,18 @@ impl Maker {
         self.chart(&chart.bytes);
         self.forget();
         self.any_calls(1, 4);
+    }
+
+    /// A graph in an order that sifting leaves, sifted and changed.
+    fn start_settled(&mut self) {
+        let n = self.rng.below(65);
+        let most = settled::most_edges(n).min(self.most_edges(n));
+        let graph = Graph::random(&mut self.rng, n, most);
+        let graph = settled(&graph).unwrap_or(graph);
+        self.write_graph(&graph);
+        self.any_count();
+        self.some_calls(&[SIFT, SIFT, ROUND, SETTLE]);
+        self.any_calls(2, 12);
     }
 
     fn start_full(&mut self) {

@@ -1,0 +1,160 @@
+//! What the naive model still counts where playing is too dear for it: the
+//! crossings of each layout that a program printed.
+
+use crate::entries::{entries, Entry};
+use crate::followed::Followed;
+use crate::naive::chart::read;
+use crate::naive::layout::{crossings, edges, list, valid, Layout};
+
+/// The calls whose first answer is the saving.
+const SAVING: [&str; 3] = ["sift", "round", "settle"];
+
+/// Whether in the answer lines of a list each accepted chart is read as it is
+/// due, each accepted call leaves a valid layout and changes the carried count
+/// by crossings after less crossings before, and each saving is their
+/// difference. Tells the first line, counted from 1, in which it isn't so.
+pub fn check_lines(bytes: &[u8], lines: &str) -> Result<(), (usize, String)> {
+    let mut followed = Followed::new();
+    let mut lines = lines.lines().enumerate();
+    for entry in entries(bytes) {
+        followed.set(&entry);
+        let Some((i, line)) = entry.says().then(|| lines.next()).flatten() else {
+            continue;
+        };
+        let before = followed.0.clone();
+        followed.line(line);
+        let checked = match entry {
+            Entry::Chart(chart) if followed.0 != read(chart).1 => Err("not what is read".into()),
+            Entry::Record(_) if is_accepted_call(line) => check_call(line, &before, &followed.0),
+            _ => Ok(()),
+        };
+        checked.map_err(|text| (i + 1, text))?;
+    }
+    Ok(())
+}
+
+fn is_accepted_call(line: &str) -> bool {
+    let mut words = line.split(' ');
+    words.next() != Some("empty") && words.next() == Some("0")
+}
+
+fn check_call(line: &str, before: &Layout, after: &Layout) -> Result<(), String> {
+    if !valid(before) || !valid(after) {
+        return Err("accepted, but not valid".to_string());
+    }
+    let [had, has] = [before, after].map(|layout| crossings(&list(layout), &edges(layout)));
+    if after.count.wrapping_sub(before.count) != has.wrapping_sub(had) {
+        let (from, to) = (before.count, after.count);
+        return Err(format!(
+            "count from {from} to {to}, crossings from {had} to {has}"
+        ));
+    }
+    let words: Vec<&str> = line.split(' ').collect();
+    let saving = had.wrapping_sub(has).to_string();
+    if SAVING.contains(&words[0]) && words.get(2) != Some(&&saving[..]) {
+        return Err(format!("crossings from {had} to {has}, another saving"));
+    }
+    Ok(())
+}
+
+/// Whether a listing has the edges and the crossings of its chart, and the
+/// crossings of the order that it ends with.
+pub fn check_listing(chart: &[u8], listing: &str) -> Result<(), String> {
+    let (refusal, mut ring) = read(chart);
+    if refusal != 0 {
+        return Ok(());
+    }
+    let edges = edges(&ring);
+    let before = crossings(&list(&ring), &edges);
+    let order = listing
+        .lines()
+        .last()
+        .unwrap_or_default()
+        .split(' ')
+        .skip(1);
+    let order: Vec<u8> = order.filter_map(|word| word.parse().ok()).collect();
+    if order.len() != ring.n as usize {
+        return Err("an order of another length".to_string());
+    }
+    ring.order[..order.len()].copy_from_slice(&order);
+    if !valid(&ring) {
+        return Err("an order without some vertex".to_string());
+    }
+    let after = crossings(&list(&ring), &edges);
+    let (n, m) = (ring.n, edges.len());
+    let due = format!("devices {n}\nlinks {m}\nbefore {before}\nafter {after}\nrounds ");
+    if listing.starts_with(&due) {
+        Ok(())
+    } else {
+        Err(format!(
+            "{m} edges, crossings from {before} to {after} are due"
+        ))
+    }
+}
+
+#[cfg(test)]
+mod tests {
+    use super::*;
+    use crate::make::charts::Chart;
+    use crate::make::graph::Graph;
+    use crate::make::lists;
+    use crate::make::ops::{Known, SETTLE, SIFT};
+    use crate::make::records;
+    use crate::naive::list::listing;
+    use crate::naive::play::play;
+
+    /// The chart of document 01's first ring.
+    fn square() -> Vec<u8> {
+        let (edges, order) = (vec![(0, 2), (1, 3)], vec![0, 1, 2, 3]);
+        Chart::of(&Graph { edges, order }).bytes()
+    }
+
+    #[test]
+    fn what_the_naive_model_prints_is_right() {
+        let known = Known::all();
+        for made in (0..40).map(|index| lists::list(7, index, &known)) {
+            if made.naive {
+                assert_eq!(check_lines(&made.bytes, &play(&made.bytes)), Ok(()));
+            }
+        }
+        assert_eq!(check_listing(&square(), &listing(&square())), Ok(()));
+        assert_eq!(check_listing(&[], &listing(&[])), Ok(()));
+    }
+
+    #[test]
+    fn a_wrong_count_order_or_saving_is_found() {
+        let calls = [[SIFT, 0, 0, 0], [SETTLE, 9, 0, 0]].map(records::bytes);
+        let list = [records::chart(&square()), calls.concat()].concat();
+        let lines = play(&list);
+        assert_eq!(check_lines(&list, &lines), Ok(()));
+        for (line, from, to) in [
+            (1, "count 1 words", "count 2 words"),
+            (1, "words 0 4 1 8 2 1 3 2", "words 0 4 2 1"),
+            (2, "sift 0 1 n", "sift 0 2 n"),
+            (2, "order 1 0 2", "order 1 1 2"),
+            (2, "count 0 words", "count 1 words"),
+            (3, "settle 0 0", "settle 0 1"),
+        ] {
+            let wrong = lines.replacen(from, to, 1);
+            assert_ne!(wrong, lines, "{from}");
+            let found = check_lines(&list, &wrong).map_err(|(line, _)| line);
+            assert_eq!(found, Err(line), "{to}");
+        }
+    }
+
+    #[test]
+    fn a_wrong_listing_is_found() {
+        let due = listing(&square());
+        for (from, to) in [
+            ("links 2", "links 3"),
+            ("before 1", "before 0"),
+            ("after 0", "after 1"),
+            ("order 1 0", "order 0 1"),
+            ("order 1 0", "order 1 1"),
+            ("order 1 0", "order 1"),
+        ] {
+            let wrong = due.replace(from, to);
+            assert!(check_listing(&square(), &wrong).is_err(), "{to}");
+        }
+    }
+}

@@ -1,0 +1,169 @@
+//! What stands in a list of calls, read back record by record.
+
+use crate::make::ops::*;
+
+/// Bytes in a record; a chart is padded to a multiple of it.
+const RECORD: usize = 32;
+
+/// A record of a list, or what ends it.
+#[derive(Clone, Debug, PartialEq)]
+pub enum Entry<'a> {
+    /// A start from a chart, with the chart.
+    Chart(&'a [u8]),
+    /// Any other record that is played.
+    Record(Record),
+    /// A record with an unknown op, behind which nothing is played.
+    Unknown(u64),
+    /// A record that is cut short.
+    CutRecord,
+    /// A chart of so many bytes that is cut short, or its padding.
+    CutChart(u64),
+}
+
+/// The records of a list, up to its end.
+pub fn entries(mut list: &[u8]) -> Vec<Entry<'_>> {
+    let mut entries = Vec::new();
+    while !list.is_empty() && !entries.last().is_some_and(Entry::ends) {
+        entries.push(take(&mut list));
+    }
+    entries
+}
+
+fn take<'a>(list: &mut &'a [u8]) -> Entry<'a> {
+    let Some((bytes, rest)) = list.split_at_checked(RECORD) else {
+        return Entry::CutRecord;
+    };
+    *list = rest;
+    let mut record: Record = [0; 4];
+    for (number, bytes) in record.iter_mut().zip(bytes.chunks(8)) {
+        *number = bytes
+            .iter()
+            .rev()
+            .fold(0, |sum, &byte| sum << 8 | u64::from(byte));
+    }
+    match record[0] {
+        CHART => take_chart(list, record[1]),
+        EMPTY | SET_N..=SET_COUNT | ADD..=PAIR => Entry::Record(record),
+        op => Entry::Unknown(op),
+    }
+}
+
+fn take_chart<'a>(list: &mut &'a [u8], length: u64) -> Entry<'a> {
+    let whole = usize::try_from(length).ok();
+    let padded = whole.and_then(|length| length.checked_next_multiple_of(RECORD));
+    let parts = padded.and_then(|padded| list.split_at_checked(padded));
+    let (Some((chart, rest)), Some(length)) = (parts, whole) else {
+        return Entry::CutChart(length);
+    };
+    *list = rest;
+    Entry::Chart(&chart[..length])
+}
+
+impl Entry<'_> {
+    fn ends(&self) -> bool {
+        !matches!(self, Entry::Chart(_) | Entry::Record(_))
+    }
+
+    /// Whether a line is printed for it.
+    pub fn says(&self) -> bool {
+        !matches!(self, Entry::Record([SET_N..=SET_COUNT, ..]))
+    }
+
+    /// The record in words.
+    pub fn text(&self) -> String {
+        match self {
+            Entry::Chart(chart) => format!("chart of {} bytes", chart.len()),
+            Entry::Record(record) => record_text(*record),
+            Entry::Unknown(op) => format!("unknown op {op}"),
+            Entry::CutRecord => "a record cut short".to_string(),
+            Entry::CutChart(length) => format!("chart of {length} bytes, cut short"),
+        }
+    }
+}
+
+fn record_text([op, a, b, _]: Record) -> String {
+    match op {
+        EMPTY => "empty".to_string(),
+        SET_N => format!("set n to {a}"),
+        SET_ORDER => format!("set place {a} of the order to {b}"),
+        SET_WORD => format!("set word {a} to {b}"),
+        SET_COUNT => format!("set the count to {a}"),
+        ADD => "add".to_string(),
+        LINK => format!("link {a} {b}"),
+        UNLINK => format!("unlink {a} {b}"),
+        MOVE => format!("move {a} behind {b}"),
+        LAY => format!("lay from {a}"),
+        SIFT => format!("sift {a}"),
+        ROUND => "round".to_string(),
+        SETTLE => format!("settle with limit {a}"),
+        COUNT => "count".to_string(),
+        ORDER => format!("order into {a} bytes of {b}"),
+        _ => "pair".to_string(),
+    }
+}
+
+#[cfg(test)]
+mod tests {
+    use super::*;
+    use crate::make::records::{bytes, chart};
+    use crate::make::{lists, stored};
+    use crate::naive::play::play;
+
+    fn texts(list: &[u8]) -> Vec<String> {
+        entries(list).iter().map(Entry::text).collect()
+    }
+
+    #[test]
+    fn records_are_told_in_words() {
+        let records = [[LINK, 3, 7, 0], [ORDER, 12, 255, 0], [SET_ORDER, 4, 9, 0]];
+        let mut list = records.map(bytes).concat();
+        list.extend(chart(&[0x44, 0, 1]));
+        list.extend(bytes([SETTLE, 1000, 0, 0]));
+        let due = [
+            "link 3 7",
+            "order into 12 bytes of 255",
+            "set place 4 of the order to 9",
+            "chart of 3 bytes",
+            "settle with limit 1000",
+        ];
+        assert_eq!(texts(&list), due);
+        let says: Vec<bool> = entries(&list).iter().map(Entry::says).collect();
+        assert_eq!(says, [true, true, false, true, true]);
+    }
+
+    #[test]
+    fn nothing_is_read_behind_the_end() {
+        let add = bytes([ADD, 0, 0, 0]);
+        let unknown = bytes([27, 0, 0, 0]);
+        assert_eq!(
+            texts(&[&add[..], &unknown, &add].concat()),
+            ["add", "unknown op 27"]
+        );
+        assert_eq!(texts(&add[..31]), ["a record cut short"]);
+        let long = bytes([CHART, u64::MAX, 0, 0]);
+        let cut = format!("chart of {} bytes, cut short", u64::MAX);
+        assert_eq!(texts(&[long, add].concat()), [cut]);
+        let padding = chart(&[0x44]);
+        assert_eq!(texts(&padding[..63]), ["chart of 1 bytes, cut short"]);
+    }
+
+    #[test]
+    fn each_line_has_its_record() {
+        let known = Known::all();
+        let made = (0..60).map(|index| lists::list(5, index, &known));
+        let mut all: Vec<Vec<u8>> = made
+            .filter(|made| made.naive)
+            .map(|made| made.bytes)
+            .collect();
+        all.push(stored::list(&known));
+        for list in all {
+            let lines = play(&list);
+            let said: Vec<Entry> = entries(&list).into_iter().filter(Entry::says).collect();
+            assert_eq!(said.len(), lines.lines().count());
+            for (entry, line) in said.iter().zip(lines.lines()) {
+                let name = line.split(' ').next().expect("a word");
+                assert!(name == "end" && entry.ends() || entry.text().starts_with(name));
+            }
+        }
+    }
+}

@@ -1,0 +1,112 @@
+//! The numbers that calls of a list are made with.
+
+use super::graph::{all_pairs, Edge};
+use super::maker::Maker;
+use super::ops::*;
+
+impl Maker {
+    /// Numbers for a call, now and then such that it refuses.
+    pub fn arguments(&mut self, op: u64) -> (u64, u64) {
+        match op {
+            LINK if self.rng.once_in(6) => self.known_edge(),
+            LINK => self.unknown_edge(),
+            UNLINK if !self.rng.once_in(4) => self.known_edge(),
+            UNLINK | MOVE => self.two_vertices(),
+            LAY | SIFT => (self.vertex(), 0),
+            SETTLE => (self.limit(), 0),
+            ORDER => (self.buffer(), self.rng.below(300) as u64),
+            _ => (0, 0),
+        }
+    }
+
+    /// A vertex, now and then one that isn't there.
+    pub fn vertex(&mut self) -> u64 {
+        let v = self.rng.below(self.n.max(1)) as u64;
+        if self.rng.once_in(12) {
+            self.far_vertex(v)
+        } else {
+            v
+        }
+    }
+
+    /// What is no vertex, unless there are 64.
+    pub fn far_vertex(&mut self, v: u64) -> u64 {
+        let n = self.n as u64;
+        let near = [n, n + 1, 63, 64, 255, 256, 256 + v, 65_536 + v];
+        let far = [1 << 32, (1 << 32) + v, (1 << 63) + v, u64::MAX];
+        let from = if self.rng.once_in(2) { &near[..] } else { &far };
+        self.rng.pick(from)
+    }
+
+    /// Two vertices, now and then the same.
+    pub fn two_vertices(&mut self) -> (u64, u64) {
+        let a = self.vertex();
+        let b = if self.rng.once_in(12) {
+            a
+        } else {
+            self.vertex()
+        };
+        (a, b)
+    }
+
+    /// An edge that is there, either way round.
+    fn known_edge(&mut self) -> (u64, u64) {
+        if self.edges.is_empty() {
+            return self.two_vertices();
+        }
+        let (a, b) = self.rng.pick(&self.edges);
+        let ends = (u64::from(a), u64::from(b));
+        self.rng.pick(&[ends, (ends.1, ends.0)])
+    }
+
+    /// Two vertices, in a dense graph too nearly always such that aren't joined,
+    /// if there are any.
+    fn unknown_edge(&mut self) -> (u64, u64) {
+        let named = self.two_vertices();
+        let joined =
+            |edge: &Edge| self.edges.contains(edge) || self.edges.contains(&(edge.1, edge.0));
+        if !joined(&(named.0 as u8, named.1 as u8)) || self.rng.once_in(6) {
+            return named;
+        }
+        let mut others = all_pairs(self.n);
+        others.retain(|pair| !joined(pair));
+        if others.is_empty() {
+            return named;
+        }
+        let (a, b) = self.rng.pick(&others);
+        self.rng.pick(&[(a.into(), b.into()), (b.into(), a.into())])
+    }
+
+    fn limit(&mut self) -> u64 {
+        let any = self.rng.within(1, 1000) as u64;
+        let wide = 1 << 32;
+        self.rng.pick(&[
+            0,
+            1,
+            1,
+            2,
+            2,
+            3,
+            50,
+            50,
+            50,
+            any,
+            any,
+            1000,
+            1000,
+            1001,
+            wide - 1,
+            wide,
+            wide + 1,
+            u64::MAX,
+        ])
+    }
+
+    fn buffer(&mut self) -> u64 {
+        let n = self.n as u64;
+        let any = self.rng.below(66) as u64;
+        let odd = self.rng.pick(&[64, 255, 256, 1 << 32, u64::MAX]);
+        let lengths = [n, n + 1, n.saturating_sub(1), any, any, odd];
+        self.rng.pick(&lengths)
+    }
+}

@@ -1,0 +1,223 @@
+//! What a long run should have met but did not.
+
+use std::collections::BTreeSet;
+use std::ops::RangeInclusive;
+
+use super::{Counts, Quarters, Tally};
+use crate::make::ops::{Known, ORDER};
+use crate::make::{charts, families, lists, starts};
+
+/// The quarters of all possible edges in words.
+const QUARTER: [&str; 4] = ["first", "second", "third", "last"];
+
+impl Tally {
+    /// What a long run of such lists, and of charts if there are any, should
+    /// have met but did not.
+    pub fn missing(&self, known: &Known, charts: bool) -> Vec<String> {
+        let mut missing = Vec::new();
+        if charts {
+            missing.extend(self.missing_charts());
+        }
+        missing.extend(self.missing_answers(known));
+        missing.extend(self.missing_quarters(known));
+        missing.extend(absent("list", lists::kinds(known), &self.lists));
+        let starts = starts::open(known).into_iter().map(|(name, ..)| name);
+        missing.extend(absent("start", starts, &self.starts));
+        missing.extend(absent("graph in lists", families(), &self.list_graphs));
+        missing.extend(without("calls on size", 0..=64, &self.list_sizes));
+        if known.has(ORDER) {
+            missing.extend(without("buffer of", 0..=65, &self.buffers));
+        }
+        missing
+    }
+
+    fn missing_charts(&self) -> Vec<String> {
+        let refusals = (0..=8).filter(|number| !self.listings.contains_key(number));
+        let mut missing: Vec<String> = refusals.map(|number| answer("listing", number)).collect();
+        missing.extend(absent("chart", charts::ACCEPTED, &self.charts));
+        missing.extend(absent("graph in charts", families(), &self.chart_graphs));
+        missing.extend(without("chart of size", 0..=64, &self.chart_sizes));
+        missing.extend(empty_quarters("large chart", &self.chart_quarters));
+        missing
+    }
+
+    /// Each call must have been accepted, and refused with each number that it
+    /// can answer.
+    fn missing_answers(&self, known: &Known) -> Vec<String> {
+        let met = |name, number| {
+            let answers = self.answers.get(name);
+            answers.is_some_and(|answers| answers.contains_key(&number))
+        };
+        let answers = known.answers().into_iter();
+        let missing = answers.filter(|&(name, number)| !met(name, number));
+        missing.map(|(name, number)| answer(name, number)).collect()
+    }
+
+    /// Each call must have been accepted on large graphs of every density.
+    fn missing_quarters(&self, known: &Known) -> Vec<String> {
+        let names: BTreeSet<&str> = known.refused().into_iter().map(|(name, ..)| name).collect();
+        let missing = names.into_iter().flat_map(|name| {
+            let quarters = self.call_quarters.get(name).copied().unwrap_or_default();
+            empty_quarters(&format!("{name} on a large graph"), &quarters)
+        });
+        missing.collect()
+    }
+}
+
+fn families() -> Vec<&'static str> {
+    families::all().iter().map(|family| family.name).collect()
+}
+
+fn answer(name: &str, number: u8) -> String {
+    match number {
+        0 => format!("{name}, accepted"),
+        number => format!("{name} with refusal {number}"),
+    }
+}
+
+fn empty_quarters(title: &str, quarters: &Quarters) -> Vec<String> {
+    let empty = QUARTER
+        .iter()
+        .zip(quarters)
+        .filter(|(_, &times)| times == 0);
+    let told = |(quarter, _)| format!("{title} with edges in the {quarter} quarter");
+    empty.map(told).collect()
+}
+
+/// Those names that were never counted.
+fn absent(
+    title: &str,
+    names: impl IntoIterator<Item = &'static str>,
+    counts: &Counts,
+) -> Vec<String> {
+    let absent = names.into_iter().filter(|&name| !counts.contains_key(name));
+    absent.map(|name| format!("{title}, {name}")).collect()
+}
+
+/// Those numbers that were never met.
+fn without(title: &str, numbers: RangeInclusive<usize>, met: &BTreeSet<usize>) -> Vec<String> {
+    let missing = numbers.filter(|number| !met.contains(number));
+    missing.map(|number| format!("{title} {number}")).collect()
+}
+
+#[cfg(test)]
+mod tests {
+    use super::*;
+    use crate::make::ops::{ADD, LINK, SET_N};
+    use crate::make::records;
+
+    /// What there is of each: kinds of list, of which two need lay, ways to
+    /// start, of which one needs add and three chart, and families of graphs.
+    const LISTS: usize = 5;
+    const STARTS: usize = 10;
+    const GRAPHS: usize = 15;
+    /// Calls, and their answers; those of charts.
+    const CALLS: usize = 11;
+    const ANSWERS: usize = 44;
+    const LISTINGS: usize = 9;
+
+    fn list(records: &[[u64; 4]]) -> lists::Made {
+        lists::Made {
+            bytes: records.iter().flat_map(|&r| records::bytes(r)).collect(),
+            kind: "several starts",
+            starts: vec!["empty"],
+            graphs: vec!["path", "path"],
+            naive: true,
+        }
+    }
+
+    fn chart() -> charts::Made {
+        charts::Made {
+            bytes: Vec::new(),
+            kind: "settled already",
+            family: Some("path"),
+            refusal: None,
+            naive: false,
+        }
+    }
+
+    /// What is missing with all calls.
+    fn missing(tally: &Tally) -> BTreeSet<String> {
+        tally.missing(&Known::all(), true).into_iter().collect()
+    }
+
+    /// What is no longer missing behind some charts and lists.
+    fn met(change: impl Fn(&mut Tally)) -> Vec<String> {
+        let mut tally = Tally::default();
+        let before = missing(&tally);
+        change(&mut tally);
+        before.difference(&missing(&tally)).cloned().collect()
+    }
+
+    #[test]
+    fn at_first_everything_is_missing() {
+        let of_charts = LISTINGS + 3 + GRAPHS + 65 + 4;
+        let of_lists = ANSWERS + 4 * CALLS + LISTS + STARTS + GRAPHS + 65 + 66;
+        assert_eq!(missing(&Tally::default()).len(), of_charts + of_lists);
+        let few = Known::parse("add,order").expect("known names");
+        let of_few = 6 + 4 * 2 + (LISTS - 2) + (STARTS - 3) + GRAPHS + 65 + 66;
+        assert_eq!(Tally::default().missing(&few, false).len(), of_few);
+    }
+
+    #[test]
+    fn a_chart_is_met() {
+        let accepted = met(|tally| tally.chart(&chart(), "devices 40\nlinks 780\nbefore 1\n"));
+        let due = [
+            "chart of size 40",
+            "chart, settled already",
+            "graph in charts, path",
+            "large chart with edges in the last quarter",
+            "listing, accepted",
+        ];
+        assert_eq!(accepted, due);
+        let refused = met(|tally| tally.chart(&chart(), "refused 3\n"));
+        assert!(refused.contains(&"listing with refusal 3".to_string()));
+        assert_eq!(refused.len(), 3);
+    }
+
+    #[test]
+    fn a_refusal_number_is_met_by_the_call_that_answers_it() {
+        let line = "link 12 n 40 order 0 count 0 words\n";
+        let refused = met(|tally| tally.list(&list(&[[LINK, 3, 40, 0]]), line));
+        let due = [
+            "calls on size 40",
+            "graph in lists, path",
+            "link with refusal 12",
+            "list, several starts",
+            "start, empty",
+        ];
+        assert_eq!(refused, due);
+        let line = "add 11 n 40 order 0 count 0 words\n";
+        let refused = met(|tally| tally.list(&list(&[[ADD, 0, 0, 0]]), line));
+        assert!(!refused.contains(&"calls on size 40".to_string()));
+        assert!(refused.contains(&"add with refusal 11".to_string()));
+    }
+
+    #[test]
+    fn an_accepted_call_is_met_with_its_size_and_density() {
+        let line = "link 0 n 40 order 0 count 0 words 3 16 4 8\n";
+        let records = [[SET_N, 40, 0, 0], [LINK, 3, 4, 0]];
+        let accepted = met(|tally| tally.list(&list(&records), line));
+        for due in [
+            "link, accepted",
+            "calls on size 40",
+            "link on a large graph with edges in the first quarter",
+        ] {
+            assert!(accepted.contains(&due.to_string()), "{due}");
+        }
+    }
+
+    #[test]
+    fn a_buffer_is_met_and_counted() {
+        let mut tally = Tally::default();
+        tally.list(
+            &list(&[[ORDER, 2, 1, 0]]),
+            "order 18 buffer 1 1 n 3 order 0\n",
+        );
+        assert!(!missing(&tally).contains("buffer of 2"));
+        assert_eq!(tally.calls(), 1);
+        tally.chart(&chart(), "refused 3\n");
+        assert_eq!(tally.without_naive(), (1, 0));
+        assert!(tally.text().contains("answers of order:, 18 1\n"));
+    }
+}

@@ -1,0 +1,212 @@
+//! How often each thing occurred in a run.
+
+mod missing;
+
+use std::collections::{BTreeMap, BTreeSet};
+
+use crate::entries::{entries, Entry};
+use crate::followed::Followed;
+use crate::make::charts;
+use crate::make::density::{quarter, LARGE, QUARTERS};
+use crate::make::lists;
+
+/// From so many charts and lists on, everything must have occurred.
+pub const ENOUGH: usize = 100;
+
+type Counts = BTreeMap<String, usize>;
+
+/// The refusal number of a call on a layout that isn't valid.
+const NOT_VALID: u8 = 11;
+
+/// How often each quarter of all possible edges occurred in large graphs.
+type Quarters = [usize; QUARTERS];
+
+#[derive(Default)]
+pub struct Tally {
+    charts: Counts,
+    chart_graphs: Counts,
+    lists: Counts,
+    starts: Counts,
+    list_graphs: Counts,
+    /// How often each call answered with each refusal number.
+    answers: BTreeMap<String, BTreeMap<u8, usize>>,
+    /// The same of the listings of charts.
+    listings: BTreeMap<u8, usize>,
+    /// The numbers of vertices in accepted charts, and in valid layouts that
+    /// calls were made on.
+    chart_sizes: BTreeSet<usize>,
+    list_sizes: BTreeSet<usize>,
+    /// The densities of large graphs in accepted charts, and with each call
+    /// where it was accepted.
+    chart_quarters: Quarters,
+    call_quarters: BTreeMap<String, Quarters>,
+    /// The lengths of lent buffers.
+    buffers: BTreeSet<usize>,
+    /// How many charts and lists were too dear for the naive model.
+    charts_without_naive: usize,
+    lists_without_naive: usize,
+}
+
+impl Tally {
+    /// Takes in a chart and its listing.
+    pub fn chart(&mut self, made: &charts::Made, listing: &str) {
+        add(&mut self.charts, made.kind);
+        if let Some(family) = made.family {
+            add(&mut self.chart_graphs, family);
+        }
+        self.charts_without_naive += usize::from(!made.naive);
+        let numbers: Vec<usize> = listing.lines().take(2).filter_map(last_number).collect();
+        match (listing.starts_with("refused"), &numbers[..]) {
+            (true, [number]) => *self.listings.entry(*number as u8).or_default() += 1,
+            (false, &[n, m]) => {
+                *self.listings.entry(0).or_default() += 1;
+                self.chart_sizes.insert(n);
+                add_quarter(&mut self.chart_quarters, n, m);
+            }
+            _ => {}
+        }
+    }
+
+    /// Takes in a list and its answer lines.
+    pub fn list(&mut self, made: &lists::Made, lines: &str) {
+        add(&mut self.lists, made.kind);
+        self.lists_without_naive += usize::from(!made.naive);
+        for start in &made.starts {
+            add(&mut self.starts, start);
+        }
+        for graph in &made.graphs {
+            add(&mut self.list_graphs, graph);
+        }
+        self.lines(&entries(&made.bytes), lines);
+    }
+
+    fn lines(&mut self, entries: &[Entry], lines: &str) {
+        let mut followed = Followed::new();
+        let mut lines = lines.lines();
+        for entry in entries {
+            followed.set(entry);
+            let said = entry.says().then(|| lines.next());
+            if let Some(line) = said.flatten() {
+                followed.line(line);
+                self.line(line, &followed);
+            }
+        }
+    }
+
+    /// Takes in an answer line and the layout behind it.
+    fn line(&mut self, line: &str, followed: &Followed) {
+        let words: Vec<&str> = line.split(' ').collect();
+        let [name, refusal, ..] = words[..] else {
+            return;
+        };
+        let Ok(refusal) = refusal.parse() else {
+            return;
+        };
+        let answers = self.answers.entry(name.to_string()).or_default();
+        *answers.entry(refusal).or_default() += 1;
+        let n = followed.n();
+        if refusal != NOT_VALID {
+            self.list_sizes.insert(n);
+        }
+        if refusal == 0 {
+            let quarters = self.call_quarters.entry(name.to_string()).or_default();
+            add_quarter(quarters, n, followed.edges());
+        }
+        if name == "order" {
+            let length = words.iter().skip(3).take_while(|&&word| word != "n");
+            self.buffers.insert(length.count());
+        }
+    }
+
+    /// How many calls there were; starts are none.
+    pub fn calls(&self) -> usize {
+        let calls = self.answers.iter().filter(|(name, _)| is_call(name));
+        calls.flat_map(|(_, answers)| answers.values()).sum()
+    }
+
+    /// How many charts and lists were compared without the naive model.
+    pub fn without_naive(&self) -> (usize, usize) {
+        (self.charts_without_naive, self.lists_without_naive)
+    }
+
+    /// The lines to print.
+    pub fn text(&self) -> String {
+        let mut text = String::new();
+        for (title, counts) in [
+            ("chart", &self.charts),
+            ("graph in charts", &self.chart_graphs),
+            ("list", &self.lists),
+            ("start", &self.starts),
+            ("graph in lists", &self.list_graphs),
+        ] {
+            for (name, times) in counts {
+                text += &format!("{title}, {name}: {times}\n");
+            }
+        }
+        text += &self.answer_table();
+        text += &self.quarter_table();
+        text += &format!("sizes of accepted charts: {}\n", self.chart_sizes.len());
+        text += &format!(
+            "sizes of valid layouts in lists: {}\n",
+            self.list_sizes.len()
+        );
+        text + &format!("lengths of buffers: {}\n", self.buffers.len())
+    }
+
+    /// A line for each call: how often it was accepted, and refused with each
+    /// number.
+    fn answer_table(&self) -> String {
+        let mut table = answer_line("listing", &self.listings);
+        for (name, answers) in &self.answers {
+            table += &answer_line(name, answers);
+        }
+        table
+    }
+
+    /// A line for charts and one for each call: how often a large graph had
+    /// edges in each quarter of all.
+    fn quarter_table(&self) -> String {
+        let mut table = quarter_line("accepted chart", &self.chart_quarters);
+        for (name, quarters) in self.call_quarters.iter().filter(|(name, _)| is_call(name)) {
+            table += &quarter_line(&format!("accepted {name}"), quarters);
+        }
+        table
+    }
+}
+
+fn is_call(name: &str) -> bool {
+    name != "empty" && name != "chart"
+}
+
+fn last_number(line: &str) -> Option<usize> {
+    line.rsplit(' ').next()?.parse().ok()
+}
+
+fn answer_line(name: &str, answers: &BTreeMap<u8, usize>) -> String {
+    let mut line = format!("answers of {name}:");
+    for (number, times) in answers {
+        line += &match number {
+            0 => format!(" accepted {times}"),
+            number => format!(", {number} {times}"),
+        };
+    }
+    line + "\n"
+}
+
+fn quarter_line(title: &str, quarters: &Quarters) -> String {
+    let [first, second, third, last] = quarters;
+    format!(
+        "{title}, {LARGE} vertices or more, by quarter of all edges: \
+         {first} {second} {third} {last}\n"
+    )
+}
+
+fn add_quarter(quarters: &mut Quarters, n: usize, m: usize) {
+    if n >= LARGE {
+        quarters[quarter(n, m)] += 1;
+    }
+}
+
+fn add(counts: &mut Counts, name: &str) {
+    *counts.entry(name.to_string()).or_default() += 1;
+}
