@@ -1,0 +1,262 @@
+//! The calls that are measured, each with the sides that it is measured on.
+
+use std::fmt::Debug;
+use std::hint::black_box;
+
+use layouts::{chart, fan, layout, pairs};
+use second::calls;
+use second::circle::Circle;
+use second::crossings::crossings;
+use second::layout::Layout;
+
+use crate::agreement::{agree, Outcome};
+use crate::{lists, proved};
+
+/// Makes a call so many times.
+pub type Repeat<'a> = &'a dyn Fn(u32);
+
+/// A call, to be measured on its sides.
+pub struct Row<'a> {
+    pub name: &'a str,
+    pub proved: Repeat<'a>,
+    pub baseline: Option<Repeat<'a>>,
+    pub second: Repeat<'a>,
+}
+
+impl<'a> Row<'a> {
+    /// The sides that there are, in the sequence of their columns.
+    pub fn sides(&self) -> Vec<Repeat<'a>> {
+        let first = std::iter::once(self.proved).chain(self.baseline);
+        first.chain([self.second]).collect()
+    }
+}
+
+/// Does something with each row.
+pub fn for_each(mut does: impl FnMut(&Row)) -> Outcome {
+    let rows = &mut Rows { does: &mut does };
+    counting(rows)?;
+    for edges in [1000, 2015] {
+        accepted(rows, edges)?;
+    }
+    no_pair(rows)?;
+    charts(rows)?;
+    appending(rows)?;
+    sifting(rows)?;
+    playing(rows)?;
+    refused(rows)?;
+    handing_over(rows)
+}
+
+/// Where the rows go, if their sides answer alike.
+struct Rows<'a> {
+    does: &'a mut dyn FnMut(&Row),
+}
+
+impl Rows<'_> {
+    fn row<A: PartialEq + Debug>(
+        &mut self,
+        name: &str,
+        proved: impl Fn() -> A,
+        second: impl Fn() -> A,
+    ) -> Outcome {
+        agree(name, "proved", &proved(), &second())?;
+        (self.does)(&Row {
+            name,
+            proved: &|times| repeat(times, &proved),
+            baseline: None,
+            second: &|times| repeat(times, &second),
+        });
+        Ok(())
+    }
+
+    fn row_with_baseline<A: PartialEq + Debug>(
+        &mut self,
+        name: &str,
+        proved: impl Fn() -> A,
+        baseline: impl Fn() -> A,
+        second: impl Fn() -> A,
+    ) -> Outcome {
+        let expected = second();
+        agree(name, "proved", &proved(), &expected)?;
+        agree(name, "baseline", &baseline(), &expected)?;
+        (self.does)(&Row {
+            name,
+            proved: &|times| repeat(times, &proved),
+            baseline: Some(&|times| repeat(times, &baseline)),
+            second: &|times| repeat(times, &second),
+        });
+        Ok(())
+    }
+}
+
+fn repeat<A>(times: u32, call: impl Fn() -> A) {
+    for _ in 0..times {
+        black_box(call());
+    }
+}
+
+fn counting(rows: &mut Rows) -> Outcome {
+    for edges in [1000, 2016] {
+        let l = layout(64, edges);
+        let circle = Circle::new(&l);
+        let name = format!("crossings, 64 vertices, {edges} edges");
+        rows.row(
+            &name,
+            || proved::crossings(black_box(&l)),
+            || crossings(&Circle::new(black_box(&l))),
+        )?;
+        rows.row(
+            &format!("{name}, lists sorted"),
+            || proved::crossings(black_box(&l)),
+            || crossings(black_box(&circle)),
+        )?;
+    }
+    Ok(())
+}
+
+/// Calls on 64 vertices with so many edges, one of all 2,016 missing at least.
+fn accepted(rows: &mut Rows, edges: usize) -> Outcome {
+    let l = black_box(layout(64, edges));
+    let (a, b) = black_box(pairs(&l, false)[0]);
+    let (c, d) = black_box(pairs(&l, true)[edges / 2]);
+    let name = |call| format!("{call}, 64 vertices, {edges} edges");
+    rows.row(
+        &name("link"),
+        || proved::add_edge(l, a, b),
+        || calls::add_edge(l, a, b),
+    )?;
+    rows.row(
+        &name("unlink"),
+        || proved::remove_edge(l, c, d),
+        || calls::remove_edge(l, c, d),
+    )?;
+    rows.row(
+        &name("move"),
+        || proved::move_after(l, c, d),
+        || calls::move_after(l, c, d),
+    )?;
+    rows.row(&name("count"), || proved::count(l), || calls::count(l))?;
+    rows.row(
+        &name("order"),
+        || into_buffer(l, proved::order),
+        || into_buffer(l, calls::order),
+    )?;
+    rows.row(
+        &name("pair"),
+        || proved::first_crossing(l),
+        || calls::first_crossing(l),
+    )?;
+    let fewer = black_box(layout(63, edges.min(1953)));
+    rows.row(
+        &format!("add, 63 vertices, {} edges", edges.min(1953)),
+        || proved::add_vertex(fewer),
+        || calls::add_vertex(fewer),
+    )
+}
+
+/// The most edges of 64 vertices of which no two cross.
+fn no_pair(rows: &mut Rows) -> Outcome {
+    let l = black_box(fan());
+    rows.row(
+        "pair, 64 vertices, 125 edges, none",
+        || proved::first_crossing(l),
+        || calls::first_crossing(l),
+    )
+}
+
+fn charts(rows: &mut Rows) -> Outcome {
+    for edges in [1000, 2016] {
+        let bytes = chart(&layout(64, edges));
+        rows.row(
+            &format!("reading a chart, 64 vertices, {edges} edges"),
+            || proved::read_chart(black_box(&bytes)),
+            || second::chart::read(black_box(&bytes)),
+        )?;
+    }
+    let bytes = [chart(&layout(64, 2016)), vec![0x52, 0, 1, 0]].concat();
+    rows.row(
+        "reading a chart refused 3, a fourth field",
+        || proved::read_chart(black_box(&bytes)),
+        || second::chart::read(black_box(&bytes)),
+    )
+}
+
+/// Laying 64 vertices with 1,000 edges.
+fn appending(rows: &mut Rows) -> Outcome {
+    let l = black_box(layout(64, 1000));
+    rows.row(
+        "lay, 64 vertices, 1000 edges",
+        || proved::greedy_append(l, 5),
+        || calls::greedy_append(l, 5),
+    )
+}
+
+/// Sifting 64 vertices with 1,000 edges.
+fn sifting(rows: &mut Rows) -> Outcome {
+    let l = black_box(layout(64, 1000));
+    let name = |call| format!("{call}, 64 vertices, 1000 edges");
+    rows.row_with_baseline(
+        &name("sift"),
+        || proved::sift(l, 5),
+        || baseline::sift(l, 5),
+        || calls::sift(l, 5),
+    )?;
+    rows.row_with_baseline(
+        &name("round"),
+        || proved::sifting_round(l),
+        || baseline::sifting_round(l),
+        || calls::sifting_round(l),
+    )?;
+    rows.row_with_baseline(
+        &name("settle with limit 50"),
+        || proved::converge(l, 50),
+        || baseline::converge(l, 50),
+        || calls::converge(l, 50),
+    )
+}
+
+/// A list of calls, each on what the one before it left.
+fn playing(rows: &mut Rows) -> Outcome {
+    let list = black_box(lists::mixed(1, 1000));
+    rows.row(
+        "1000 mixed calls from the empty layout",
+        || proved::play(&list),
+        || lists::play(&list),
+    )
+}
+
+fn into_buffer<A>(l: Layout, order: fn(Layout, &mut [u8]) -> A) -> (A, [u8; 64]) {
+    let mut buffer = [0; 64];
+    (order(l, &mut buffer), buffer)
+}
+
+fn refused(rows: &mut Rows) -> Outcome {
+    let l = black_box(layout(64, 2016));
+    let mut link = |name: &str, l: Layout, a: u64, b: u64| {
+        rows.row(
+            &format!("link refused {name}"),
+            || proved::add_edge(l, a, b),
+            || calls::add_edge(l, a, b),
+        )
+    };
+    link("12, 64 vertices, 2016 edges", l, 0, 64)?;
+    link("14, 64 vertices, 2016 edges", l, 0, 1)?;
+    let mut last = l;
+    last.adjacency[63] |= 1 << 63;
+    link("11, the last vertex joined to itself", last, 0, 1)?;
+    link("11, n is 65", Layout { n: 65, ..l }, 0, 1)
+}
+
+/// What the proved calls above spend on handing a layout over and back.
+fn handing_over(rows: &mut Rows) -> Outcome {
+    let l = black_box(layout(64, 2016));
+    rows.row(
+        "no call: a layout handed over and back",
+        || proved::no_call(l),
+        || calls::Answer {
+            refusal: 0,
+            layout: black_box(l),
+            value: (),
+        },
+    )
+}
