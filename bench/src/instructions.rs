@@ -7,13 +7,13 @@ use std::path::{Path, PathBuf};
 use std::process::{Command, Output};
 
 use crate::agreement::Outcome;
-use crate::rows::{self, Repeat};
+use crate::rows::{self, three_columns, Repeat};
 
 /// The argument with which the program runs itself.
 pub const EACH_ONCE: &str = "--each-once";
 
 /// What is counted, as callgrind names it: each call of `counted` on its own.
-const COUNTED: &str = "bench::instructions::counted*";
+const COUNTED: &str = "bench::instructions::counted";
 
 /// Prints a line for each call.
 pub fn print() -> Outcome {
@@ -38,30 +38,25 @@ pub fn print() -> Outcome {
 }
 
 fn text(name: &str, counts: &[u64]) -> String {
-    let (proved, second) = (counts[0], counts[counts.len() - 1]);
-    let baseline = (counts.len() == 3).then(|| counts[1]);
-    let other = baseline.unwrap_or(second);
-    let baseline = baseline.map_or(String::new(), |count| count.to_string());
-    let ratio = proved as f64 / other as f64;
-    format!("{name:<49}{proved:>14}{baseline:>14}{second:>14}{ratio:>10.2}")
+    let columns: Vec<String> = counts.iter().map(u64::to_string).collect();
+    let columns = three_columns(&columns, 14);
+    let ratio = counts[0] as f64 / counts[1] as f64;
+    format!("{name:<49}{columns}{ratio:>10.2}")
 }
 
 /// Makes each call once on each of its sides, to be counted. Prints a line for
 /// each row: its name, and a stroke for each side.
 pub fn each_once() -> Outcome {
     rows::for_each(|row| {
-        let sides = row.sides();
-        println!("{}\t{}", row.name, "|".repeat(sides.len()));
-        for side in sides {
-            counted(side);
-        }
+        println!("{}\t{}", row.name, "|".repeat(row.sides.len()));
+        row.sides.iter().for_each(counted);
     })
 }
 
 /// Makes a call once. It is made from here, and from nowhere else, while
 /// callgrind counts.
 #[inline(never)]
-fn counted(side: Repeat) {
+fn counted(side: &Repeat) {
     side(black_box(1));
     black_box(side);
 }
@@ -87,11 +82,12 @@ fn run_under_callgrind(directory: &Path) -> Result<Output, String> {
 
 /// The instructions in one of callgrind's files.
 fn read_part(directory: &Path, number: usize) -> Result<u64, String> {
-    let file = directory.join(format!("part.{number}"));
-    let text = fs::read_to_string(file).map_err(|error| error.to_string())?;
+    let file = format!("part.{number}");
+    let text = fs::read_to_string(directory.join(&file));
+    let text = text.map_err(|error| format!("callgrind's {file}: {error}"))?;
     let total = text.lines().find_map(|line| line.strip_prefix("totals: "));
     let total = total.and_then(|total| total.trim().parse().ok());
-    total.ok_or(format!("no total in callgrind's part {number}"))
+    total.ok_or(format!("callgrind's {file} has no total"))
 }
 
 /// A directory for callgrind's files, removed in the end.

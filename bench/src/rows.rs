@@ -13,22 +13,23 @@ use crate::agreement::{agree, Outcome};
 use crate::{lists, proved};
 
 /// Makes a call so many times.
-pub type Repeat<'a> = &'a dyn Fn(u32);
+pub type Repeat<'a> = Box<dyn Fn(u32) + 'a>;
 
-/// A call, to be measured on its sides.
+/// A call, to be measured on its sides: the proved one, the baseline if it has
+/// the call, and the second program.
 pub struct Row<'a> {
     pub name: &'a str,
-    pub proved: Repeat<'a>,
-    pub baseline: Option<Repeat<'a>>,
-    pub second: Repeat<'a>,
+    pub sides: Vec<Repeat<'a>>,
 }
 
-impl<'a> Row<'a> {
-    /// The sides that there are, in the sequence of their columns.
-    pub fn sides(&self) -> Vec<Repeat<'a>> {
-        let first = std::iter::once(self.proved).chain(self.baseline);
-        first.chain([self.second]).collect()
-    }
+/// The columns of a row, so wide each. Where there is no baseline its column is
+/// blank.
+pub fn three_columns(sides: &[String], width: usize) -> String {
+    let blank = if sides.len() < 3 { width } else { 0 };
+    let right = |side: &String| format!("{side:>width$}");
+    let (proved, others) = sides.split_at(1);
+    let columns = |sides: &[String]| sides.iter().map(right).collect::<String>();
+    columns(proved) + &" ".repeat(blank) + &columns(others)
 }
 
 /// Does something with each row.
@@ -53,38 +54,34 @@ struct Rows<'a> {
 }
 
 impl Rows<'_> {
-    fn row<A: PartialEq + Debug>(
+    fn two<A: PartialEq + Debug>(
         &mut self,
         name: &str,
-        proved: impl Fn() -> A,
-        second: impl Fn() -> A,
+        proved: &dyn Fn() -> A,
+        second: &dyn Fn() -> A,
     ) -> Outcome {
-        agree(name, "proved", &proved(), &second())?;
-        (self.does)(&Row {
-            name,
-            proved: &|times| repeat(times, &proved),
-            baseline: None,
-            second: &|times| repeat(times, &second),
-        });
-        Ok(())
+        self.row(name, &[proved, second])
     }
 
-    fn row_with_baseline<A: PartialEq + Debug>(
+    fn three<A: PartialEq + Debug>(
         &mut self,
         name: &str,
-        proved: impl Fn() -> A,
-        baseline: impl Fn() -> A,
-        second: impl Fn() -> A,
+        proved: &dyn Fn() -> A,
+        baseline: &dyn Fn() -> A,
+        second: &dyn Fn() -> A,
     ) -> Outcome {
+        self.row(name, &[proved, baseline, second])
+    }
+
+    fn row<A: PartialEq + Debug>(&mut self, name: &str, sides: &[&dyn Fn() -> A]) -> Outcome {
+        let (second, others) = sides.split_last().ok_or("a row without sides")?;
         let expected = second();
-        agree(name, "proved", &proved(), &expected)?;
-        agree(name, "baseline", &baseline(), &expected)?;
-        (self.does)(&Row {
-            name,
-            proved: &|times| repeat(times, &proved),
-            baseline: Some(&|times| repeat(times, &baseline)),
-            second: &|times| repeat(times, &second),
-        });
+        for (other, side) in others.iter().zip(["proved", "baseline"]) {
+            agree(name, side, &other(), &expected)?;
+        }
+        let repeated = |side| -> Repeat { Box::new(move |times| repeat(times, side)) };
+        let sides = sides.iter().map(repeated).collect();
+        (self.does)(&Row { name, sides });
         Ok(())
     }
 }
@@ -100,15 +97,13 @@ fn counting(rows: &mut Rows) -> Outcome {
         let l = layout(64, edges);
         let circle = Circle::new(&l);
         let name = format!("crossings, 64 vertices, {edges} edges");
-        rows.row(
-            &name,
-            || proved::crossings(black_box(&l)),
-            || crossings(&Circle::new(black_box(&l))),
-        )?;
-        rows.row(
+        rows.two(&name, &|| proved::crossings(black_box(&l)), &|| {
+            crossings(&Circle::new(black_box(&l)))
+        })?;
+        rows.two(
             &format!("{name}, lists sorted"),
-            || proved::crossings(black_box(&l)),
-            || crossings(black_box(&circle)),
+            &|| proved::crossings(black_box(&l)),
+            &|| crossings(black_box(&circle)),
         )?;
     }
     Ok(())
@@ -120,74 +115,64 @@ fn accepted(rows: &mut Rows, edges: usize) -> Outcome {
     let (a, b) = black_box(pairs(&l, false)[0]);
     let (c, d) = black_box(pairs(&l, true)[edges / 2]);
     let name = |call| format!("{call}, 64 vertices, {edges} edges");
-    rows.row(
-        &name("link"),
-        || proved::add_edge(l, a, b),
-        || calls::add_edge(l, a, b),
-    )?;
-    rows.row(
-        &name("unlink"),
-        || proved::remove_edge(l, c, d),
-        || calls::remove_edge(l, c, d),
-    )?;
-    rows.row(
-        &name("move"),
-        || proved::move_after(l, c, d),
-        || calls::move_after(l, c, d),
-    )?;
-    rows.row(&name("count"), || proved::count(l), || calls::count(l))?;
-    rows.row(
-        &name("order"),
-        || into_buffer(l, proved::order),
-        || into_buffer(l, calls::order),
-    )?;
-    rows.row(
-        &name("pair"),
-        || proved::first_crossing(l),
-        || calls::first_crossing(l),
-    )?;
+    rows.two(&name("link"), &|| proved::add_edge(l, a, b), &|| {
+        calls::add_edge(l, a, b)
+    })?;
+    rows.two(&name("unlink"), &|| proved::remove_edge(l, c, d), &|| {
+        calls::remove_edge(l, c, d)
+    })?;
+    rows.two(&name("move"), &|| proved::move_after(l, c, d), &|| {
+        calls::move_after(l, c, d)
+    })?;
+    rows.two(&name("count"), &|| proved::count(l), &|| calls::count(l))?;
+    rows.two(&name("order"), &|| into_buffer(l, proved::order), &|| {
+        into_buffer(l, calls::order)
+    })?;
+    rows.two(&name("pair"), &|| proved::first_crossing(l), &|| {
+        calls::first_crossing(l)
+    })?;
     let fewer = black_box(layout(63, edges.min(1953)));
-    rows.row(
+    rows.two(
         &format!("add, 63 vertices, {} edges", edges.min(1953)),
-        || proved::add_vertex(fewer),
-        || calls::add_vertex(fewer),
+        &|| proved::add_vertex(fewer),
+        &|| calls::add_vertex(fewer),
     )
 }
 
 /// The most edges of 64 vertices of which no two cross.
 fn no_pair(rows: &mut Rows) -> Outcome {
     let l = black_box(fan());
-    rows.row(
+    rows.two(
         "pair, 64 vertices, 125 edges, none",
-        || proved::first_crossing(l),
-        || calls::first_crossing(l),
+        &|| proved::first_crossing(l),
+        &|| calls::first_crossing(l),
     )
 }
 
 fn charts(rows: &mut Rows) -> Outcome {
     for edges in [1000, 2016] {
         let bytes = chart(&layout(64, edges));
-        rows.row(
+        rows.two(
             &format!("reading a chart, 64 vertices, {edges} edges"),
-            || proved::read_chart(black_box(&bytes)),
-            || second::chart::read(black_box(&bytes)),
+            &|| proved::read_chart(black_box(&bytes)),
+            &|| second::chart::read(black_box(&bytes)),
         )?;
     }
     let bytes = [chart(&layout(64, 2016)), vec![0x52, 0, 1, 0]].concat();
-    rows.row(
+    rows.two(
         "reading a chart refused 3, a fourth field",
-        || proved::read_chart(black_box(&bytes)),
-        || second::chart::read(black_box(&bytes)),
+        &|| proved::read_chart(black_box(&bytes)),
+        &|| second::chart::read(black_box(&bytes)),
     )
 }
 
 /// Laying 64 vertices with 1,000 edges.
 fn appending(rows: &mut Rows) -> Outcome {
     let l = black_box(layout(64, 1000));
-    rows.row(
+    rows.two(
         "lay, 64 vertices, 1000 edges",
-        || proved::greedy_append(l, 5),
-        || calls::greedy_append(l, 5),
+        &|| proved::greedy_append(l, 5),
+        &|| calls::greedy_append(l, 5),
     )
 }
 
@@ -195,33 +180,33 @@ fn appending(rows: &mut Rows) -> Outcome {
 fn sifting(rows: &mut Rows) -> Outcome {
     let l = black_box(layout(64, 1000));
     let name = |call| format!("{call}, 64 vertices, 1000 edges");
-    rows.row_with_baseline(
+    rows.three(
         &name("sift"),
-        || proved::sift(l, 5),
-        || baseline::sift(l, 5),
-        || calls::sift(l, 5),
+        &|| proved::sift(l, 5),
+        &|| baseline::sift(l, 5),
+        &|| calls::sift(l, 5),
     )?;
-    rows.row_with_baseline(
+    rows.three(
         &name("round"),
-        || proved::sifting_round(l),
-        || baseline::sifting_round(l),
-        || calls::sifting_round(l),
+        &|| proved::sifting_round(l),
+        &|| baseline::sifting_round(l),
+        &|| calls::sifting_round(l),
     )?;
-    rows.row_with_baseline(
+    rows.three(
         &name("settle with limit 50"),
-        || proved::converge(l, 50),
-        || baseline::converge(l, 50),
-        || calls::converge(l, 50),
+        &|| proved::converge(l, 50),
+        &|| baseline::converge(l, 50),
+        &|| calls::converge(l, 50),
     )
 }
 
 /// A list of calls, each on what the one before it left.
 fn playing(rows: &mut Rows) -> Outcome {
     let list = black_box(lists::mixed(1, 1000));
-    rows.row(
+    rows.two(
         "1000 mixed calls from the empty layout",
-        || proved::play(&list),
-        || lists::play(&list),
+        &|| proved::play(&list),
+        &|| lists::play(&list),
     )
 }
 
@@ -233,10 +218,10 @@ fn into_buffer<A>(l: Layout, order: fn(Layout, &mut [u8]) -> A) -> (A, [u8; 64])
 fn refused(rows: &mut Rows) -> Outcome {
     let l = black_box(layout(64, 2016));
     let mut link = |name: &str, l: Layout, a: u64, b: u64| {
-        rows.row(
+        rows.two(
             &format!("link refused {name}"),
-            || proved::add_edge(l, a, b),
-            || calls::add_edge(l, a, b),
+            &|| proved::add_edge(l, a, b),
+            &|| calls::add_edge(l, a, b),
         )
     };
     link("12, 64 vertices, 2016 edges", l, 0, 64)?;
@@ -250,10 +235,10 @@ fn refused(rows: &mut Rows) -> Outcome {
 /// What the proved calls above spend on handing a layout over and back.
 fn handing_over(rows: &mut Rows) -> Outcome {
     let l = black_box(layout(64, 2016));
-    rows.row(
+    rows.two(
         "no call: a layout handed over and back",
-        || proved::no_call(l),
-        || calls::Answer {
+        &|| proved::no_call(l),
+        &|| calls::Answer {
             refusal: 0,
             layout: black_box(l),
             value: (),

@@ -3,7 +3,7 @@
 use std::time::{Duration, Instant};
 
 use crate::agreement::Outcome;
-use crate::rows::{self, Repeat, Row};
+use crate::rows::{self, three_columns, Repeat, Row};
 
 /// Batches of calls on each side: as many as go into the time for a side, from a
 /// few up.
@@ -23,7 +23,7 @@ struct Time {
 
 /// Prints a line for each call.
 pub fn print() -> Outcome {
-    println!("microseconds of a call: median and minimum; ratio: proved to baseline, or to second where there is none\n");
+    println!("\nmicroseconds of a call: median and minimum; ratio: proved to baseline, or to second where there is none\n");
     println!(
         "{:<49}{:>18}{:>18}{:>18}{:>14}",
         "", "proved", "baseline", "second", "ratio"
@@ -34,37 +34,30 @@ pub fn print() -> Outcome {
 }
 
 fn line(row: &Row) {
-    let times = times(&row.sides());
-    let (proved, second) = (times[0], times[times.len() - 1]);
-    let baseline = row.baseline.map(|_| times[1]);
-    let other = baseline.unwrap_or(second);
+    let times = times(&row.sides);
+    let columns: Vec<String> = times.iter().map(columns).collect();
+    let (proved, other) = (times[0], times[1]);
     println!(
-        "{:<49}{}{}{}{:>8.2}{:>6.2}",
+        "{:<49}{}{:>8.2}{:>6.2}",
         row.name,
-        columns(Some(proved)),
-        columns(baseline),
-        columns(Some(second)),
+        three_columns(&columns, 18),
         proved.median / other.median,
         proved.minimum / other.minimum,
     );
 }
 
-/// Median and minimum, or blanks.
-fn columns(time: Option<Time>) -> String {
+fn columns(time: &Time) -> String {
     let number = |micros| match micros {
         0.0..1000.0 => format!("{micros:>9.3}"),
         _ => format!("{micros:>9.1}"),
     };
-    time.map_or(" ".repeat(18), |time| {
-        number(time.median) + &number(time.minimum)
-    })
+    number(time.median) + &number(time.minimum)
 }
 
 /// The time of a call on each side. The sides take turns, batch by batch, so that
 /// all see the same machine.
 fn times(sides: &[Repeat]) -> Vec<Time> {
-    let once = sides.iter().map(|side| batch(side, 1));
-    let once: Vec<f64> = once.collect();
+    let once: Vec<f64> = sides.iter().map(|side| batch(side, 1)).collect();
     let calls: Vec<u32> = once.iter().map(|&once| calls_in_a_batch(once)).collect();
     let turn = once.iter().zip(&calls);
     let turn: f64 = turn.map(|(once, &calls)| once * f64::from(calls)).sum();
@@ -72,7 +65,7 @@ fn times(sides: &[Repeat]) -> Vec<Time> {
     let mut batches = vec![Vec::new(); sides.len()];
     for _ in 0..turns.clamp(FEWEST, MOST) as usize {
         for (side, times) in batches.iter_mut().enumerate() {
-            times.push(batch(sides[side], calls[side]));
+            times.push(batch(&sides[side], calls[side]));
         }
     }
     batches.into_iter().map(time).collect()
@@ -87,7 +80,7 @@ fn micros(time: Duration) -> f64 {
 }
 
 /// The time of a call in a batch of so many, in microseconds.
-fn batch(side: Repeat, calls: u32) -> f64 {
+fn batch(side: &Repeat, calls: u32) -> f64 {
     let start = Instant::now();
     side(calls);
     micros(start.elapsed()) / f64::from(calls)
