@@ -223,13 +223,23 @@ impl Comparison {
     fn change(&mut self, bytes: &mut Vec<u8>) {
         let place = self.random.below(bytes.len());
         let any = self.random.below(256) as u8;
-        match self.random.below(6) {
+        match self.random.below(7) {
             0 => {}
             1 => bytes[place] = any,
             2 => bytes[place.min(6)] = any,
             3 => bytes.truncate(place),
             4 => bytes.extend([any % 3, 0, 0]),
+            5 => halve_an_edge(bytes),
             _ => bytes.resize(8190 + self.random.below(5), any),
         }
+    }
+}
+
+/// Takes a byte out of a chart's edges, if it has any.
+fn halve_an_edge(bytes: &mut Vec<u8>) {
+    let length = u16::from_be_bytes([bytes[5], bytes[6]]);
+    if length > 0 {
+        bytes[5..7].copy_from_slice(&(length - 1).to_be_bytes());
+        bytes.remove(7);
     }
 }
