@@ -57,39 +57,39 @@ impl Rows<'_> {
     fn two<A: PartialEq + Debug>(
         &mut self,
         name: &str,
-        proved: &dyn Fn() -> A,
-        second: &dyn Fn() -> A,
+        proved: impl Fn() -> A,
+        second: impl Fn() -> A,
     ) -> Outcome {
-        self.row(name, &[proved, second])
+        agree(name, "proved", &proved(), &second())?;
+        let sides = vec![repeated(proved), repeated(second)];
+        (self.does)(&Row { name, sides });
+        Ok(())
     }
 
     fn three<A: PartialEq + Debug>(
         &mut self,
         name: &str,
-        proved: &dyn Fn() -> A,
-        baseline: &dyn Fn() -> A,
-        second: &dyn Fn() -> A,
+        proved: impl Fn() -> A,
+        baseline: impl Fn() -> A,
+        second: impl Fn() -> A,
     ) -> Outcome {
-        self.row(name, &[proved, baseline, second])
-    }
-
-    fn row<A: PartialEq + Debug>(&mut self, name: &str, sides: &[&dyn Fn() -> A]) -> Outcome {
-        let (second, others) = sides.split_last().ok_or("a row without sides")?;
         let expected = second();
-        for (other, side) in others.iter().zip(["proved", "baseline"]) {
-            agree(name, side, &other(), &expected)?;
-        }
-        let repeated = |side| -> Repeat { Box::new(move |times| repeat(times, side)) };
-        let sides = sides.iter().map(repeated).collect();
+        agree(name, "proved", &proved(), &expected)?;
+        agree(name, "baseline", &baseline(), &expected)?;
+        let sides = vec![repeated(proved), repeated(baseline), repeated(second)];
         (self.does)(&Row { name, sides });
         Ok(())
     }
 }
 
-fn repeat<A>(times: u32, call: impl Fn() -> A) {
-    for _ in 0..times {
-        black_box(call());
-    }
+/// Each time the call is made, from inputs and for an answer that the compiler
+/// knows nothing about.
+fn repeated<'a, A>(call: impl Fn() -> A + 'a) -> Repeat<'a> {
+    Box::new(move |times| {
+        for _ in 0..times {
+            black_box(black_box(&call)());
+        }
+    })
 }
 
 fn counting(rows: &mut Rows) -> Outcome {
@@ -97,13 +97,15 @@ fn counting(rows: &mut Rows) -> Outcome {
         let l = layout(64, edges);
         let circle = Circle::new(&l);
         let name = format!("crossings, 64 vertices, {edges} edges");
-        rows.two(&name, &|| proved::crossings(black_box(&l)), &|| {
-            crossings(&Circle::new(black_box(&l)))
-        })?;
+        rows.two(
+            &name,
+            || proved::crossings(&l),
+            || crossings(&Circle::new(&l)),
+        )?;
         rows.two(
             &format!("{name}, lists sorted"),
-            &|| proved::crossings(black_box(&l)),
-            &|| crossings(black_box(&circle)),
+            || proved::crossings(&l),
+            || crossings(&circle),
         )?;
     }
     Ok(())
@@ -111,41 +113,51 @@ fn counting(rows: &mut Rows) -> Outcome {
 
 /// Calls on 64 vertices with so many edges, one of all 2,016 missing at least.
 fn accepted(rows: &mut Rows, edges: usize) -> Outcome {
-    let l = black_box(layout(64, edges));
-    let (a, b) = black_box(pairs(&l, false)[0]);
-    let (c, d) = black_box(pairs(&l, true)[edges / 2]);
+    let l = layout(64, edges);
+    let (a, b) = pairs(&l, false)[0];
+    let (c, d) = pairs(&l, true)[edges / 2];
     let name = |call| format!("{call}, 64 vertices, {edges} edges");
-    rows.two(&name("link"), &|| proved::add_edge(l, a, b), &|| {
-        calls::add_edge(l, a, b)
-    })?;
-    rows.two(&name("unlink"), &|| proved::remove_edge(l, c, d), &|| {
-        calls::remove_edge(l, c, d)
-    })?;
-    rows.two(&name("move"), &|| proved::move_after(l, c, d), &|| {
-        calls::move_after(l, c, d)
-    })?;
-    rows.two(&name("count"), &|| proved::count(l), &|| calls::count(l))?;
-    rows.two(&name("order"), &|| into_buffer(l, proved::order), &|| {
-        into_buffer(l, calls::order)
-    })?;
-    rows.two(&name("pair"), &|| proved::first_crossing(l), &|| {
-        calls::first_crossing(l)
-    })?;
-    let fewer = black_box(layout(63, edges.min(1953)));
+    rows.two(
+        &name("link"),
+        || proved::add_edge(l, a, b),
+        || calls::add_edge(l, a, b),
+    )?;
+    rows.two(
+        &name("unlink"),
+        || proved::remove_edge(l, c, d),
+        || calls::remove_edge(l, c, d),
+    )?;
+    rows.two(
+        &name("move"),
+        || proved::move_after(l, c, d),
+        || calls::move_after(l, c, d),
+    )?;
+    rows.two(&name("count"), || proved::count(l), || calls::count(l))?;
+    rows.two(
+        &name("order"),
+        || into_buffer(l, proved::order),
+        || into_buffer(l, calls::order),
+    )?;
+    rows.two(
+        &name("pair"),
+        || proved::first_crossing(l),
+        || calls::first_crossing(l),
+    )?;
+    let fewer = layout(63, edges.min(1953));
     rows.two(
         &format!("add, 63 vertices, {} edges", edges.min(1953)),
-        &|| proved::add_vertex(fewer),
-        &|| calls::add_vertex(fewer),
+        || proved::add_vertex(fewer),
+        || calls::add_vertex(fewer),
     )
 }
 
 /// The most edges of 64 vertices of which no two cross.
 fn no_pair(rows: &mut Rows) -> Outcome {
-    let l = black_box(fan());
+    let l = fan();
     rows.two(
         "pair, 64 vertices, 125 edges, none",
-        &|| proved::first_crossing(l),
-        &|| calls::first_crossing(l),
+        || proved::first_crossing(l),
+        || calls::first_crossing(l),
     )
 }
 
@@ -154,59 +166,59 @@ fn charts(rows: &mut Rows) -> Outcome {
         let bytes = chart(&layout(64, edges));
         rows.two(
             &format!("reading a chart, 64 vertices, {edges} edges"),
-            &|| proved::read_chart(black_box(&bytes)),
-            &|| second::chart::read(black_box(&bytes)),
+            || proved::read_chart(&bytes),
+            || second::chart::read(&bytes),
         )?;
     }
     let bytes = [chart(&layout(64, 2016)), vec![0x52, 0, 1, 0]].concat();
     rows.two(
         "reading a chart refused 3, a fourth field",
-        &|| proved::read_chart(black_box(&bytes)),
-        &|| second::chart::read(black_box(&bytes)),
+        || proved::read_chart(&bytes),
+        || second::chart::read(&bytes),
     )
 }
 
 /// Laying 64 vertices with 1,000 edges.
 fn appending(rows: &mut Rows) -> Outcome {
-    let l = black_box(layout(64, 1000));
+    let l = layout(64, 1000);
     rows.two(
         "lay, 64 vertices, 1000 edges",
-        &|| proved::greedy_append(l, 5),
-        &|| calls::greedy_append(l, 5),
+        || proved::greedy_append(l, 5),
+        || calls::greedy_append(l, 5),
     )
 }
 
 /// Sifting 64 vertices with 1,000 edges.
 fn sifting(rows: &mut Rows) -> Outcome {
-    let l = black_box(layout(64, 1000));
+    let l = layout(64, 1000);
     let name = |call| format!("{call}, 64 vertices, 1000 edges");
     rows.three(
         &name("sift"),
-        &|| proved::sift(l, 5),
-        &|| baseline::sift(l, 5),
-        &|| calls::sift(l, 5),
+        || proved::sift(l, 5),
+        || baseline::sift(l, 5),
+        || calls::sift(l, 5),
     )?;
     rows.three(
         &name("round"),
-        &|| proved::sifting_round(l),
-        &|| baseline::sifting_round(l),
-        &|| calls::sifting_round(l),
+        || proved::sifting_round(l),
+        || baseline::sifting_round(l),
+        || calls::sifting_round(l),
     )?;
     rows.three(
         &name("settle with limit 50"),
-        &|| proved::converge(l, 50),
-        &|| baseline::converge(l, 50),
-        &|| calls::converge(l, 50),
+        || proved::converge(l, 50),
+        || baseline::converge(l, 50),
+        || calls::converge(l, 50),
     )
 }
 
 /// A list of calls, each on what the one before it left.
 fn playing(rows: &mut Rows) -> Outcome {
-    let list = black_box(lists::mixed(1, 1000));
+    let list = lists::mixed(1, 1000);
     rows.two(
         "1000 mixed calls from the empty layout",
-        &|| proved::play(&list),
-        &|| lists::play(&list),
+        || proved::play(&list),
+        || lists::play(&list),
     )
 }
 
@@ -216,12 +228,12 @@ fn into_buffer<A>(l: Layout, order: fn(Layout, &mut [u8]) -> A) -> (A, [u8; 64])
 }
 
 fn refused(rows: &mut Rows) -> Outcome {
-    let l = black_box(layout(64, 2016));
+    let l = layout(64, 2016);
     let mut link = |name: &str, l: Layout, a: u64, b: u64| {
         rows.two(
             &format!("link refused {name}"),
-            &|| proved::add_edge(l, a, b),
-            &|| calls::add_edge(l, a, b),
+            || proved::add_edge(l, a, b),
+            || calls::add_edge(l, a, b),
         )
     };
     link("12, 64 vertices, 2016 edges", l, 0, 64)?;
@@ -234,11 +246,11 @@ fn refused(rows: &mut Rows) -> Outcome {
 
 /// What the proved calls above spend on handing a layout over and back.
 fn handing_over(rows: &mut Rows) -> Outcome {
-    let l = black_box(layout(64, 2016));
+    let l = layout(64, 2016);
     rows.two(
         "no call: a layout handed over and back",
-        &|| proved::no_call(l),
-        &|| calls::Answer {
+        || proved::no_call(l),
+        || calls::Answer {
             refusal: 0,
             layout: black_box(l),
             value: (),
