@@ -62,10 +62,13 @@ fn counted(side: &Repeat) {
 }
 
 /// The program writes the names of the rows, callgrind a file for each call.
+/// There is no environment: its length moves the stack, and copying depends on
+/// where things lie.
 fn run_under_callgrind(directory: &Path) -> Result<Output, String> {
     let program = std::env::current_exe().map_err(|error| error.to_string())?;
     let files = directory.join("part");
-    let run = Command::new("valgrind")
+    let run = Command::new(valgrind()?)
+        .env_clear()
         .args(["--tool=callgrind", "--quiet"])
         .arg(format!("--toggle-collect={COUNTED}"))
         .arg(format!("--dump-after={COUNTED}"))
@@ -78,6 +81,14 @@ fn run_under_callgrind(directory: &Path) -> Result<Output, String> {
         true => Ok(output),
         false => Err(String::from_utf8_lossy(&output.stderr).into_owned()),
     }
+}
+
+/// Where valgrind is.
+fn valgrind() -> Result<PathBuf, String> {
+    let path = std::env::var_os("PATH").unwrap_or_default();
+    let mut places = std::env::split_paths(&path).map(|place| place.join("valgrind"));
+    let found = places.find(|place| place.is_file());
+    found.ok_or("valgrind isn't there to count instructions".to_string())
 }
 
 /// The instructions in one of callgrind's files.
