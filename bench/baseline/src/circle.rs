@@ -36,12 +36,11 @@ impl Ranks {
     /// The position of a rank.
     fn position(&self, rank: usize) -> usize {
         let position = self.place + 1 + rank;
-        position
-            - if position > self.turn {
-                self.turn + 1
-            } else {
-                0
-            }
+        if position <= self.turn {
+            position
+        } else {
+            position - self.turn - 1
+        }
     }
 }
 

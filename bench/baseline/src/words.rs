@@ -109,10 +109,9 @@ mod tests {
     #[test]
     fn rows_and_columns_are_exchanged() {
         let words = some_words();
-        let exchanged = transposed(words);
-        for i in 0..PLACES {
-            for j in 0..PLACES {
-                assert_eq!(bit(words[i], j), bit(exchanged[j], i), "{i} {j}");
+        for (j, column) in transposed(words).into_iter().enumerate() {
+            for (i, row) in words.into_iter().enumerate() {
+                assert_eq!(bit(row, j), bit(column, i), "{i} {j}");
             }
         }
     }
