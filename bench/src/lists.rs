@@ -1,10 +1,9 @@
-//! A list of mixed calls, alike in every run, and playing it with the second
+//! Lists of mixed calls, alike in every run, and playing them with the second
 //! program.
 
+use layouts::Random;
 use second::calls::{self, Answer};
 use second::layout::Layout;
-
-use crate::layouts::Random;
 
 /// A call: its op (tests/README.md) and its two numbers.
 pub type Call = [u64; 3];
@@ -45,11 +44,11 @@ const MIX: [(u64, usize); 8] = [
 /// So many vertices are added before anything else.
 const FIRST: usize = 8;
 
-/// So many calls from the empty layout. One vertex in twenty that is named isn't
-/// there.
-pub fn mixed(length: usize) -> Vec<Call> {
+/// So many calls from the empty layout, from a seed. One vertex in twenty that is
+/// named isn't there.
+pub fn mixed(seed: u64, length: usize) -> Vec<Call> {
     let mut maker = Maker {
-        random: Random(1),
+        random: Random(seed),
         n: 0,
         edges: Vec::new(),
     };

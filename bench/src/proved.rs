@@ -116,6 +116,14 @@ extern "C" {
     ) -> u8;
 }
 
+/// Hands a layout's fields over, by reference, before the other arguments.
+macro_rules! hand_over {
+    ($call:ident, $layout:ident $(, $argument:expr)*) => {{
+        let l = &mut $layout;
+        unsafe { $call(&mut l.n, &mut l.order, &mut l.adjacency, &mut l.count $(, $argument)*) }
+    }};
+}
+
 /// A call that names two vertices and changes the layout.
 type Edit = unsafe extern "C" fn(&mut u64, &mut Order, &mut Words, &mut u32, u64, u64) -> u8;
 
@@ -126,23 +134,13 @@ pub fn crossings(layout: &Layout) -> u32 {
 
 /// Hands the layout over and back.
 pub fn no_call(mut layout: Layout) -> Answer<()> {
-    let l = &mut layout;
-    let refusal = unsafe { bench_no_call(&mut l.n, &mut l.order, &mut l.adjacency, &mut l.count) };
+    let refusal = hand_over!(bench_no_call, layout);
     answer(refusal, layout, ())
 }
 
 pub fn add_vertex(mut layout: Layout) -> Answer<u64> {
-    let l = &mut layout;
     let mut vertex = 0;
-    let refusal = unsafe {
-        bench_add(
-            &mut l.n,
-            &mut l.order,
-            &mut l.adjacency,
-            &mut l.count,
-            &mut vertex,
-        )
-    };
+    let refusal = hand_over!(bench_add, layout, &mut vertex);
     answer(refusal, layout, vertex)
 }
 
@@ -158,70 +156,36 @@ pub fn move_after(layout: Layout, a: u64, b: u64) -> Answer<()> {
     edit(bench_move, layout, a, b)
 }
 
+fn edit(call: Edit, mut layout: Layout, a: u64, b: u64) -> Answer<()> {
+    let refusal = hand_over!(call, layout, a, b);
+    answer(refusal, layout, ())
+}
+
 pub fn greedy_append(mut layout: Layout, start: u64) -> Answer<u32> {
-    let l = &mut layout;
     let mut tally = 0;
-    let refusal = unsafe {
-        bench_lay(
-            &mut l.n,
-            &mut l.order,
-            &mut l.adjacency,
-            &mut l.count,
-            start,
-            &mut tally,
-        )
-    };
+    let refusal = hand_over!(bench_lay, layout, start, &mut tally);
     answer(refusal, layout, tally)
 }
 
 pub fn sift(mut layout: Layout, u: u64) -> Answer<u32> {
-    let l = &mut layout;
     let mut reduction = 0;
-    let refusal = unsafe {
-        bench_sift(
-            &mut l.n,
-            &mut l.order,
-            &mut l.adjacency,
-            &mut l.count,
-            u,
-            &mut reduction,
-        )
-    };
+    let refusal = hand_over!(bench_sift, layout, u, &mut reduction);
     answer(refusal, layout, reduction)
 }
 
 pub fn sifting_round(mut layout: Layout) -> Answer<Round> {
-    let l = &mut layout;
     let mut round = Round::default();
-    let refusal = unsafe {
-        bench_round(
-            &mut l.n,
-            &mut l.order,
-            &mut l.adjacency,
-            &mut l.count,
-            &mut round.reduction,
-            &mut round.moved,
-        )
-    };
+    let (reduction, moved) = (&mut round.reduction, &mut round.moved);
+    let refusal = hand_over!(bench_round, layout, reduction, moved);
     answer(refusal, layout, round)
 }
 
 pub fn converge(mut layout: Layout, limit: u32) -> Answer<Convergence> {
-    let l = &mut layout;
-    let mut value = Convergence::default();
-    let refusal = unsafe {
-        bench_settle(
-            &mut l.n,
-            &mut l.order,
-            &mut l.adjacency,
-            &mut l.count,
-            limit,
-            &mut value.reduction,
-            &mut value.rounds,
-            &mut value.converged,
-        )
-    };
-    answer(refusal, layout, value)
+    let mut run = Convergence::default();
+    let (reduction, rounds) = (&mut run.reduction, &mut run.rounds);
+    let converged = &mut run.converged;
+    let refusal = hand_over!(bench_settle, layout, limit, reduction, rounds, converged);
+    answer(refusal, layout, run)
 }
 
 pub fn count(layout: Layout) -> Answer<u32> {
@@ -313,12 +277,6 @@ pub fn play(list: &[Call]) -> Played {
     };
     assert_eq!(played, list.len(), "every call is played");
     Played { table, layout: l }
-}
-
-fn edit(call: Edit, mut layout: Layout, a: u64, b: u64) -> Answer<()> {
-    let l = &mut layout;
-    let refusal = unsafe { call(&mut l.n, &mut l.order, &mut l.adjacency, &mut l.count, a, b) };
-    answer(refusal, layout, ())
 }
 
 fn answer<T>(refusal: u8, layout: Layout, value: T) -> Answer<T> {

@@ -1,22 +1,18 @@
-//! The layouts that the calls are measured on, alike in every run.
+//! Layouts from a seed, alike in every run.
 
 use second::circle::Circle;
 use second::crossings::crossings;
 use second::layout::Layout;
 
-/// A layout of n vertices in no particular order, with so many of the possible
-/// edges, taken at random, and its true count.
+/// The layout of n vertices and so many edges that calls are measured on, always
+/// the same.
 pub fn layout(n: u8, edges: usize) -> Layout {
-    let mut random = Random(u64::from(n));
-    let mut order: Vec<u8> = (0..n).collect();
-    random.shuffle(&mut order);
-    let pairs = |a: u8| (a + 1..n).map(move |b| (a, b));
-    let mut all: Vec<(u8, u8)> = (0..n).flat_map(pairs).collect();
-    random.shuffle(&mut all);
-    all.truncate(edges);
-    let mut layout = Layout::new(&order, &all);
-    layout.count = crossings(&Circle::new(&layout));
-    layout
+    Random(u64::from(n)).layout(n, edges)
+}
+
+/// How many edges n vertices can have.
+pub fn most_edges(n: u8) -> usize {
+    usize::from(n) * usize::from(n).saturating_sub(1) / 2
 }
 
 /// 64 vertices in their order, the first joined to all others and each to the
@@ -59,6 +55,7 @@ pub fn pairs(layout: &Layout, are_edges: bool) -> Vec<(u64, u64)> {
 pub struct Random(pub u64);
 
 impl Random {
+    /// A number below a bound.
     pub fn below(&mut self, bound: usize) -> usize {
         self.0 = self.0.wrapping_add(0x9E37_79B9_7F4A_7C15);
         let mut z = self.0;
@@ -67,7 +64,21 @@ impl Random {
         ((z ^ (z >> 31)) % bound as u64) as usize
     }
 
-    fn shuffle<T>(&mut self, items: &mut [T]) {
+    /// A layout of n vertices in no particular order, with so many of the possible
+    /// edges, taken at random, and its true count.
+    pub fn layout(&mut self, n: u8, edges: usize) -> Layout {
+        let mut order: Vec<u8> = (0..n).collect();
+        self.shuffle(&mut order);
+        let pairs = |a: u8| (a + 1..n).map(move |b| (a, b));
+        let mut all: Vec<(u8, u8)> = (0..n).flat_map(pairs).collect();
+        self.shuffle(&mut all);
+        all.truncate(edges);
+        let mut layout = Layout::new(&order, &all);
+        layout.count = crossings(&Circle::new(&layout));
+        layout
+    }
+
+    pub fn shuffle<T>(&mut self, items: &mut [T]) {
         for i in (1..items.len()).rev() {
             items.swap(i, self.below(i + 1));
         }

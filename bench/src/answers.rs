@@ -1,0 +1,245 @@
+//! All calls on many layouts, valid and not, accepted and refused: every side's
+//! answer is compared, whole, with that of the second program.
+
+use std::fmt::{Debug, Display};
+
+use layouts::{chart, fan, most_edges, Random};
+use second::calls::{self, Answer};
+use second::circle::Circle;
+use second::crossings::crossings;
+use second::layout::Layout;
+
+use crate::agreement::{agree, Outcome};
+use crate::{lists, proved};
+
+/// Compares all answers, and prints how many agree.
+pub fn print() -> Outcome {
+    let mut comparison = Comparison {
+        random: Random(2004),
+        answers: 0,
+    };
+    comparison.all_sizes()?;
+    comparison.no_crossing()?;
+    comparison.lists()?;
+    comparison.charts()?;
+    println!("bench: {} answers agree", comparison.answers);
+    Ok(())
+}
+
+/// Up to so many vertices, a layout is settled with any limit.
+const SMALL: u64 = 20;
+
+/// Lists of calls, and calls in each.
+const LISTS: u64 = 10;
+const LENGTH: usize = 100;
+
+/// Charts with changed bytes.
+const CHARTS: usize = 2000;
+
+struct Comparison {
+    random: Random,
+    /// So many agree.
+    answers: usize,
+}
+
+impl Comparison {
+    fn proved<A: PartialEq + Debug>(
+        &mut self,
+        call: impl Display,
+        proved: A,
+        second: A,
+    ) -> Outcome {
+        self.answers += 1;
+        agree(call, "proved", &proved, &second)
+    }
+
+    /// An answer of all three sides.
+    fn all<T: PartialEq + Debug>(
+        &mut self,
+        call: impl Display,
+        [proved, baseline, second]: [Answer<T>; 3],
+    ) -> Outcome {
+        self.answers += 2;
+        agree(&call, "proved", &proved, &second)?;
+        agree(&call, "baseline", &baseline, &second)
+    }
+
+    /// Every number of vertices, with no edges, with all, and with some.
+    fn all_sizes(&mut self) -> Outcome {
+        for n in 0..=64 {
+            let most = most_edges(n);
+            let few = most.min(2 * usize::from(n));
+            let kinds = [0, few, self.random.below(most + 1), most];
+            for edges in [kinds[usize::from(n % 4)], kinds[2]] {
+                let layout = self.random.layout(n, edges);
+                self.valid(layout)?;
+                self.any(layout)?;
+                self.changed(layout)?;
+            }
+        }
+        Ok(())
+    }
+
+    /// A layout whose count can be any.
+    fn valid(&mut self, mut layout: Layout) -> Outcome {
+        let counted = crossings(&Circle::new(&layout));
+        self.proved("crossings", proved::crossings(&layout), counted)?;
+        let carried = self.random.below(1 << 32) as u32;
+        for count in [0, u32::MAX, carried] {
+            layout.count = count;
+            self.edits(layout)?;
+        }
+        Ok(())
+    }
+
+    /// Layouts with one field changed. Most of them are not valid.
+    fn changed(&mut self, layout: Layout) -> Outcome {
+        let n = layout.n as usize;
+        let [v, w, place] = [64, 64, 64].map(|bound| self.random.below(bound));
+        let mut changed = [layout; 9];
+        changed[0].n = 65;
+        changed[1].n = u64::MAX;
+        changed[2].n = self.random.below(64) as u64;
+        changed[3].order[place] = v as u8;
+        changed[4].order[place % n.max(1)] = n as u8;
+        changed[5].order[place] = 255;
+        changed[6].adjacency[v] ^= 1 << w;
+        changed[7].adjacency[v] ^= 1 << v;
+        changed[8].flip_edge(63, w % 63);
+        changed.into_iter().try_for_each(|layout| self.any(layout))
+    }
+
+    /// A vertex that is there, most often.
+    fn vertex(&mut self, layout: &Layout) -> u64 {
+        match self.random.below(12) {
+            0 => layout.n,
+            1 => u64::MAX,
+            _ => self.random.below(layout.n.clamp(1, 64) as usize) as u64,
+        }
+    }
+
+    /// All calls on a layout, valid or not.
+    fn any(&mut self, l: Layout) -> Outcome {
+        let handed_over = calls::Answer {
+            refusal: 0,
+            layout: l,
+            value: (),
+        };
+        self.proved("no call", proved::no_call(l), handed_over)?;
+        self.proved("count", proved::count(l), calls::count(l))?;
+        let [pair, second] = [proved::first_crossing(l), calls::first_crossing(l)];
+        self.proved("pair", pair, second)?;
+        self.orders(l)?;
+        self.edits(l)?;
+        self.sifting(l)
+    }
+
+    /// The order, in buffers of any length that hold something else.
+    fn orders(&mut self, l: Layout) -> Outcome {
+        let n = l.n.min(64) as usize;
+        for length in [0, n.saturating_sub(1), n, 64, 65, self.random.below(66)] {
+            let mut buffers = [vec![0xA5; length], vec![0xA5; length]];
+            let answer = proved::order(l, &mut buffers[0]);
+            let second = calls::order(l, &mut buffers[1]);
+            let [buffer, other] = buffers;
+            let call = format!("order, a buffer of {length} bytes");
+            self.proved(call, (answer, buffer), (second, other))?;
+        }
+        Ok(())
+    }
+
+    /// The calls that change the edges or the order, but for sifting.
+    fn edits(&mut self, l: Layout) -> Outcome {
+        self.proved("add", proved::add_vertex(l), calls::add_vertex(l))?;
+        for _ in 0..4 {
+            let (a, b) = (self.vertex(&l), self.vertex(&l));
+            let call = |name| format!("{name} {a} {b}");
+            let [answer, second] = [proved::add_edge(l, a, b), calls::add_edge(l, a, b)];
+            self.proved(call("link"), answer, second)?;
+            let [answer, second] = [proved::remove_edge(l, a, b), calls::remove_edge(l, a, b)];
+            self.proved(call("unlink"), answer, second)?;
+            let [answer, second] = [proved::move_after(l, a, b), calls::move_after(l, a, b)];
+            self.proved(call("move"), answer, second)?;
+            let [answer, second] = [proved::greedy_append(l, a), calls::greedy_append(l, a)];
+            self.proved(format!("lay {a}"), answer, second)?;
+        }
+        Ok(())
+    }
+
+    fn sifting(&mut self, l: Layout) -> Outcome {
+        for _ in 0..4 {
+            let u = self.vertex(&l);
+            let sides = [proved::sift(l, u), baseline::sift(l, u), calls::sift(l, u)];
+            self.all(format!("sift {u}"), sides)?;
+        }
+        let sides = [
+            proved::sifting_round(l),
+            baseline::sifting_round(l),
+            calls::sifting_round(l),
+        ];
+        self.all("round", sides)?;
+        let limits = [0, 1001, u32::MAX, 2, 50, 1000];
+        let few = if l.n <= SMALL { 6 } else { 4 };
+        for &limit in &limits[..few] {
+            let sides = [
+                proved::converge(l, limit),
+                baseline::converge(l, limit),
+                calls::converge(l, limit),
+            ];
+            self.all(format!("settle {limit}"), sides)?;
+        }
+        Ok(())
+    }
+
+    /// A layout of many edges of which no two cross.
+    fn no_crossing(&mut self) -> Outcome {
+        self.any(fan())
+    }
+
+    /// Lists of calls from the empty layout.
+    fn lists(&mut self) -> Outcome {
+        for seed in 1..=LISTS {
+            let list = lists::mixed(seed, LENGTH);
+            let call = format!("list of calls {seed}");
+            self.proved(call, proved::play(&list), lists::play(&list))?;
+        }
+        Ok(())
+    }
+
+    /// Charts as they are, and with bytes changed, left out and added.
+    fn charts(&mut self) -> Outcome {
+        for _ in 0..CHARTS {
+            let n = self.random.below(65) as u8;
+            let edges = self.random.below(most_edges(n) + 1);
+            let layout = self.random.layout(n, edges);
+            let mut bytes = chart(&layout);
+            self.change(&mut bytes);
+            let [answer, second] = [proved::read_chart(&bytes), second::chart::read(&bytes)];
+            self.proved(format!("chart {bytes:?}"), answer, second)?;
+        }
+        Ok(())
+    }
+
+    fn change(&mut self, bytes: &mut Vec<u8>) {
+        let place = self.random.below(bytes.len());
+        let any = self.random.below(256) as u8;
+        match self.random.below(7) {
+            0 => {}
+            1 => bytes[place] = any,
+            2 => bytes[place.min(6)] = any,
+            3 => bytes.truncate(place),
+            4 => bytes.extend([any % 3, 0, 0]),
+            5 => halve_an_edge(bytes),
+            _ => bytes.resize(8190 + self.random.below(5), any),
+        }
+    }
+}
+
+/// Takes a byte out of a chart's edges, if it has any.
+fn halve_an_edge(bytes: &mut Vec<u8>) {
+    let length = u16::from_be_bytes([bytes[5], bytes[6]]);
+    if length > 0 {
+        bytes[5..7].copy_from_slice(&(length - 1).to_be_bytes());
+        bytes.remove(7);
+    }
+}

@@ -1,0 +1,259 @@
+//! The calls that are measured, each with the sides that it is measured on.
+
+use std::fmt::Debug;
+use std::hint::black_box;
+
+use layouts::{chart, fan, layout, pairs};
+use second::calls;
+use second::circle::Circle;
+use second::crossings::crossings;
+use second::layout::Layout;
+
+use crate::agreement::{agree, Outcome};
+use crate::{lists, proved};
+
+/// Makes a call so many times.
+pub type Repeat<'a> = Box<dyn Fn(u32) + 'a>;
+
+/// A call, to be measured on its sides: the proved one, the baseline if it has
+/// the call, and the second program.
+pub struct Row<'a> {
+    pub name: &'a str,
+    pub sides: Vec<Repeat<'a>>,
+}
+
+/// The columns of a row, so wide each. Where there is no baseline its column is
+/// blank.
+pub fn three_columns(sides: &[String], width: usize) -> String {
+    let blank = if sides.len() < 3 { width } else { 0 };
+    let right = |side: &String| format!("{side:>width$}");
+    let (proved, others) = sides.split_at(1);
+    let columns = |sides: &[String]| sides.iter().map(right).collect::<String>();
+    columns(proved) + &" ".repeat(blank) + &columns(others)
+}
+
+/// Does something with each row.
+pub fn for_each(mut does: impl FnMut(&Row)) -> Outcome {
+    let rows = &mut Rows { does: &mut does };
+    counting(rows)?;
+    for edges in [1000, 2015] {
+        accepted(rows, edges)?;
+    }
+    no_pair(rows)?;
+    charts(rows)?;
+    appending(rows)?;
+    sifting(rows)?;
+    playing(rows)?;
+    refused(rows)?;
+    handing_over(rows)
+}
+
+/// Where the rows go, if their sides answer alike.
+struct Rows<'a> {
+    does: &'a mut dyn FnMut(&Row),
+}
+
+impl Rows<'_> {
+    fn two<A: PartialEq + Debug>(
+        &mut self,
+        name: &str,
+        proved: impl Fn() -> A,
+        second: impl Fn() -> A,
+    ) -> Outcome {
+        agree(name, "proved", &proved(), &second())?;
+        let sides = vec![repeated(proved), repeated(second)];
+        (self.does)(&Row { name, sides });
+        Ok(())
+    }
+
+    fn three<A: PartialEq + Debug>(
+        &mut self,
+        name: &str,
+        proved: impl Fn() -> A,
+        baseline: impl Fn() -> A,
+        second: impl Fn() -> A,
+    ) -> Outcome {
+        let expected = second();
+        agree(name, "proved", &proved(), &expected)?;
+        agree(name, "baseline", &baseline(), &expected)?;
+        let sides = vec![repeated(proved), repeated(baseline), repeated(second)];
+        (self.does)(&Row { name, sides });
+        Ok(())
+    }
+}
+
+/// Each time the call is made, from inputs and for an answer that the compiler
+/// knows nothing about.
+fn repeated<'a, A>(call: impl Fn() -> A + 'a) -> Repeat<'a> {
+    Box::new(move |times| {
+        for _ in 0..times {
+            black_box(black_box(&call)());
+        }
+    })
+}
+
+fn counting(rows: &mut Rows) -> Outcome {
+    for edges in [1000, 2016] {
+        let l = layout(64, edges);
+        let circle = Circle::new(&l);
+        let name = format!("crossings, 64 vertices, {edges} edges");
+        rows.two(
+            &name,
+            || proved::crossings(&l),
+            || crossings(&Circle::new(&l)),
+        )?;
+        rows.two(
+            &format!("{name}, lists sorted"),
+            || proved::crossings(&l),
+            || crossings(&circle),
+        )?;
+    }
+    Ok(())
+}
+
+/// Calls on 64 vertices with so many edges, one of all 2,016 missing at least.
+fn accepted(rows: &mut Rows, edges: usize) -> Outcome {
+    let l = layout(64, edges);
+    let (a, b) = pairs(&l, false)[0];
+    let (c, d) = pairs(&l, true)[edges / 2];
+    let name = |call| format!("{call}, 64 vertices, {edges} edges");
+    rows.two(
+        &name("link"),
+        || proved::add_edge(l, a, b),
+        || calls::add_edge(l, a, b),
+    )?;
+    rows.two(
+        &name("unlink"),
+        || proved::remove_edge(l, c, d),
+        || calls::remove_edge(l, c, d),
+    )?;
+    rows.two(
+        &name("move"),
+        || proved::move_after(l, c, d),
+        || calls::move_after(l, c, d),
+    )?;
+    rows.two(&name("count"), || proved::count(l), || calls::count(l))?;
+    rows.two(
+        &name("order"),
+        || into_buffer(l, proved::order),
+        || into_buffer(l, calls::order),
+    )?;
+    rows.two(
+        &name("pair"),
+        || proved::first_crossing(l),
+        || calls::first_crossing(l),
+    )?;
+    let fewer = layout(63, edges.min(1953));
+    rows.two(
+        &format!("add, 63 vertices, {} edges", edges.min(1953)),
+        || proved::add_vertex(fewer),
+        || calls::add_vertex(fewer),
+    )
+}
+
+/// The most edges of 64 vertices of which no two cross.
+fn no_pair(rows: &mut Rows) -> Outcome {
+    let l = fan();
+    rows.two(
+        "pair, 64 vertices, 125 edges, none",
+        || proved::first_crossing(l),
+        || calls::first_crossing(l),
+    )
+}
+
+fn charts(rows: &mut Rows) -> Outcome {
+    for edges in [1000, 2016] {
+        let bytes = chart(&layout(64, edges));
+        rows.two(
+            &format!("reading a chart, 64 vertices, {edges} edges"),
+            || proved::read_chart(&bytes),
+            || second::chart::read(&bytes),
+        )?;
+    }
+    let bytes = [chart(&layout(64, 2016)), vec![0x52, 0, 1, 0]].concat();
+    rows.two(
+        "reading a chart refused 3, a fourth field",
+        || proved::read_chart(&bytes),
+        || second::chart::read(&bytes),
+    )
+}
+
+/// Laying 64 vertices with 1,000 edges.
+fn appending(rows: &mut Rows) -> Outcome {
+    let l = layout(64, 1000);
+    rows.two(
+        "lay, 64 vertices, 1000 edges",
+        || proved::greedy_append(l, 5),
+        || calls::greedy_append(l, 5),
+    )
+}
+
+/// Sifting 64 vertices with 1,000 edges.
+fn sifting(rows: &mut Rows) -> Outcome {
+    let l = layout(64, 1000);
+    let name = |call| format!("{call}, 64 vertices, 1000 edges");
+    rows.three(
+        &name("sift"),
+        || proved::sift(l, 5),
+        || baseline::sift(l, 5),
+        || calls::sift(l, 5),
+    )?;
+    rows.three(
+        &name("round"),
+        || proved::sifting_round(l),
+        || baseline::sifting_round(l),
+        || calls::sifting_round(l),
+    )?;
+    rows.three(
+        &name("settle with limit 50"),
+        || proved::converge(l, 50),
+        || baseline::converge(l, 50),
+        || calls::converge(l, 50),
+    )
+}
+
+/// A list of calls, each on what the one before it left.
+fn playing(rows: &mut Rows) -> Outcome {
+    let list = lists::mixed(1, 1000);
+    rows.two(
+        "1000 mixed calls from the empty layout",
+        || proved::play(&list),
+        || lists::play(&list),
+    )
+}
+
+fn into_buffer<A>(l: Layout, order: fn(Layout, &mut [u8]) -> A) -> (A, [u8; 64]) {
+    let mut buffer = [0; 64];
+    (order(l, &mut buffer), buffer)
+}
+
+fn refused(rows: &mut Rows) -> Outcome {
+    let l = layout(64, 2016);
+    let mut link = |name: &str, l: Layout, a: u64, b: u64| {
+        rows.two(
+            &format!("link refused {name}"),
+            || proved::add_edge(l, a, b),
+            || calls::add_edge(l, a, b),
+        )
+    };
+    link("12, 64 vertices, 2016 edges", l, 0, 64)?;
+    link("14, 64 vertices, 2016 edges", l, 0, 1)?;
+    let mut last = l;
+    last.adjacency[63] |= 1 << 63;
+    link("11, the last vertex joined to itself", last, 0, 1)?;
+    link("11, n is 65", Layout { n: 65, ..l }, 0, 1)
+}
+
+/// What the proved calls above spend on handing a layout over and back.
+fn handing_over(rows: &mut Rows) -> Outcome {
+    let l = layout(64, 2016);
+    rows.two(
+        "no call: a layout handed over and back",
+        || proved::no_call(l),
+        || calls::Answer {
+            refusal: 0,
+            layout: black_box(l),
+            value: (),
+        },
+    )
+}

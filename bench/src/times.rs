@@ -1,0 +1,95 @@
+//! The times of the calls on all sides, by turns.
+
+use std::time::{Duration, Instant};
+
+use crate::agreement::Outcome;
+use crate::rows::{self, three_columns, Repeat, Row};
+
+/// Batches of calls on each side: as many as go into the time for a side, from a
+/// few up.
+const FEWEST: f64 = 5.0;
+const MOST: f64 = 1001.0;
+const FOR_A_SIDE: Duration = Duration::from_secs(2);
+
+/// What a batch is to take, unless one call takes more.
+const BATCH: Duration = Duration::from_micros(200);
+
+/// The time of a call, in microseconds.
+#[derive(Clone, Copy)]
+struct Time {
+    median: f64,
+    minimum: f64,
+}
+
+/// Prints a line for each call.
+pub fn print() -> Outcome {
+    println!("\nmicroseconds of a call: median and minimum; ratio: proved to baseline, or to second where there is none\n");
+    println!(
+        "{:<49}{:>18}{:>18}{:>18}{:>14}",
+        "", "proved", "baseline", "second", "ratio"
+    );
+    let pair = format!("{:>9}{:>9}", "median", "min");
+    println!("{:<49}{pair}{pair}{pair}{:>8}{:>6}", "", "median", "min");
+    rows::for_each(line)
+}
+
+fn line(row: &Row) {
+    let times = times(&row.sides);
+    let columns: Vec<String> = times.iter().map(columns).collect();
+    let (proved, other) = (times[0], times[1]);
+    println!(
+        "{:<49}{}{:>8.2}{:>6.2}",
+        row.name,
+        three_columns(&columns, 18),
+        proved.median / other.median,
+        proved.minimum / other.minimum,
+    );
+}
+
+fn columns(time: &Time) -> String {
+    let number = |micros| match micros {
+        0.0..1000.0 => format!("{micros:>9.3}"),
+        _ => format!("{micros:>9.1}"),
+    };
+    number(time.median) + &number(time.minimum)
+}
+
+/// The time of a call on each side. The sides take turns, batch by batch, so that
+/// all see the same machine.
+fn times(sides: &[Repeat]) -> Vec<Time> {
+    let once: Vec<f64> = sides.iter().map(|side| batch(side, 1)).collect();
+    let calls: Vec<u32> = once.iter().map(|&once| calls_in_a_batch(once)).collect();
+    let turn = once.iter().zip(&calls);
+    let turn: f64 = turn.map(|(once, &calls)| once * f64::from(calls)).sum();
+    let turns = sides.len() as f64 * micros(FOR_A_SIDE) / turn;
+    let mut batches = vec![Vec::new(); sides.len()];
+    for _ in 0..turns.clamp(FEWEST, MOST) as usize {
+        for (side, times) in batches.iter_mut().enumerate() {
+            times.push(batch(&sides[side], calls[side]));
+        }
+    }
+    batches.into_iter().map(time).collect()
+}
+
+fn calls_in_a_batch(once: f64) -> u32 {
+    (micros(BATCH) / once).clamp(1.0, 1e4) as u32
+}
+
+fn micros(time: Duration) -> f64 {
+    time.as_secs_f64() * 1e6
+}
+
+/// The time of a call in a batch of so many, in microseconds.
+fn batch(side: &Repeat, calls: u32) -> f64 {
+    let start = Instant::now();
+    side(calls);
+    micros(start.elapsed()) / f64::from(calls)
+}
+
+fn time(mut batches: Vec<f64>) -> Time {
+    batches.sort_by(f64::total_cmp);
+    Time {
+        median: batches[batches.len() / 2],
+        minimum: batches[0],
+    }
+}
