@@ -246,8 +246,8 @@ uint8_t rl_move_after(rl_layout *l, size_t a, size_t b);
  * Refused: 12. */
 rl_tally rl_greedy_append(rl_layout *l, size_t start);
 
-/* Moves u to where the crossings are fewest; where no place has fewer than its
- * own, u stays (sift). Refused: 12. */
+/* Moves u to where the crossings are fewest, of several places to the first
+ * clockwise; where none has fewer than its own, u stays (sift). Refused: 12. */
 rl_reduction rl_sift(rl_layout *l, size_t u);
 
 /* A sifting round: sifts each vertex once, in rising number (round). */

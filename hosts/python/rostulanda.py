@@ -215,6 +215,11 @@ def _vertex(value: int) -> int:
     return _number(value, 2**64 - 1)
 
 
+def _bytes(chart: bytes) -> bytes:
+    """The bytes of anything that holds bytes, and of nothing else."""
+    return memoryview(chart).tobytes()
+
+
 # ---- what calls answer -------------------------------------------------------
 
 
@@ -345,8 +350,8 @@ class Layout:
 
     def read_chart(self, chart: bytes) -> None:
         """Reads a chart into this layout; a refused one leaves it as it was."""
-        chart = bytes(chart)
-        _accept(_library.rl_read_chart(self.fields, chart, len(chart)))
+        held = _bytes(chart)
+        _accept(_library.rl_read_chart(self.fields, held, len(held)))
 
     def add_vertex(self) -> int:
         """Adds a vertex without edges at the end of the order (document 01: add).
@@ -379,9 +384,10 @@ class Layout:
         return answer.tally
 
     def sift(self, u: int) -> int:
-        """Moves u to where the crossings are fewest, and gives the reduction.
+        """Moves u to where the crossings are fewest, and gives the reduction (document 01: saving).
 
-        Where no place has fewer than its own, u stays.
+        Of several places it is the first clockwise; where none has fewer than
+        its own, u stays.
         """
         answer = _library.rl_sift(self.fields, _vertex(u))
         _accept(answer.refusal)
@@ -422,8 +428,13 @@ class Layout:
 
     def write_order(self, buffer: bytearray) -> None:
         """Writes the order to the first n bytes of the buffer; the others keep what they hold."""
+        if not isinstance(buffer, bytearray):
+            # Another kind of buffer might be part of the layout itself.
+            raise TypeError("the buffer is to be a bytearray")
         lent = (c_uint8 * len(buffer)).from_buffer(buffer)
-        _accept(_library.rl_order(self.fields, lent, len(buffer)))
+        refusal = _library.rl_order(self.fields, lent, len(buffer))
+        del lent  # or the buffer keeps its size as long as a traceback is held
+        _accept(refusal)
 
     def first_crossing(self) -> Optional[Tuple[Edge, Edge]]:
         """The first two edges that cross (document 01: shown crossing pair), or None.
@@ -514,9 +525,9 @@ settle = layout
 
 def list_chart(chart: bytes) -> str:
     """What the program ringlist prints for a chart: seven lines, or one for a refused chart."""
-    chart = bytes(chart)
+    held = _bytes(chart)
     out = (c_uint8 * LISTING_BYTES)()
-    length = _library.rl_list_chart(chart, len(chart), out, len(out))
+    length = _library.rl_list_chart(held, len(held), out, len(out))
     return bytes(out[:length]).decode("ascii")
 
 
@@ -561,7 +572,7 @@ def play(calls: Iterable[Sequence[Any]], chart: Optional[bytes] = None) -> Playe
     for name, *named in calls:
         first, second = (list(map(_vertex, named)) + [0, 0])[:2]
         numbers += [CALLS[name], first, second]
-    held = b"" if chart is None else bytes(chart)
+    held = b"" if chart is None else _bytes(chart)
     listed = (c_uint64 * len(numbers))(*numbers)
     table = (c_uint64 * (len(numbers) // 3 * 4))()
     played = _library.rl_play(chart is not None, held, len(held), listed, len(listed), table, len(table))

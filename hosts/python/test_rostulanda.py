@@ -47,6 +47,8 @@ class LayoutTest(unittest.TestCase):
         self.refuses(Refusal.CHART_TAGS, layout.read_chart, b"")
         self.refuses(Refusal.CHART_FIELDS, layout.read_chart, b"\x01")
         self.refuses(Refusal.CHART_TOO_LONG, layout.read_chart, bytes(8193))
+        with self.assertRaises(TypeError):
+            layout.read_chart(5)
         self.assertEqual(layout, Layout.from_chart(CHART))
 
     def test_edits(self):
@@ -96,7 +98,11 @@ class LayoutTest(unittest.TestCase):
         short = bytearray([77] * 3)
         self.refuses(Refusal.BUFFER_TOO_SHORT, layout.write_order, short)
         self.assertEqual(short, bytes([77] * 3))
+        short.append(77)
+        layout.write_order(short)
         Layout().write_order(bytearray())
+        with self.assertRaises(TypeError):
+            layout.write_order(memoryview(layout.fields.order))
 
     def test_an_invalid_layout_is_refused_and_left(self):
         layout = Layout.from_chart(CHART)

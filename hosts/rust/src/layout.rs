@@ -128,8 +128,9 @@ impl Layout {
         accepted(answer.refusal, answer.tally)
     }
 
-    /// Moves u to where the crossings are fewest, and gives the reduction
-    /// (document 01: saving). Where no place has fewer than its own, u stays.
+    /// Moves u to where the crossings are fewest, of several places to the
+    /// first clockwise, and gives the reduction (document 01: saving). Where
+    /// none has fewer than its own, u stays.
     pub fn sift(&mut self, u: usize) -> Result<u32, Refusal> {
         let answer = ffi::rl_sift(&mut self.fields, u);
         accepted(answer.refusal, answer.reduction)
