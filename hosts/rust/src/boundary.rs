@@ -32,8 +32,9 @@ pub fn text() -> String {
     lines_of!(lines, "rl_counted", Counted, refusal count);
     lines_of!(lines, "rl_crossing", Crossing, refusal found first second);
     lines_of!(lines, "rl_played", Played, refusal layout calls);
-    for (refusal, code, question) in REFUSALS {
-        lines += &format!("{code} {} {question}\n", c_name(&format!("{refusal:?}")));
+    for refusal in REFUSALS {
+        let name = c_name(&format!("{refusal:?}"));
+        lines += &format!("{} {name} {}\n", refusal.code(), refusal.question());
     }
     lines
 }
