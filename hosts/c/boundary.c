@@ -1,0 +1,71 @@
+/*
+ * Prints what crosses the boundary as C sees it: the size of each struct and the
+ * offset of each field, and each refusal code with its name and question. The
+ * other hosts print the same lines.
+ */
+#include <stdio.h>
+
+#include "rostulanda.h"
+
+#define SIZE(type) printf(#type " %zu\n", sizeof(type))
+#define AT(type, field) printf(#type "." #field " %zu\n", offsetof(type, field))
+#define REFUSAL(name) printf("%u " #name " %s\n", RL_##name, rl_refusal_text(RL_##name))
+
+int main(void)
+{
+    SIZE(rl_layout);
+    AT(rl_layout, n);
+    AT(rl_layout, order);
+    AT(rl_layout, adjacency);
+    AT(rl_layout, count);
+    SIZE(rl_edge);
+    AT(rl_edge, low);
+    AT(rl_edge, high);
+    SIZE(rl_vertex);
+    AT(rl_vertex, refusal);
+    AT(rl_vertex, vertex);
+    SIZE(rl_tally);
+    AT(rl_tally, refusal);
+    AT(rl_tally, tally);
+    SIZE(rl_reduction);
+    AT(rl_reduction, refusal);
+    AT(rl_reduction, reduction);
+    SIZE(rl_round);
+    AT(rl_round, refusal);
+    AT(rl_round, reduction);
+    AT(rl_round, moved);
+    SIZE(rl_convergence);
+    AT(rl_convergence, refusal);
+    AT(rl_convergence, reduction);
+    AT(rl_convergence, rounds);
+    AT(rl_convergence, converged);
+    SIZE(rl_counted);
+    AT(rl_counted, refusal);
+    AT(rl_counted, count);
+    SIZE(rl_crossing);
+    AT(rl_crossing, refusal);
+    AT(rl_crossing, found);
+    AT(rl_crossing, first);
+    AT(rl_crossing, second);
+    SIZE(rl_played);
+    AT(rl_played, refusal);
+    AT(rl_played, layout);
+    AT(rl_played, calls);
+    REFUSAL(CHART_TOO_LONG);
+    REFUSAL(CHART_FIELDS);
+    REFUSAL(CHART_TAGS);
+    REFUSAL(CHART_VERTICES);
+    REFUSAL(CHART_ODD_EDGES);
+    REFUSAL(CHART_EDGE_ENDS);
+    REFUSAL(CHART_EDGE_TWICE);
+    REFUSAL(CHART_ORDER);
+    REFUSAL(INVALID_LAYOUT);
+    REFUSAL(NO_SUCH_VERTEX);
+    REFUSAL(SAME_VERTEX);
+    REFUSAL(EDGE_IS_THERE);
+    REFUSAL(NO_SUCH_EDGE);
+    REFUSAL(NO_ROOM);
+    REFUSAL(LIMIT_OUT_OF_RANGE);
+    REFUSAL(BUFFER_TOO_SHORT);
+    return 0;
+}

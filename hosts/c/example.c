@@ -1,0 +1,90 @@
+/*
+ * Reads a chart from the file named, or from standard input, and prints its row
+ * as the program ringlist does. Then adds a vertex, joins it to vertex 0, and
+ * prints the row of the layout that this leads to.
+ */
+#include <stdio.h>
+
+#include "rostulanda.h"
+
+/* The limit of sifting rounds. */
+#define LIMIT 50
+
+/* Says what was refused; the status of the program. */
+static int refused(uint8_t refusal)
+{
+    printf("refused %u\n", refusal);
+    fprintf(stderr, "refused with %u: %s No.\n", refusal, rl_refusal_text(refusal));
+    return 1;
+}
+
+/* How many edges a valid layout has: each stands in two adjacency words. */
+static unsigned edges(const rl_layout *l)
+{
+    unsigned bits = 0;
+    for (size_t v = 0; v < l->n; v++)
+        for (uint64_t word = l->adjacency[v]; word != 0; word &= word - 1)
+            bits++;
+    return bits / 2;
+}
+
+/* Converges the layout and prints its row. */
+static int print_row(rl_layout *l)
+{
+    rl_counted before = rl_count(l);
+    if (before.refusal != RL_ACCEPTED)
+        return refused(before.refusal);
+    rl_convergence run = rl_converge(l, LIMIT);
+    if (run.refusal != RL_ACCEPTED)
+        return refused(run.refusal);
+    uint8_t order[RL_PLACES];
+    uint8_t refusal = rl_order(l, order, sizeof order);
+    if (refusal != RL_ACCEPTED)
+        return refused(refusal);
+
+    printf("devices %zu\n", l->n);
+    printf("links %u\n", edges(l));
+    printf("before %u\n", before.count);
+    printf("after %u\n", rl_count(l).count);
+    printf("rounds %u\n", run.rounds);
+    printf("settled %s\n", run.converged ? "yes" : "no");
+    printf("order");
+    for (size_t place = 0; place < l->n; place++)
+        printf(" %u", order[place]);
+    printf("\n");
+    return 0;
+}
+
+/* Adds a vertex, and an edge from it to vertex 0 where that is another one. */
+static uint8_t add_joined(rl_layout *l)
+{
+    rl_vertex added = rl_add_vertex(l);
+    if (added.refusal != RL_ACCEPTED || added.vertex == 0)
+        return added.refusal;
+    return rl_add_edge(l, added.vertex, 0);
+}
+
+int main(int argc, char **argv)
+{
+    FILE *file = argc > 1 ? fopen(argv[1], "rb") : stdin;
+    if (file == NULL) {
+        perror(argv[1]);
+        return 2;
+    }
+    /* One byte more than a chart may have, to tell that it is too long. */
+    uint8_t chart[RL_CHART_BYTES + 1];
+    size_t length = fread(chart, 1, sizeof chart, file);
+
+    rl_layout l = rl_empty();
+    uint8_t refusal = rl_read_chart(&l, chart, length);
+    if (refusal != RL_ACCEPTED)
+        return refused(refusal);
+    if (print_row(&l) != 0)
+        return 1;
+
+    printf("\n");
+    refusal = add_joined(&l);
+    if (refusal != RL_ACCEPTED)
+        return refused(refusal);
+    return print_row(&l);
+}

@@ -1,0 +1,241 @@
+/*
+ * Plays a list of calls from standard input through one lent layout and prints
+ * the answer lines. Both formats are in tests/README.md.
+ */
+#include <inttypes.h>
+#include <stdio.h>
+#include <stdlib.h>
+#include <string.h>
+
+#include "rostulanda.h"
+
+/* Bytes in a record; a chart is padded to a multiple of it. */
+#define RECORD 32
+
+/* The longest buffer that a list can lend for an order. */
+#define LONGEST_BUFFER 255
+
+/* A list, and how far it is played. */
+typedef struct list {
+    uint8_t *bytes;
+    size_t length;
+    size_t at;
+} list;
+
+/* A record: the op, and the numbers that it takes. */
+typedef struct record {
+    uint64_t op, a, b;
+} record;
+
+/* All of standard input. */
+static list read_list(void)
+{
+    list read = {NULL, 0, 0};
+    size_t room = 0;
+    do {
+        room += 1 << 16;
+        uint8_t *bytes = realloc(read.bytes, room);
+        if (bytes == NULL) {
+            perror("play");
+            exit(2);
+        }
+        read.bytes = bytes;
+        read.length += fread(bytes + read.length, 1, room - read.length, stdin);
+    } while (read.length == room);
+    return read;
+}
+
+static uint64_t number_at(const uint8_t *bytes)
+{
+    uint64_t number = 0;
+    for (int i = 7; i >= 0; i--)
+        number = number << 8 | bytes[i];
+    return number;
+}
+
+/* The next record; false if not all of it is there. */
+static bool take_record(list *l, record *taken)
+{
+    if (l->length - l->at < RECORD)
+        return false;
+    const uint8_t *bytes = l->bytes + l->at;
+    taken->op = number_at(bytes);
+    taken->a = number_at(bytes + 8);
+    taken->b = number_at(bytes + 16);
+    l->at += RECORD;
+    return true;
+}
+
+/* The next chart; NULL if not all of it and of its padding is there. */
+static const uint8_t *take_chart(list *l, uint64_t length)
+{
+    size_t left = l->length - l->at;
+    if (length > left)
+        return NULL;
+    size_t padded = (length + RECORD - 1) / RECORD * RECORD;
+    if (padded > left)
+        return NULL;
+    const uint8_t *chart = l->bytes + l->at;
+    l->at += padded;
+    return chart;
+}
+
+/* Sets one field, if that is what the record asks for. */
+static bool set_field(rl_layout *l, record r)
+{
+    switch (r.op) {
+    case 2:
+        l->n = r.a;
+        return true;
+    case 3:
+        if (r.a < RL_PLACES)
+            l->order[r.a] = (uint8_t)r.b;
+        return true;
+    case 4:
+        if (r.a < RL_PLACES)
+            l->adjacency[r.a] = r.b;
+        return true;
+    case 5:
+        l->count = (uint32_t)r.a;
+        return true;
+    default:
+        return false;
+    }
+}
+
+static void print_bytes(const uint8_t *bytes, size_t length)
+{
+    for (size_t i = 0; i < length; i++)
+        printf(" %u", bytes[i]);
+}
+
+/* Starts from a chart, and from the empty layout if that is refused. */
+static bool play_chart(rl_layout *l, list *rest, uint64_t length)
+{
+    const uint8_t *chart = take_chart(rest, length);
+    if (chart == NULL)
+        return false;
+    *l = rl_empty();
+    printf("chart %u", rl_read_chart(l, chart, length));
+    return true;
+}
+
+static void play_converge(rl_layout *l, uint64_t limit)
+{
+    rl_convergence run = rl_converge(l, limit < UINT32_MAX ? (uint32_t)limit : UINT32_MAX);
+    printf("settle %u %u %u %s", run.refusal, run.reduction, run.rounds, run.converged ? "yes" : "no");
+}
+
+static void play_order(const rl_layout *l, uint64_t length, uint64_t fill)
+{
+    uint8_t buffer[LONGEST_BUFFER];
+    size_t lent = length < LONGEST_BUFFER ? length : LONGEST_BUFFER;
+    memset(buffer, (uint8_t)fill, lent);
+    printf("order %u buffer", rl_order(l, buffer, lent));
+    print_bytes(buffer, lent);
+}
+
+static void play_first_crossing(const rl_layout *l)
+{
+    rl_crossing crossing = rl_first_crossing(l);
+    printf("pair %u", crossing.refusal);
+    if (crossing.found)
+        printf(" pair %zu %zu %zu %zu", crossing.first.low, crossing.first.high,
+               crossing.second.low, crossing.second.high);
+    else
+        printf(" %s", crossing.refusal == RL_ACCEPTED ? "none" : "refused");
+}
+
+/* Makes one call and prints its name, refusal code and answers; false if the
+ * op is none. */
+static bool play_call(rl_layout *l, list *rest, record r)
+{
+    switch (r.op) {
+    case 0:
+        *l = rl_empty();
+        printf("empty 0");
+        return true;
+    case 1:
+        return play_chart(l, rest, r.a);
+    case 16: {
+        rl_vertex added = rl_add_vertex(l);
+        printf("add %u %zu", added.refusal, added.vertex);
+        return true;
+    }
+    case 17:
+        printf("link %u", rl_add_edge(l, r.a, r.b));
+        return true;
+    case 18:
+        printf("unlink %u", rl_remove_edge(l, r.a, r.b));
+        return true;
+    case 19:
+        printf("move %u", rl_move_after(l, r.a, r.b));
+        return true;
+    case 20: {
+        rl_tally laid = rl_greedy_append(l, r.a);
+        printf("lay %u %u", laid.refusal, laid.tally);
+        return true;
+    }
+    case 21: {
+        rl_reduction sifted = rl_sift(l, r.a);
+        printf("sift %u %u", sifted.refusal, sifted.reduction);
+        return true;
+    }
+    case 22: {
+        rl_round round = rl_sifting_round(l);
+        printf("round %u %u %u", round.refusal, round.reduction, round.moved);
+        return true;
+    }
+    case 23:
+        play_converge(l, r.a);
+        return true;
+    case 24: {
+        rl_counted counted = rl_count(l);
+        printf("count %u %u", counted.refusal, counted.count);
+        return true;
+    }
+    case 25:
+        play_order(l, r.a, r.b);
+        return true;
+    case 26:
+        play_first_crossing(l);
+        return true;
+    default:
+        return false;
+    }
+}
+
+/* The layout, with the adjacency words that differ from those before. */
+static void print_layout(const rl_layout *l, const rl_layout *before)
+{
+    printf(" n %zu order", l->n);
+    print_bytes(l->order, RL_PLACES);
+    printf(" count %u words", l->count);
+    for (int v = 0; v < RL_PLACES; v++)
+        if (l->adjacency[v] != before->adjacency[v])
+            printf(" %d %" PRIu64, v, l->adjacency[v]);
+    printf("\n");
+}
+
+int main(void)
+{
+    list rest = read_list();
+    rl_layout l = rl_empty();
+    while (rest.at < rest.length) {
+        rl_layout before = l;
+        record r;
+        if (!take_record(&rest, &r)) {
+            printf("end\n");
+            break;
+        }
+        if (set_field(&l, r))
+            continue;
+        if (!play_call(&l, &rest, r)) {
+            printf("end\n");
+            break;
+        }
+        print_layout(&l, &before);
+    }
+    free(rest.bytes);
+    return 0;
+}

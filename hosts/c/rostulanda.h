@@ -1,0 +1,316 @@
+/*
+ * Rostulanda: circular layouts with few crossings, proved.
+ *
+ * Vertices stand round a circle and edges are chords. A host holds one layout
+ * and lends it to each call, which changes it in place. Link with the static
+ * library: -Ltarget/staticlib -lin_place (hosts/README.md). x86-64 only.
+ *
+ * The words are those of graph drawing. Document 01's stand in brackets:
+ * layout (ring), vertex (device), edge (link), valid (whole).
+ *
+ * What holds for every call:
+ *
+ * - A call answers a refusal code, RL_ACCEPTED or the first question that was
+ *   answered "no". A refused call leaves the layout and every lent buffer as
+ *   they came; its other numbers are 0 and its bools false.
+ * - Every pointer is non-NULL and aligned for its type, also where the length
+ *   beside it is 0. A length counts elements, not bytes.
+ * - Two things lent to one call do not overlap.
+ * - The fields of a lent layout may hold anything at all: a layout that is not
+ *   valid is refused with RL_INVALID_LAYOUT. Only its count is not examined.
+ * - A call keeps nothing and allocates nothing. Two calls on two layouts may
+ *   run at the same time; two on one layout, only if both take it as const.
+ */
+#ifndef ROSTULANDA_H
+#define ROSTULANDA_H
+
+#include <stdbool.h>
+#include <stddef.h>
+#include <stdint.h>
+
+#ifdef __cplusplus
+extern "C" {
+#endif
+
+/* The most vertices, and the places of an order. */
+#define RL_PLACES 64
+
+/* Every chart of more bytes is refused. */
+#define RL_CHART_BYTES 8192
+
+/* The least buffer for rl_list_chart. */
+#define RL_LISTING_BYTES 1024
+
+/* Refusal codes (document 01: the numbers of the questions). */
+enum rl_refusal {
+    RL_ACCEPTED = 0,
+
+    /* Reading a chart. Tags are hexadecimal. */
+    RL_CHART_TOO_LONG = 1,
+    RL_CHART_FIELDS = 2,
+    RL_CHART_TAGS = 3,
+    RL_CHART_VERTICES = 4,
+    RL_CHART_ODD_EDGES = 5,
+    RL_CHART_EDGE_ENDS = 6,
+    RL_CHART_EDGE_TWICE = 7,
+    RL_CHART_ORDER = 8,
+
+    /* Calls on a layout. */
+    RL_INVALID_LAYOUT = 11,
+    RL_NO_SUCH_VERTEX = 12,
+    RL_SAME_VERTEX = 13,
+    RL_EDGE_IS_THERE = 14,
+    RL_NO_SUCH_EDGE = 15,
+    RL_NO_ROOM = 16,
+    RL_LIMIT_OUT_OF_RANGE = 17,
+    RL_BUFFER_TOO_SHORT = 18
+};
+
+/* The question that a refused call answered "no". */
+static inline const char *rl_refusal_text(uint8_t refusal)
+{
+    switch (refusal) {
+    case RL_ACCEPTED: return "accepted";
+    case RL_CHART_TOO_LONG: return "is the chart at most 8,192 bytes long?";
+    case RL_CHART_FIELDS: return "does the chart divide exactly into fields, each header and body complete?";
+    case RL_CHART_TAGS: return "are the tags 44, 4C, 52, each once, in that sequence?";
+    case RL_CHART_VERTICES: return "is the body of field 44 one byte, at most 64?";
+    case RL_CHART_ODD_EDGES: return "has the body of field 4C an even length?";
+    case RL_CHART_EDGE_ENDS: return "are the ends of each edge below n and different?";
+    case RL_CHART_EDGE_TWICE: return "is each edge written only once, either way round?";
+    case RL_CHART_ORDER: return "has the body of field 52 n bytes, holding each vertex once?";
+    case RL_INVALID_LAYOUT: return "is the layout valid?";
+    case RL_NO_SUCH_VERTEX: return "is each named vertex below n?";
+    case RL_SAME_VERTEX: return "do the two vertices differ?";
+    case RL_EDGE_IS_THERE: return "is there no edge between the two vertices yet?";
+    case RL_NO_SUCH_EDGE: return "is there an edge between the two vertices?";
+    case RL_NO_ROOM: return "is n below 64?";
+    case RL_LIMIT_OUT_OF_RANGE: return "is the limit from 1 to 1000?";
+    case RL_BUFFER_TOO_SHORT: return "is the lent buffer long enough?";
+    default: return "unknown";
+    }
+}
+
+/*
+ * A circular layout (document 01: ring) of n vertices, 0 to n - 1.
+ *
+ * The first n places of the order hold the vertices clockwise, each once; the
+ * others are 0. Bit w of adjacency[v] (neighbour word) is set exactly when an
+ * edge joins v and w. count is the carried count: from rl_empty or
+ * rl_read_chart on it is the number of crossings. All bytes 0 is the empty
+ * layout.
+ */
+typedef struct rl_layout {
+    size_t n;
+    uint8_t order[RL_PLACES];
+    uint64_t adjacency[RL_PLACES];
+    uint32_t count;
+} rl_layout;
+
+/* An edge (document 01: link), the lower end first. */
+typedef struct rl_edge {
+    size_t low;
+    size_t high;
+} rl_edge;
+
+/* The number of the added vertex. */
+typedef struct rl_vertex {
+    uint8_t refusal;
+    size_t vertex;
+} rl_vertex;
+
+/* The crossings at the ends taken by greedy append. */
+typedef struct rl_tally {
+    uint8_t refusal;
+    uint32_t tally;
+} rl_tally;
+
+/* The reduction (document 01: saving): crossings before less crossings after. */
+typedef struct rl_reduction {
+    uint8_t refusal;
+    uint32_t reduction;
+} rl_reduction;
+
+/* The summed reduction, and how many vertices moved. */
+typedef struct rl_round {
+    uint8_t refusal;
+    uint32_t reduction;
+    uint32_t moved;
+} rl_round;
+
+/* The summed reduction, the rounds run, the last one included, and whether that
+ * one moved no vertex (document 01: settled). */
+typedef struct rl_convergence {
+    uint8_t refusal;
+    uint32_t reduction;
+    uint32_t rounds;
+    bool converged;
+} rl_convergence;
+
+/* The carried count. */
+typedef struct rl_counted {
+    uint8_t refusal;
+    uint32_t count;
+} rl_counted;
+
+/* Two edges that cross, if found. Not found and accepted: no two edges cross. */
+typedef struct rl_crossing {
+    uint8_t refusal;
+    bool found;
+    rl_edge first;
+    rl_edge second;
+} rl_crossing;
+
+/* A list of calls played: the layout at the end, and how many calls it had. */
+typedef struct rl_played {
+    uint8_t refusal;
+    rl_layout layout;
+    size_t calls;
+} rl_played;
+
+/* The library was compiled for just these sizes and offsets. */
+#ifdef __cplusplus
+#define RL_HOLDS(fact) static_assert(fact, #fact)
+#else
+#define RL_HOLDS(fact) _Static_assert(fact, #fact)
+#endif
+#define RL_SIZE(type, size) RL_HOLDS(sizeof(type) == (size))
+#define RL_AT(type, field, offset) RL_HOLDS(offsetof(type, field) == (offset))
+RL_SIZE(rl_layout, 592);
+RL_AT(rl_layout, n, 0);
+RL_AT(rl_layout, order, 8);
+RL_AT(rl_layout, adjacency, 72);
+RL_AT(rl_layout, count, 584);
+RL_SIZE(rl_edge, 16);
+RL_AT(rl_edge, low, 0);
+RL_AT(rl_edge, high, 8);
+RL_SIZE(rl_vertex, 16);
+RL_AT(rl_vertex, refusal, 0);
+RL_AT(rl_vertex, vertex, 8);
+RL_SIZE(rl_tally, 8);
+RL_AT(rl_tally, refusal, 0);
+RL_AT(rl_tally, tally, 4);
+RL_SIZE(rl_reduction, 8);
+RL_AT(rl_reduction, refusal, 0);
+RL_AT(rl_reduction, reduction, 4);
+RL_SIZE(rl_round, 12);
+RL_AT(rl_round, refusal, 0);
+RL_AT(rl_round, reduction, 4);
+RL_AT(rl_round, moved, 8);
+RL_SIZE(rl_convergence, 16);
+RL_AT(rl_convergence, refusal, 0);
+RL_AT(rl_convergence, reduction, 4);
+RL_AT(rl_convergence, rounds, 8);
+RL_AT(rl_convergence, converged, 12);
+RL_SIZE(rl_counted, 8);
+RL_AT(rl_counted, refusal, 0);
+RL_AT(rl_counted, count, 4);
+RL_SIZE(rl_crossing, 40);
+RL_AT(rl_crossing, refusal, 0);
+RL_AT(rl_crossing, found, 1);
+RL_AT(rl_crossing, first, 8);
+RL_AT(rl_crossing, second, 24);
+RL_SIZE(rl_played, 608);
+RL_AT(rl_played, refusal, 0);
+RL_AT(rl_played, layout, 8);
+RL_AT(rl_played, calls, 600);
+#undef RL_AT
+#undef RL_SIZE
+#undef RL_HOLDS
+
+/* ---- where a layout comes from ---- */
+
+/* The layout without vertices. */
+rl_layout rl_empty(void);
+
+/* Reads a chart, and its true crossings with it. Refused: 1 to 8. */
+uint8_t rl_read_chart(rl_layout *l, const uint8_t *chart, size_t length);
+
+/* ---- calls that change a layout; each asks first whether it is valid (11) ---- */
+
+/* Adds vertex n, without edges, at the end of the order (document 01: add).
+ * Refused: 16. */
+rl_vertex rl_add_vertex(rl_layout *l);
+
+/* Joins a and b by an edge (link). Refused: 12, 13, 14. */
+uint8_t rl_add_edge(rl_layout *l, size_t a, size_t b);
+
+/* Takes the edge between a and b away (unlink). Refused: 12, 13, 15. */
+uint8_t rl_remove_edge(rl_layout *l, size_t a, size_t b);
+
+/* Takes a out of the order and puts it directly after b (move a behind b).
+ * Refused: 12, 13. */
+uint8_t rl_move_after(rl_layout *l, size_t a, size_t b);
+
+/* Makes a new order by greedy append from a first vertex (lay from s).
+ * Refused: 12. */
+rl_tally rl_greedy_append(rl_layout *l, size_t start);
+
+/* Moves u to where the crossings are fewest, of several places to the first
+ * clockwise; where none has fewer than its own, u stays (sift). Refused: 12. */
+rl_reduction rl_sift(rl_layout *l, size_t u);
+
+/* A sifting round: sifts each vertex once, in rising number (round). */
+rl_round rl_sifting_round(rl_layout *l);
+
+/* Sifting rounds until one moves no vertex, or limit of them are run (settle).
+ * Converged: a local minimum, no move of one vertex lowers the crossings.
+ * Refused: 17. */
+rl_convergence rl_converge(rl_layout *l, uint32_t limit);
+
+/* ---- calls that only read; all but the last ask first whether it is valid (11) ---- */
+
+/* The carried count. */
+rl_counted rl_count(const rl_layout *l);
+
+/* Writes the order to the first n bytes of the buffer; the others keep what
+ * they hold. Refused: 18, for fewer than n bytes. */
+uint8_t rl_order(const rl_layout *l, uint8_t *buffer, size_t length);
+
+/* The first two edges that cross, edges sorted by lower, then higher end (the
+ * shown crossing pair). */
+rl_crossing rl_first_crossing(const rl_layout *l);
+
+/* Whether the layout is valid (whole): all of the fields as rl_layout says,
+ * but for the count. */
+bool rl_is_valid(const rl_layout *l);
+
+/* ---- charts and lists of calls, no layout lent ---- */
+
+/* Writes what the program ringlist prints for a chart, seven lines or one for a
+ * refused chart, and answers how many bytes that is; the bytes behind them keep
+ * what they hold. A buffer of fewer than RL_LISTING_BYTES is left alone, and
+ * the answer is 0. */
+size_t rl_list_chart(const uint8_t *chart, size_t length, uint8_t *out, size_t out_length);
+
+/* The first of the three numbers of a call in a list. */
+enum rl_call {
+    RL_CALL_ADD_VERTEX = 16,
+    RL_CALL_ADD_EDGE = 17,
+    RL_CALL_REMOVE_EDGE = 18,
+    RL_CALL_MOVE_AFTER = 19,
+    RL_CALL_GREEDY_APPEND = 20,
+    RL_CALL_SIFT = 21,
+    RL_CALL_SIFTING_ROUND = 22,
+    RL_CALL_CONVERGE = 23
+};
+
+/*
+ * Plays a list of calls from the empty layout, or from a chart. A call is three
+ * numbers: an rl_call and what it names, 0 where it names less. The list ends
+ * at the first number that is no rl_call; one or two numbers at its end are not
+ * looked at. An answer is four numbers: the refusal code and up to three more,
+ * in the sequence of the call's own answer, 0 where it has fewer. Refused: 1 to
+ * 8 for the chart (the layout is then empty), and 18 for fewer than four
+ * numbers to write for each call (the layout is then the one at the start).
+ * Answers behind the last call keep what they hold.
+ */
+rl_played rl_play(bool from_chart, const uint8_t *chart, size_t chart_length,
+                  const uint64_t *calls, size_t calls_length,
+                  uint64_t *answers, size_t answers_length);
+
+#ifdef __cplusplus
+}
+#endif
+
+#endif

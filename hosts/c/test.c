@@ -1,0 +1,219 @@
+/*
+ * What the header says of the boundary, tried: every function once, refusals,
+ * and what stays untouched. That all answers are right is what the comparisons
+ * of play.c look at. Prints what fails, and how many facts were tried.
+ */
+#include <stdio.h>
+#include <string.h>
+
+#include "rostulanda.h"
+
+static int tried, failed;
+
+#define HOLDS(fact)                                                   \
+    do {                                                              \
+        tried++;                                                      \
+        if (!(fact)) {                                                \
+            failed++;                                                 \
+            printf("test.c:%d: this does not hold: %s\n", __LINE__, #fact); \
+        }                                                             \
+    } while (0)
+
+/* Four vertices, 0-2 and 1-3: one crossing. */
+static const uint8_t chart[] = {0x44, 0, 1, 4, 0x4C, 0, 4, 0, 2, 1, 3, 0x52, 0, 4, 0, 1, 2, 3};
+
+static rl_layout first(void)
+{
+    rl_layout l = rl_empty();
+    HOLDS(rl_read_chart(&l, chart, sizeof chart) == RL_ACCEPTED);
+    return l;
+}
+
+static bool same(const rl_layout *a, const rl_layout *b)
+{
+    return a->n == b->n && a->count == b->count && memcmp(a->order, b->order, sizeof a->order) == 0
+        && memcmp(a->adjacency, b->adjacency, sizeof a->adjacency) == 0;
+}
+
+static bool holds_only(const uint8_t *bytes, size_t length, uint8_t value)
+{
+    for (size_t i = 0; i < length; i++)
+        if (bytes[i] != value)
+            return false;
+    return true;
+}
+
+static void starts(void)
+{
+    rl_layout empty = rl_empty();
+    rl_layout zero;
+    memset(&zero, 0, sizeof zero);
+    HOLDS(same(&empty, &zero));
+    HOLDS(rl_is_valid(&zero));
+
+    rl_layout l = first();
+    HOLDS(l.n == 4 && l.count == 1 && l.adjacency[0] == 4 && l.adjacency[3] == 2);
+    rl_layout before = l;
+    HOLDS(rl_read_chart(&l, chart, sizeof chart - 1) == RL_CHART_FIELDS);
+    HOLDS(same(&l, &before));
+    HOLDS(rl_read_chart(&l, chart, 0) == RL_CHART_TAGS);
+    static const uint8_t too_long[RL_CHART_BYTES + 1];
+    HOLDS(rl_read_chart(&l, too_long, sizeof too_long) == RL_CHART_TOO_LONG);
+    HOLDS(rl_read_chart(&l, too_long, sizeof too_long - 1) != RL_CHART_TOO_LONG);
+    HOLDS(same(&l, &before));
+}
+
+static void changes(void)
+{
+    rl_layout l = first();
+    rl_vertex added = rl_add_vertex(&l);
+    HOLDS(added.refusal == RL_ACCEPTED && added.vertex == 4 && l.n == 5);
+    HOLDS(rl_add_edge(&l, 4, 1) == RL_ACCEPTED && l.count == 2);
+    HOLDS(rl_add_edge(&l, 1, 4) == RL_EDGE_IS_THERE && l.count == 2);
+    HOLDS(rl_add_edge(&l, 1, 1) == RL_SAME_VERTEX);
+    HOLDS(rl_add_edge(&l, 1, SIZE_MAX) == RL_NO_SUCH_VERTEX);
+    HOLDS(rl_remove_edge(&l, 4, 1) == RL_ACCEPTED && l.count == 1);
+    HOLDS(rl_remove_edge(&l, 4, 1) == RL_NO_SUCH_EDGE);
+    HOLDS(rl_move_after(&l, 4, 0) == RL_ACCEPTED && l.order[1] == 4 && l.order[2] == 1);
+    HOLDS(rl_move_after(&l, 5, 0) == RL_NO_SUCH_VERTEX);
+
+    l = first();
+    rl_reduction sifted = rl_sift(&l, 0);
+    HOLDS(sifted.refusal == RL_ACCEPTED && sifted.reduction == 1 && l.order[0] == 1);
+    l = first();
+    rl_round round = rl_sifting_round(&l);
+    HOLDS(round.refusal == RL_ACCEPTED && round.reduction == 1 && round.moved == 1);
+    l = first();
+    rl_convergence run = rl_converge(&l, 1);
+    HOLDS(run.refusal == RL_ACCEPTED && run.rounds == 1 && !run.converged && l.count == 0);
+    l = first();
+    run = rl_converge(&l, 1000);
+    HOLDS(run.refusal == RL_ACCEPTED && run.reduction == 1 && run.rounds == 2 && run.converged);
+    run = rl_converge(&l, 1001);
+    HOLDS(run.refusal == RL_LIMIT_OUT_OF_RANGE && run.rounds == 0 && !run.converged);
+    HOLDS(rl_converge(&l, 0).refusal == RL_LIMIT_OUT_OF_RANGE);
+    rl_tally laid = rl_greedy_append(&l, 3);
+    HOLDS(laid.refusal == RL_ACCEPTED && laid.tally == l.count);
+    HOLDS(rl_greedy_append(&l, 4).refusal == RL_NO_SUCH_VERTEX);
+
+    l = rl_empty();
+    for (size_t v = 0; v < RL_PLACES; v++)
+        HOLDS(rl_add_vertex(&l).vertex == v);
+    HOLDS(rl_add_vertex(&l).refusal == RL_NO_ROOM && l.n == RL_PLACES);
+}
+
+static void reads(void)
+{
+    rl_layout l = first();
+    uint8_t buffer[8];
+    memset(buffer, 77, sizeof buffer);
+    HOLDS(rl_order(&l, buffer, 3) == RL_BUFFER_TOO_SHORT && holds_only(buffer, 8, 77));
+    HOLDS(rl_order(&l, buffer, 0) == RL_BUFFER_TOO_SHORT && holds_only(buffer, 8, 77));
+    HOLDS(rl_order(&l, buffer, 5) == RL_ACCEPTED && memcmp(buffer, l.order, 4) == 0);
+    HOLDS(holds_only(buffer + 4, 4, 77));
+    rl_crossing crossing = rl_first_crossing(&l);
+    HOLDS(crossing.refusal == RL_ACCEPTED && crossing.found);
+    HOLDS(crossing.first.low == 0 && crossing.first.high == 2);
+    HOLDS(crossing.second.low == 1 && crossing.second.high == 3);
+    HOLDS(rl_count(&l).count == 1);
+    rl_sift(&l, 0);
+    crossing = rl_first_crossing(&l);
+    HOLDS(crossing.refusal == RL_ACCEPTED && !crossing.found);
+
+    rl_layout empty = rl_empty();
+    HOLDS(rl_order(&empty, buffer, 0) == RL_ACCEPTED);
+}
+
+/* Fields of any content: refused, and left. */
+static void invalid(void)
+{
+    rl_layout l;
+    memset(&l, 0xFF, sizeof l);
+    rl_layout before = l;
+    uint8_t buffer[RL_PLACES];
+    memset(buffer, 77, sizeof buffer);
+    HOLDS(!rl_is_valid(&l));
+    rl_vertex added = rl_add_vertex(&l);
+    HOLDS(added.refusal == RL_INVALID_LAYOUT && added.vertex == 0);
+    HOLDS(rl_add_edge(&l, 0, 1) == RL_INVALID_LAYOUT);
+    HOLDS(rl_remove_edge(&l, 0, 1) == RL_INVALID_LAYOUT);
+    HOLDS(rl_move_after(&l, 0, 1) == RL_INVALID_LAYOUT);
+    rl_tally laid = rl_greedy_append(&l, 0);
+    HOLDS(laid.refusal == RL_INVALID_LAYOUT && laid.tally == 0);
+    rl_reduction sifted = rl_sift(&l, 0);
+    HOLDS(sifted.refusal == RL_INVALID_LAYOUT && sifted.reduction == 0);
+    rl_round round = rl_sifting_round(&l);
+    HOLDS(round.refusal == RL_INVALID_LAYOUT && round.reduction == 0 && round.moved == 0);
+    rl_convergence run = rl_converge(&l, 50);
+    HOLDS(run.refusal == RL_INVALID_LAYOUT && run.reduction == 0 && run.rounds == 0 && !run.converged);
+    rl_counted counted = rl_count(&l);
+    HOLDS(counted.refusal == RL_INVALID_LAYOUT && counted.count == 0);
+    HOLDS(rl_order(&l, buffer, sizeof buffer) == RL_INVALID_LAYOUT && holds_only(buffer, sizeof buffer, 77));
+    rl_crossing crossing = rl_first_crossing(&l);
+    HOLDS(crossing.refusal == RL_INVALID_LAYOUT && !crossing.found);
+    HOLDS(crossing.first.low == 0 && crossing.first.high == 0);
+    HOLDS(crossing.second.low == 0 && crossing.second.high == 0);
+    HOLDS(same(&l, &before));
+}
+
+static void listing(void)
+{
+    static const char row[] = "devices 4\nlinks 2\nbefore 1\nafter 0\nrounds 2\nsettled yes\norder 1 0 2 3\n";
+    static const size_t length = sizeof row - 1;
+    uint8_t out[RL_LISTING_BYTES];
+    memset(out, 77, sizeof out);
+    HOLDS(rl_list_chart(chart, sizeof chart, out, sizeof out - 1) == 0 && holds_only(out, sizeof out, 77));
+    HOLDS(rl_list_chart(chart, sizeof chart, out, sizeof out) == length);
+    HOLDS(memcmp(out, row, length) == 0 && holds_only(out + length, sizeof out - length, 77));
+    HOLDS(rl_list_chart(chart, 0, out, sizeof out) == 10 && memcmp(out, "refused 3\n", 10) == 0);
+}
+
+static void lists(void)
+{
+    static const uint64_t calls[] = {
+        RL_CALL_ADD_VERTEX, 0, 0, RL_CALL_ADD_EDGE, 4, 1, RL_CALL_ADD_EDGE, 4, 4,
+        RL_CALL_CONVERGE, 50, 0, 99, 0, 0, RL_CALL_ADD_VERTEX, 0, 0,
+    };
+    static const size_t length = sizeof calls / sizeof *calls;
+    uint64_t answers[17];
+    memset(answers, 0, sizeof answers);
+    answers[16] = 77;
+    rl_played played = rl_play(true, chart, sizeof chart, calls, length, answers, 15);
+    HOLDS(played.refusal == RL_BUFFER_TOO_SHORT && played.calls == 0 && played.layout.n == 4);
+    played = rl_play(true, chart, sizeof chart, calls, length, answers, 17);
+    HOLDS(played.refusal == RL_ACCEPTED && played.calls == 4);
+
+    rl_layout l = first();
+    HOLDS(answers[0] == 0 && answers[1] == rl_add_vertex(&l).vertex);
+    HOLDS(answers[4] == rl_add_edge(&l, 4, 1) && answers[4] == 0);
+    HOLDS(answers[8] == rl_add_edge(&l, 4, 4) && answers[8] == RL_SAME_VERTEX);
+    rl_convergence run = rl_converge(&l, 50);
+    HOLDS(answers[12] == 0 && answers[13] == run.reduction);
+    HOLDS(answers[14] == run.rounds && answers[15] == run.converged);
+    HOLDS(answers[16] == 77 && same(&l, &played.layout));
+
+    played = rl_play(true, chart, 1, calls, length, answers, 17);
+    HOLDS(played.refusal == RL_CHART_FIELDS && played.calls == 0 && played.layout.n == 0);
+    played = rl_play(false, chart, 0, calls, 0, answers, 0);
+    HOLDS(played.refusal == RL_ACCEPTED && played.calls == 0 && played.layout.n == 0);
+}
+
+static void texts(void)
+{
+    HOLDS(strcmp(rl_refusal_text(RL_ACCEPTED), "accepted") == 0);
+    HOLDS(strcmp(rl_refusal_text(9), "unknown") == 0);
+    HOLDS(strcmp(rl_refusal_text(RL_NO_ROOM), "is n below 64?") == 0);
+}
+
+int main(void)
+{
+    starts();
+    changes();
+    reads();
+    invalid();
+    listing();
+    lists();
+    texts();
+    printf("%d facts tried, %d failed\n", tried, failed);
+    return failed != 0;
+}

@@ -1,0 +1,138 @@
+"""Plays a list of calls from standard input through one lent layout.
+
+Prints the answer lines. Both formats are in tests/README.md.
+"""
+
+import struct
+import sys
+from typing import Callable, Dict, Iterator, List, Optional
+
+import rostulanda
+from rostulanda import PLACES, Layout
+
+#: Bytes in a record; a chart is padded to a multiple of it.
+RECORD = 32
+
+#: The longest buffer that a list can lend for an order.
+LONGEST_BUFFER = 255
+
+
+class CallsEnd(Exception):
+    """Nothing behind this is played."""
+
+
+def numbers(values: List[int]) -> str:
+    """Each number with a space before it."""
+    return "".join([f" {value}" for value in values])
+
+
+def first_crossing(layout: Layout) -> str:
+    pair = layout.first_crossing()
+    if pair is None:
+        return " none"
+    return " pair" + numbers([end for edge in pair for end in edge])
+
+
+def converge(layout: Layout, limit: int) -> str:
+    run = layout.converge(min(limit, 2**32 - 1))
+    return f" {run.reduction} {run.rounds} {'yes' if run.converged else 'no'}"
+
+
+def answered(name: str, when_refused: str, call: Callable[[], Optional[str]]) -> str:
+    """The name, the refusal code, and the answers of an accepted or of a refused call."""
+    try:
+        return f"{name} 0{call() or ''}"
+    except rostulanda.Refused as refused:
+        return f"{name} {refused.code}{when_refused}"
+
+
+def order(layout: Layout, length: int, fill: int) -> str:
+    """The call `order`, into a buffer filled beforehand."""
+    buffer = bytearray([fill % 256]) * min(length, LONGEST_BUFFER)
+    told = answered("order", "", lambda: layout.write_order(buffer))
+    return f"{told} buffer{numbers(list(buffer))}"
+
+
+#: What each op but the starts plays, with the numbers a and b.
+OPS: Dict[int, Callable[[Layout, int, int], str]] = {
+    16: lambda l, a, b: answered("add", " 0", lambda: f" {l.add_vertex()}"),
+    17: lambda l, a, b: answered("link", "", lambda: l.add_edge(a, b)),
+    18: lambda l, a, b: answered("unlink", "", lambda: l.remove_edge(a, b)),
+    19: lambda l, a, b: answered("move", "", lambda: l.move_after(a, b)),
+    20: lambda l, a, b: answered("lay", " 0", lambda: f" {l.greedy_append(a)}"),
+    21: lambda l, a, b: answered("sift", " 0", lambda: f" {l.sift(a)}"),
+    22: lambda l, a, b: answered("round", " 0 0", lambda: numbers(list(l.sifting_round()))),
+    23: lambda l, a, b: answered("settle", " 0 0 no", lambda: converge(l, a)),
+    24: lambda l, a, b: answered("count", " 0", lambda: f" {l.count()}"),
+    25: order,
+    26: lambda l, a, b: answered("pair", " refused", lambda: first_crossing(l)),
+}
+
+
+class Player:
+    """A list, how far it is played, and the layout."""
+
+    def __init__(self, list_of_calls: bytes) -> None:
+        self.list = list_of_calls
+        self.at = 0
+        self.layout = Layout()
+
+    def take(self, length: int) -> bytes:
+        """The next bytes, padded to whole records, if all are there."""
+        padded = -(-length // RECORD) * RECORD
+        if padded > len(self.list) - self.at:
+            raise CallsEnd
+        taken = self.list[self.at : self.at + length]
+        self.at += padded
+        return taken
+
+    def set_field(self, op: int, a: int, b: int) -> bool:
+        """Sets one field, if that is what the record asks for."""
+        fields = self.layout.fields
+        if op == 2:
+            fields.n = a
+        elif op == 3 and a < PLACES:
+            fields.order[a] = b % 256
+        elif op == 4 and a < PLACES:
+            fields.adjacency[a] = b
+        elif op == 5:
+            fields.count = a % 2**32
+        return 2 <= op <= 5
+
+    def answer(self, op: int, a: int, b: int) -> str:
+        """Plays one record that answers: its name, refusal code and answers."""
+        if op in OPS:
+            return OPS[op](self.layout, a, b)
+        if op == 0:
+            self.layout = Layout()
+            return "empty 0"
+        if op == 1:
+            chart = self.take(a)
+            self.layout = Layout()
+            return answered("chart", "", lambda: self.layout.read_chart(chart))
+        raise CallsEnd
+
+    def lines(self) -> Iterator[str]:
+        """All answer lines."""
+        while self.at < len(self.list):
+            before = self.layout.fields.adjacency[:]
+            try:
+                op, a, b, _ = struct.unpack("<4Q", self.take(RECORD))
+                if self.set_field(op, a, b):
+                    continue
+                told = self.answer(op, a, b)
+            except CallsEnd:
+                yield "end\n"
+                return
+            now = self.layout.fields
+            changed = [(v, now.adjacency[v]) for v in range(PLACES) if now.adjacency[v] != before[v]]
+            words = numbers([number for pair in changed for number in pair])
+            yield f"{told} n {now.n} order{numbers(now.order[:])} count {now.count} words{words}\n"
+
+
+def main() -> None:
+    sys.stdout.writelines(Player(sys.stdin.buffer.read()).lines())
+
+
+if __name__ == "__main__":
+    main()

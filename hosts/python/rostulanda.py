@@ -1,0 +1,583 @@
+"""Circular layouts with few crossings, proved.
+
+Vertices stand round a circle and edges are chords. Any graph of up to 64
+vertices goes in as its edges, for instance those of a networkx graph:
+
+    row = rostulanda.layout(G.edges())
+    row.order, row.after, row.converged
+
+A Layout is held here and lent to each call of the proved library, which changes
+it in place. A refused call leaves it as it was and raises Refused.
+
+The words are those of graph drawing; document 01's stand beside them once.
+
+The shared library is librostulanda.so: the file that RL_SHARED_LIBRARY names,
+or the one beside this file, or target/hosts/librostulanda.so of the repository.
+hosts/README.md says how to make it.
+"""
+
+import ctypes
+import enum
+import operator
+import os
+from ctypes import c_bool, c_char_p, c_size_t, c_uint8, c_uint32, c_uint64
+from pathlib import Path
+from typing import Any, Dict, Hashable, Iterable, List, NamedTuple, Optional, Sequence, Tuple
+
+#: The most vertices, and the places of an order.
+PLACES = 64
+
+#: The least buffer that a listing needs.
+LISTING_BYTES = 1024
+
+#: The limit of sifting rounds where none is given.
+LIMIT = 50
+
+Edge = Tuple[int, int]
+
+
+class Refusal(enum.IntEnum):
+    """Why a call was refused (document 01: the numbers of the questions)."""
+
+    CHART_TOO_LONG = 1
+    CHART_FIELDS = 2
+    CHART_TAGS = 3
+    CHART_VERTICES = 4
+    CHART_ODD_EDGES = 5
+    CHART_EDGE_ENDS = 6
+    CHART_EDGE_TWICE = 7
+    CHART_ORDER = 8
+    INVALID_LAYOUT = 11
+    NO_SUCH_VERTEX = 12
+    SAME_VERTEX = 13
+    EDGE_IS_THERE = 14
+    NO_SUCH_EDGE = 15
+    NO_ROOM = 16
+    LIMIT_OUT_OF_RANGE = 17
+    BUFFER_TOO_SHORT = 18
+
+
+#: The question that each refusal answers "no".
+QUESTIONS: Dict[int, str] = {
+    Refusal.CHART_TOO_LONG: "is the chart at most 8,192 bytes long?",
+    Refusal.CHART_FIELDS: "does the chart divide exactly into fields, each header and body complete?",
+    Refusal.CHART_TAGS: "are the tags 44, 4C, 52, each once, in that sequence?",
+    Refusal.CHART_VERTICES: "is the body of field 44 one byte, at most 64?",
+    Refusal.CHART_ODD_EDGES: "has the body of field 4C an even length?",
+    Refusal.CHART_EDGE_ENDS: "are the ends of each edge below n and different?",
+    Refusal.CHART_EDGE_TWICE: "is each edge written only once, either way round?",
+    Refusal.CHART_ORDER: "has the body of field 52 n bytes, holding each vertex once?",
+    Refusal.INVALID_LAYOUT: "is the layout valid?",
+    Refusal.NO_SUCH_VERTEX: "is each named vertex below n?",
+    Refusal.SAME_VERTEX: "do the two vertices differ?",
+    Refusal.EDGE_IS_THERE: "is there no edge between the two vertices yet?",
+    Refusal.NO_SUCH_EDGE: "is there an edge between the two vertices?",
+    Refusal.NO_ROOM: "is n below 64?",
+    Refusal.LIMIT_OUT_OF_RANGE: "is the limit from 1 to 1000?",
+    Refusal.BUFFER_TOO_SHORT: "is the lent buffer long enough?",
+}
+
+
+class Refused(ValueError):
+    """A refused call: its code, and the question that was answered "no"."""
+
+    def __init__(self, code: int, detail: str = "") -> None:
+        self.code = int(code)
+        self.question = QUESTIONS.get(code, "unknown")
+        super().__init__(f"refused with {self.code}: {self.question} No.{detail and ' ' + detail}")
+
+
+# ---- the library -------------------------------------------------------------
+
+
+class Fields(ctypes.Structure):
+    """The fields of a layout as the library holds them.
+
+    They may hold anything at all: a layout that is not valid is refused by
+    every call. The first n places of the order hold the vertices clockwise, the
+    others 0; bit w of adjacency word v (document 01: neighbour word) is set
+    exactly when an edge joins v and w; the carried count is not examined.
+    """
+
+    _fields_ = [
+        ("n", c_size_t),
+        ("order", c_uint8 * PLACES),
+        ("adjacency", c_uint64 * PLACES),
+        ("count", c_uint32),
+    ]
+
+
+class _Edge(ctypes.Structure):
+    _fields_ = [("low", c_size_t), ("high", c_size_t)]
+
+
+class _Vertex(ctypes.Structure):
+    _fields_ = [("refusal", c_uint8), ("vertex", c_size_t)]
+
+
+class _Tally(ctypes.Structure):
+    _fields_ = [("refusal", c_uint8), ("tally", c_uint32)]
+
+
+class _Reduction(ctypes.Structure):
+    _fields_ = [("refusal", c_uint8), ("reduction", c_uint32)]
+
+
+class _Round(ctypes.Structure):
+    _fields_ = [("refusal", c_uint8), ("reduction", c_uint32), ("moved", c_uint32)]
+
+
+class _Convergence(ctypes.Structure):
+    _fields_ = [("refusal", c_uint8), ("reduction", c_uint32), ("rounds", c_uint32), ("converged", c_bool)]
+
+
+class _Counted(ctypes.Structure):
+    _fields_ = [("refusal", c_uint8), ("count", c_uint32)]
+
+
+class _Crossing(ctypes.Structure):
+    _fields_ = [("refusal", c_uint8), ("found", c_bool), ("first", _Edge), ("second", _Edge)]
+
+
+class _Played(ctypes.Structure):
+    _fields_ = [("refusal", c_uint8), ("layout", Fields), ("calls", c_size_t)]
+
+
+#: Each function of hosts/c/rostulanda.h: what it answers, and what it takes.
+_FUNCTIONS: Dict[str, Tuple[Any, List[Any]]] = {
+    "rl_empty": (Fields, []),
+    "rl_read_chart": (c_uint8, [ctypes.POINTER(Fields), c_char_p, c_size_t]),
+    "rl_add_vertex": (_Vertex, [ctypes.POINTER(Fields)]),
+    "rl_add_edge": (c_uint8, [ctypes.POINTER(Fields), c_size_t, c_size_t]),
+    "rl_remove_edge": (c_uint8, [ctypes.POINTER(Fields), c_size_t, c_size_t]),
+    "rl_move_after": (c_uint8, [ctypes.POINTER(Fields), c_size_t, c_size_t]),
+    "rl_greedy_append": (_Tally, [ctypes.POINTER(Fields), c_size_t]),
+    "rl_sift": (_Reduction, [ctypes.POINTER(Fields), c_size_t]),
+    "rl_sifting_round": (_Round, [ctypes.POINTER(Fields)]),
+    "rl_converge": (_Convergence, [ctypes.POINTER(Fields), c_uint32]),
+    "rl_count": (_Counted, [ctypes.POINTER(Fields)]),
+    "rl_order": (c_uint8, [ctypes.POINTER(Fields), ctypes.POINTER(c_uint8), c_size_t]),
+    "rl_first_crossing": (_Crossing, [ctypes.POINTER(Fields)]),
+    "rl_is_valid": (c_bool, [ctypes.POINTER(Fields)]),
+    "rl_list_chart": (c_size_t, [c_char_p, c_size_t, ctypes.POINTER(c_uint8), c_size_t]),
+    "rl_play": (
+        _Played,
+        [
+            c_bool,
+            c_char_p,
+            c_size_t,
+            ctypes.POINTER(c_uint64),
+            c_size_t,
+            ctypes.POINTER(c_uint64),
+            c_size_t,
+        ],
+    ),
+}
+
+
+def _load() -> ctypes.CDLL:
+    """The shared library, each function with its types."""
+    here = Path(__file__).resolve().parent
+    named = os.environ.get("RL_SHARED_LIBRARY")
+    usual = [here / "librostulanda.so", here.parents[1] / "target" / "hosts" / "librostulanda.so"]
+    paths = [Path(named)] if named else usual
+    path = next((path for path in paths if path.exists()), None)
+    if path is None:
+        missing = " and ".join(str(path) for path in paths)
+        raise ImportError(f"no shared library: {missing} not there; hosts/README.md says how to make it")
+    library = ctypes.CDLL(str(path.resolve()))
+    for name, (answer, arguments) in _FUNCTIONS.items():
+        function = getattr(library, name)
+        function.restype = answer
+        function.argtypes = arguments
+    return library
+
+
+_library = _load()
+
+
+def _accept(code: int) -> None:
+    if code != 0:
+        raise Refused(code)
+
+
+def _number(value: int, most: int) -> int:
+    """A whole number as the library takes it.
+
+    One that the library cannot take becomes the highest that it can, which no
+    call accepts: there is no such vertex, and the limit is out of range.
+    """
+    value = operator.index(value)
+    return value if 0 <= value <= most else most
+
+
+def _vertex(value: int) -> int:
+    return _number(value, 2**64 - 1)
+
+
+def _bytes(chart: bytes) -> bytes:
+    """The bytes of anything that holds bytes, and of nothing else."""
+    return memoryview(chart).tobytes()
+
+
+# ---- what calls answer -------------------------------------------------------
+
+
+class Round(NamedTuple):
+    """What a sifting round did."""
+
+    #: The summed reduction (document 01: saving).
+    reduction: int
+    #: How many vertices moved.
+    moved: int
+
+
+class Convergence(NamedTuple):
+    """What sifting rounds up to a limit did."""
+
+    #: The summed reduction.
+    reduction: int
+    #: The rounds run, the last one included.
+    rounds: int
+    #: Whether the last round moved no vertex (document 01: settled). The layout
+    #: is then a local minimum: no move of one vertex lowers the crossings.
+    converged: bool
+
+
+class Row(NamedTuple):
+    """What sifting rounds up to a limit made of a layout.
+
+    str(row) is the seven lines of the program ringlist, in document 01's words.
+    """
+
+    vertices: int
+    edges: int
+    #: The crossings before the first round.
+    before: int
+    #: The crossings after the last round.
+    after: int
+    #: The rounds run, the last one included.
+    rounds: int
+    #: Whether the last round moved no vertex: a local minimum.
+    converged: bool
+    #: The order reached, clockwise.
+    order: List[Any]
+
+    def __str__(self) -> str:
+        lines = [
+            f"devices {self.vertices}",
+            f"links {self.edges}",
+            f"before {self.before}",
+            f"after {self.after}",
+            f"rounds {self.rounds}",
+            f"settled {'yes' if self.converged else 'no'}",
+            " ".join(["order", *map(str, self.order)]),
+        ]
+        return "\n".join(lines)
+
+
+# ---- layouts -----------------------------------------------------------------
+
+
+class Layout:
+    """A circular layout (document 01: ring), lent to each call.
+
+    Layout() is the one without vertices. Vertices are the numbers 0 to n − 1.
+    Threads do not share a layout: a call runs without the interpreter's lock.
+    """
+
+    def __init__(self) -> None:
+        #: The fields, to be read, or set to anything.
+        self.fields: Fields = _library.rl_empty()
+
+    @classmethod
+    def from_chart(cls, chart: bytes) -> "Layout":
+        """The layout of a chart, with its true crossings."""
+        layout = cls()
+        layout.read_chart(chart)
+        return layout
+
+    @classmethod
+    def from_edges(
+        cls, edges: Iterable[Edge], n: Optional[int] = None, order: Optional[Sequence[int]] = None
+    ) -> "Layout":
+        """The layout of the vertices in a given order, with these edges.
+
+        The edges are pairs of numbers and are taken as a set: a pair that comes
+        again, either way round, is the same edge. Without an order it is rising
+        number; without n, that is the order's length, or the least that the
+        edges allow.
+        """
+        pairs = {(min(edge), max(edge)) for edge in map(_pair, edges)}
+        if n is None:
+            n = len(order) if order is not None else 1 + max((high for _, high in pairs), default=-1)
+        if n < 0:
+            raise ValueError(f"there are not {n} vertices")
+        if n > PLACES:
+            raise Refused(Refusal.NO_ROOM, f"({n} vertices)")
+        for low, high in pairs:
+            if not 0 <= low <= high < n:
+                raise Refused(Refusal.NO_SUCH_VERTEX, f"(edge {low}-{high}, n {n})")
+            if low == high:
+                raise Refused(Refusal.SAME_VERTEX, f"(edge {low}-{high})")
+        places = list(range(n)) if order is None else list(order)
+        if sorted(places) != list(range(n)):
+            raise ValueError(f"the order does not hold each of the {n} vertices once")
+        return cls.from_chart(_chart(n, sorted(pairs), places))
+
+    def copy(self) -> "Layout":
+        """Another layout with the same fields."""
+        twin = Layout()
+        twin.fields = Fields.from_buffer_copy(self.fields)
+        return twin
+
+    def __eq__(self, other: object) -> bool:
+        """Whether all fields are the same."""
+        if not isinstance(other, Layout):
+            return NotImplemented
+        return self._key() == other._key()
+
+    __hash__ = None  # type: ignore[assignment]
+
+    def _key(self) -> Tuple[int, List[int], List[int], int]:
+        fields = self.fields
+        return fields.n, fields.order[:], fields.adjacency[:], fields.count
+
+    def __repr__(self) -> str:
+        return f"<Layout of {self.fields.n} vertices, carried count {self.fields.count}>"
+
+    # calls that change the layout
+
+    def read_chart(self, chart: bytes) -> None:
+        """Reads a chart into this layout; a refused one leaves it as it was."""
+        held = _bytes(chart)
+        _accept(_library.rl_read_chart(self.fields, held, len(held)))
+
+    def add_vertex(self) -> int:
+        """Adds a vertex without edges at the end of the order (document 01: add).
+
+        Gives its number.
+        """
+        answer = _library.rl_add_vertex(self.fields)
+        _accept(answer.refusal)
+        return answer.vertex
+
+    def add_edge(self, a: int, b: int) -> None:
+        """Joins two vertices by an edge (document 01: link)."""
+        _accept(_library.rl_add_edge(self.fields, _vertex(a), _vertex(b)))
+
+    def remove_edge(self, a: int, b: int) -> None:
+        """Takes the edge between two vertices away (document 01: unlink)."""
+        _accept(_library.rl_remove_edge(self.fields, _vertex(a), _vertex(b)))
+
+    def move_after(self, a: int, b: int) -> None:
+        """Takes a out of the order and puts it directly after b (document 01: move a behind b)."""
+        _accept(_library.rl_move_after(self.fields, _vertex(a), _vertex(b)))
+
+    def greedy_append(self, start: int) -> int:
+        """Makes a new order by greedy append from a first vertex (document 01: lay from s).
+
+        Gives the tally of the crossings at the ends taken.
+        """
+        answer = _library.rl_greedy_append(self.fields, _vertex(start))
+        _accept(answer.refusal)
+        return answer.tally
+
+    def sift(self, u: int) -> int:
+        """Moves u to where the crossings are fewest, and gives the reduction (document 01: saving).
+
+        Of several places it is the first clockwise; where none has fewer than
+        its own, u stays.
+        """
+        answer = _library.rl_sift(self.fields, _vertex(u))
+        _accept(answer.refusal)
+        return answer.reduction
+
+    def sifting_round(self) -> Round:
+        """Sifts each vertex once, in rising number (document 01: round)."""
+        answer = _library.rl_sifting_round(self.fields)
+        _accept(answer.refusal)
+        return Round(answer.reduction, answer.moved)
+
+    def converge(self, limit: int = LIMIT) -> Convergence:
+        """Runs sifting rounds until one moves no vertex, or limit of them (document 01: settle).
+
+        The limit is from 1 to 1000.
+        """
+        answer = _library.rl_converge(self.fields, _number(limit, 2**32 - 1))
+        _accept(answer.refusal)
+        return Convergence(answer.reduction, answer.rounds, answer.converged)
+
+    # calls that only read
+
+    def count(self) -> int:
+        """The carried count.
+
+        Of a layout that came from Layout(), a chart or edges, and was changed by
+        calls alone, it is the number of crossings.
+        """
+        answer = _library.rl_count(self.fields)
+        _accept(answer.refusal)
+        return answer.count
+
+    def order(self) -> List[int]:
+        """The vertices, clockwise."""
+        buffer = bytearray(PLACES)
+        self.write_order(buffer)
+        return list(buffer[: self.fields.n])
+
+    def write_order(self, buffer: bytearray) -> None:
+        """Writes the order to the first n bytes of the buffer; the others keep what they hold."""
+        if not isinstance(buffer, bytearray):
+            # Another kind of buffer might be part of the layout itself.
+            raise TypeError("the buffer is to be a bytearray")
+        lent = (c_uint8 * len(buffer)).from_buffer(buffer)
+        refusal = _library.rl_order(self.fields, lent, len(buffer))
+        del lent  # or the buffer keeps its size as long as a traceback is held
+        _accept(refusal)
+
+    def first_crossing(self) -> Optional[Tuple[Edge, Edge]]:
+        """The first two edges that cross (document 01: shown crossing pair), or None.
+
+        Edges are sorted by lower, then higher end. None: no two edges cross.
+        """
+        answer = _library.rl_first_crossing(self.fields)
+        _accept(answer.refusal)
+        if not answer.found:
+            return None
+        first, second = answer.first, answer.second
+        return (first.low, first.high), (second.low, second.high)
+
+    def is_valid(self) -> bool:
+        """Whether the layout is valid (document 01: whole)."""
+        return _library.rl_is_valid(self.fields)
+
+    def edges(self) -> List[Edge]:
+        """The edges, lower end first, sorted by lower, then higher end."""
+        words = self.fields.adjacency[:]
+        return [(low, high) for low in range(PLACES) for high in range(low + 1, PLACES) if words[low] >> high & 1]
+
+    # both
+
+    def row(self, limit: int = LIMIT) -> Row:
+        """Converges with a limit, and gives what the program ringlist prints of such a run."""
+        before = self.count()
+        run = self.converge(limit)
+        order = self.order()
+        return Row(len(order), len(self.edges()), before, self.count(), run.rounds, run.converged, order)
+
+
+def _pair(edge: Any) -> Tuple[Any, Any]:
+    """An edge's two ends."""
+    ends = tuple(edge)
+    if len(ends) != 2:
+        raise ValueError(f"an edge is a pair of vertices, not {edge!r}")
+    return ends[0], ends[1]
+
+
+def _chart(n: int, edges: Iterable[Edge], order: Iterable[int]) -> bytes:
+    """The chart of a graph and an order."""
+    bodies = {0x44: bytes([n]), 0x4C: bytes(end for edge in edges for end in edge), 0x52: bytes(order)}
+    fields = (bytes([tag]) + len(body).to_bytes(2, "big") + body for tag, body in bodies.items())
+    return b"".join(fields)
+
+
+# ---- graphs, charts and lists of calls in one go -----------------------------
+
+
+def layout(
+    edges: Iterable[Tuple[Hashable, Hashable]],
+    vertices: Iterable[Hashable] = (),
+    limit: int = LIMIT,
+    start: Optional[Hashable] = None,
+) -> Row:
+    """A circular layout with few crossings of any graph of up to 64 vertices.
+
+    The edges are pairs of vertices of any hashable kind, as networkx's
+    G.edges() gives them, and are taken as a set of undirected edges: a pair
+    that comes again, either way round, is the same edge. Vertices are numbered
+    as they are first met, in `vertices` before the edges: name there those
+    without edges, or the order to begin with. With a start, greedy append from
+    that vertex makes the order to begin with. Then sifting rounds run up to the
+    limit. The row's order holds the vertices as they were given.
+
+    Raises Refused for a vertex joined to itself (13), for more than 64 vertices
+    (16), and for a start that is not there (12).
+    """
+    pairs = [_pair(edge) for edge in edges]
+    labels = list(dict.fromkeys([*vertices, *(end for pair in pairs for end in pair)]))
+    number = {label: v for v, label in enumerate(labels)}
+    for a, b in pairs:
+        if number[a] == number[b]:
+            raise Refused(Refusal.SAME_VERTEX, f"({a!r} is joined to itself)")
+    held = Layout.from_edges(((number[a], number[b]) for a, b in pairs), n=len(labels))
+    if start is not None:
+        if start not in number:
+            raise Refused(Refusal.NO_SUCH_VERTEX, f"({start!r} is not there)")
+        held.greedy_append(number[start])
+    row = held.row(limit)
+    return row._replace(order=[labels[v] for v in row.order])
+
+
+#: Document 01's word for it.
+settle = layout
+
+
+def list_chart(chart: bytes) -> str:
+    """What the program ringlist prints for a chart: seven lines, or one for a refused chart."""
+    held = _bytes(chart)
+    out = (c_uint8 * LISTING_BYTES)()
+    length = _library.rl_list_chart(held, len(held), out, len(out))
+    return bytes(out[:length]).decode("ascii")
+
+
+#: The number of each call in a list.
+CALLS: Dict[str, int] = {
+    "add_vertex": 16,
+    "add_edge": 17,
+    "remove_edge": 18,
+    "move_after": 19,
+    "greedy_append": 20,
+    "sift": 21,
+    "sifting_round": 22,
+    "converge": 23,
+}
+
+
+class Answer(NamedTuple):
+    """What one call of a list answered."""
+
+    #: The refusal code, 0 for an accepted call.
+    refusal: int
+    #: Three numbers, in the sequence of the call's own answer, 0 where it has
+    #: fewer; a bool counts as 0 or 1.
+    numbers: Tuple[int, int, int]
+
+
+class Played(NamedTuple):
+    """A list of calls played: the layout at the end, and each call's answer."""
+
+    layout: Layout
+    answers: List[Answer]
+
+
+def play(calls: Iterable[Sequence[Any]], chart: Optional[bytes] = None) -> Played:
+    """Plays a list of calls from a chart, or from the empty layout.
+
+    A call is its name and what it names: ("add_vertex",), ("add_edge", 0, 1),
+    ("converge", 50). Refused calls may stand anywhere among them; only a
+    refused chart raises Refused.
+    """
+    numbers: List[int] = []
+    for name, *named in calls:
+        first, second = (list(map(_vertex, named)) + [0, 0])[:2]
+        numbers += [CALLS[name], first, second]
+    held = b"" if chart is None else _bytes(chart)
+    listed = (c_uint64 * len(numbers))(*numbers)
+    table = (c_uint64 * (len(numbers) // 3 * 4))()
+    played = _library.rl_play(chart is not None, held, len(held), listed, len(listed), table, len(table))
+    _accept(played.refusal)
+    result = Layout()
+    result.fields = played.layout
+    rows = (table[at : at + 4] for at in range(0, 4 * played.calls, 4))
+    return Played(result, [Answer(row[0], (row[1], row[2], row[3])) for row in rows])

@@ -1,0 +1,250 @@
+"""Tests of the module rostulanda. That all answers are right is what the comparisons of play.py look at."""
+
+import itertools
+import pathlib
+import random
+import unittest
+
+import rostulanda
+from rostulanda import Layout, Refusal, Refused
+
+try:
+    import networkx
+except ImportError:
+    networkx = None
+    print("networkx is not installed: that test was not run")
+
+CHART = pathlib.Path(__file__).resolve().parents[2].joinpath("charts", "first.chart").read_bytes()
+
+
+def crossings(order, edges):
+    """The pairs of edges that cross, from the definition."""
+    place = {v: i for i, v in enumerate(order)}
+    spans = [sorted((place[a], place[b])) for a, b in edges]
+    return sum(
+        a < c < b < d or c < a < d < b for (a, b), (c, d) in itertools.combinations(spans, 2)
+    )
+
+
+class LayoutTest(unittest.TestCase):
+    def refuses(self, refusal, call, *arguments):
+        """The call is refused with a code, and its question is said."""
+        with self.assertRaises(Refused) as caught:
+            call(*arguments)
+        self.assertEqual(caught.exception.code, refusal)
+        self.assertIn(rostulanda.QUESTIONS[refusal], str(caught.exception))
+
+    def test_a_chart_is_read(self):
+        layout = Layout.from_chart(CHART)
+        self.assertEqual(layout.order(), [0, 1, 2, 3])
+        self.assertEqual(layout.edges(), [(0, 2), (1, 3)])
+        self.assertEqual(layout.count(), 1)
+        self.assertEqual(layout.first_crossing(), ((0, 2), (1, 3)))
+        self.assertTrue(layout.is_valid())
+
+    def test_a_refused_chart_leaves_the_layout(self):
+        layout = Layout.from_chart(CHART)
+        self.refuses(Refusal.CHART_TAGS, layout.read_chart, b"")
+        self.refuses(Refusal.CHART_FIELDS, layout.read_chart, b"\x01")
+        self.refuses(Refusal.CHART_TOO_LONG, layout.read_chart, bytes(8193))
+        with self.assertRaises(TypeError):
+            layout.read_chart(5)
+        self.assertEqual(layout, Layout.from_chart(CHART))
+
+    def test_edits(self):
+        layout = Layout.from_chart(CHART)
+        self.assertEqual(layout.add_vertex(), 4)
+        layout.add_edge(4, 1)
+        self.assertEqual(layout.count(), 2)
+        self.refuses(Refusal.EDGE_IS_THERE, layout.add_edge, 1, 4)
+        self.refuses(Refusal.SAME_VERTEX, layout.add_edge, 4, 4)
+        layout.remove_edge(4, 1)
+        self.refuses(Refusal.NO_SUCH_EDGE, layout.remove_edge, 4, 1)
+        layout.move_after(4, 0)
+        self.assertEqual(layout.order(), [0, 4, 1, 2, 3])
+
+    def test_numbers_that_the_library_cannot_take(self):
+        layout = Layout.from_chart(CHART)
+        for vertex in (-1, 4, 2**64 - 1, 2**64, 2**64 + 1):
+            self.refuses(Refusal.NO_SUCH_VERTEX, layout.add_edge, vertex, 0)
+            self.refuses(Refusal.NO_SUCH_VERTEX, layout.add_edge, vertex, vertex)
+            self.refuses(Refusal.NO_SUCH_VERTEX, layout.sift, vertex)
+        for limit in (-1, 0, 1001, 2**32 - 1, 2**32, 2**32 + 50):
+            self.refuses(Refusal.LIMIT_OUT_OF_RANGE, layout.converge, limit)
+        with self.assertRaises(TypeError):
+            layout.sift(1.5)
+        self.assertEqual(layout, Layout.from_chart(CHART))
+
+    def test_sifting(self):
+        layout = Layout.from_chart(CHART)
+        self.assertEqual(layout.sift(0), 1)
+        self.assertEqual(layout.order(), [1, 0, 2, 3])
+        self.assertIsNone(layout.first_crossing())
+        self.assertEqual(Layout.from_chart(CHART).sifting_round(), (1, 1))
+        self.assertEqual(Layout.from_chart(CHART).converge(1), (1, 1, False))
+        self.assertEqual(Layout.from_chart(CHART).converge(), (1, 2, True))
+
+    def test_greedy_append(self):
+        layout = Layout.from_edges([(0, 1), (0, 2), (1, 3), (2, 3)])
+        self.assertEqual(layout.greedy_append(0), 0)
+        self.assertEqual(layout.order(), [2, 0, 1, 3])
+        self.refuses(Refusal.NO_SUCH_VERTEX, layout.greedy_append, 4)
+
+    def test_an_order_goes_into_a_lent_buffer(self):
+        layout = Layout.from_chart(CHART)
+        buffer = bytearray([77] * 5)
+        layout.write_order(buffer)
+        self.assertEqual(buffer, bytes([0, 1, 2, 3, 77]))
+        short = bytearray([77] * 3)
+        self.refuses(Refusal.BUFFER_TOO_SHORT, layout.write_order, short)
+        self.assertEqual(short, bytes([77] * 3))
+        short.append(77)
+        layout.write_order(short)
+        Layout().write_order(bytearray())
+        with self.assertRaises(TypeError):
+            layout.write_order(memoryview(layout.fields.order))
+
+    def test_an_invalid_layout_is_refused_and_left(self):
+        layout = Layout.from_chart(CHART)
+        layout.fields.adjacency[0] = 2**64 - 1
+        before = layout.copy()
+        self.assertFalse(layout.is_valid())
+        for call in (
+            layout.add_vertex,
+            layout.sifting_round,
+            layout.converge,
+            layout.count,
+            layout.order,
+            layout.first_crossing,
+            layout.row,
+        ):
+            self.refuses(Refusal.INVALID_LAYOUT, call)
+        self.assertEqual(layout, before)
+
+    def test_a_copy_is_another_layout(self):
+        layout = Layout.from_chart(CHART)
+        twin = layout.copy()
+        twin.sift(0)
+        self.assertEqual(layout, Layout.from_chart(CHART))
+        self.assertNotEqual(layout, twin)
+
+
+class FromEdgesTest(unittest.TestCase):
+    def test_edges_are_a_set(self):
+        layout = Layout.from_edges([(2, 0), (1, 3), (0, 2), (1, 3)])
+        self.assertEqual(layout, Layout.from_chart(CHART))
+
+    def test_vertices_without_edges_and_an_order(self):
+        self.assertEqual(Layout.from_edges([], n=3).order(), [0, 1, 2])
+        self.assertEqual(Layout.from_edges([]), Layout())
+        layout = Layout.from_edges([(0, 2), (1, 3)], order=[0, 2, 1, 3])
+        self.assertEqual((layout.order(), layout.count()), ([0, 2, 1, 3], 0))
+
+    def test_what_is_no_layout(self):
+        for edges, n, order, error in (
+            ([(1, 1)], None, None, Refusal.SAME_VERTEX),
+            ([(0, 5)], 5, None, Refusal.NO_SUCH_VERTEX),
+            ([(0, -1)], 5, None, Refusal.NO_SUCH_VERTEX),
+            ([(0, 64)], None, None, Refusal.NO_ROOM),
+            ([(0, 1)], 2, [0, 0], None),
+            ([(0, 1)], 2, [0], None),
+            ([(0, 1, 2)], None, None, None),
+            ([], -1, None, None),
+        ):
+            with self.assertRaises(ValueError) as caught:
+                Layout.from_edges(edges, n=n, order=order)
+            self.assertEqual(getattr(caught.exception, "code", None), error)
+            self.assertNotIn("\n", str(caught.exception))
+
+    def test_crossings_of_random_graphs(self):
+        chance = random.Random(1)
+        for n in (2, 5, 12, 30):
+            edges = [pair for pair in itertools.combinations(range(n), 2) if chance.random() < 0.4]
+            order = chance.sample(range(n), n)
+            layout = Layout.from_edges(edges, n=n, order=order)
+            self.assertEqual(layout.edges(), edges)
+            self.assertEqual(layout.count(), crossings(order, edges))
+
+    def test_the_most_edges(self):
+        layout = Layout.from_edges(itertools.combinations(range(64), 2))
+        self.assertEqual(layout.count(), 635376)
+
+
+class GraphTest(unittest.TestCase):
+    def test_any_hashable_vertex(self):
+        row = rostulanda.layout([("a", ("c", 1)), ("b", 4.5), (("c", 1), "a")])
+        self.assertEqual((row.vertices, row.edges, row.after, row.converged), (4, 2, 0, True))
+        self.assertEqual(set(row.order), {"a", "b", ("c", 1), 4.5})
+
+    def test_the_order_to_begin_with(self):
+        edges = [("a", "c"), ("b", "d")]
+        self.assertEqual(rostulanda.layout(edges, vertices="abcd").before, 1)
+        self.assertEqual(rostulanda.layout(edges, vertices="acbd").before, 0)
+        self.assertEqual(rostulanda.layout(edges, vertices="abcde").vertices, 5)
+        self.assertEqual(rostulanda.layout([]).order, [])
+        laid = rostulanda.layout(edges, vertices="abcd", start="c")
+        self.assertEqual((laid.before, laid.rounds), (0, 1))
+
+    def test_what_is_refused(self):
+        for edges, start, code, words in (
+            ([("a", "a")], None, 13, "'a' is joined to itself"),
+            ([(i, i + 1) for i in range(64)], None, 16, "65 vertices"),
+            ([("a", "b")], "c", 12, "'c' is not there"),
+        ):
+            with self.assertRaises(Refused) as caught:
+                rostulanda.layout(edges, start=start)
+            self.assertEqual(caught.exception.code, code)
+            self.assertIn(words, str(caught.exception))
+
+    @unittest.skipIf(networkx is None, "networkx is not installed")
+    def test_a_networkx_graph_goes_in_with_one_line(self):
+        for graph in (networkx.petersen_graph(), networkx.karate_club_graph().to_directed()):
+            row = rostulanda.layout(graph.edges())
+            undirected = graph.to_undirected()
+            self.assertEqual(sorted(row.order), sorted(graph))
+            self.assertEqual(row.edges, undirected.number_of_edges())
+            self.assertEqual(row.after, crossings(row.order, undirected.edges()))
+            self.assertTrue(row.converged)
+
+
+class ChartAndListTest(unittest.TestCase):
+    def test_a_row_is_what_ringlist_prints(self):
+        row = Layout.from_chart(CHART).row()
+        self.assertEqual(f"{row}\n", rostulanda.list_chart(CHART))
+        self.assertEqual(row.order, [1, 0, 2, 3])
+        self.assertTrue(str(Layout().row()).endswith("\norder"))
+        self.assertEqual(rostulanda.list_chart(b""), "refused 3\n")
+
+    def test_a_list_is_its_calls_one_after_another(self):
+        calls = [
+            ("add_vertex",),
+            ("add_edge", 4, 1),
+            ("add_edge", 4, 4),
+            ("move_after", 4, 0),
+            ("sift", 2),
+            ("sifting_round",),
+            ("greedy_append", 3),
+            ("remove_edge", 4, 1),
+            ("converge", 50),
+        ]
+        played = rostulanda.play(calls, CHART)
+        layout = Layout.from_chart(CHART)
+        for (name, *named), answer in zip(calls, played.answers):
+            try:
+                value, code = getattr(layout, name)(*named), 0
+            except Refused as refused:
+                value, code = None, refused.code
+            numbers = value if isinstance(value, tuple) else (value or 0,)
+            self.assertEqual(answer, (code, (tuple(map(int, numbers)) + (0, 0))[:3]))
+        self.assertEqual(played.layout, layout)
+        self.assertEqual(len(played.answers), len(calls))
+
+    def test_starts_of_lists(self):
+        self.assertEqual(rostulanda.play([]), (Layout(), []))
+        self.assertEqual(rostulanda.play([], CHART).layout, Layout.from_chart(CHART))
+        with self.assertRaises(Refused):
+            rostulanda.play([("add_vertex",)], b"\x01")
+
+
+if __name__ == "__main__":
+    unittest.main()

@@ -1,0 +1,166 @@
+//! Plays a list of calls from standard input through one lent layout and prints
+//! the answer lines. Both formats are in tests/README.md.
+
+use std::io::{self, Read, Write};
+
+use rostulanda::{Layout, Refusal, PLACES};
+
+/// Bytes in a record; a chart is padded to a multiple of it.
+const RECORD: usize = 32;
+
+/// The longest buffer that a list can lend for an order.
+const LONGEST_BUFFER: u64 = 255;
+
+/// A record: the op and its three numbers.
+type Record = [u64; 4];
+
+fn main() -> io::Result<()> {
+    let mut list = Vec::new();
+    io::stdin().lock().read_to_end(&mut list)?;
+    io::stdout().lock().write_all(play(&list).as_bytes())
+}
+
+/// All answer lines.
+fn play(mut list: &[u8]) -> String {
+    let mut layout = Layout::empty();
+    let mut lines = String::new();
+    while !list.is_empty() {
+        let before = layout.clone();
+        let Some(record) = take_record(&mut list) else {
+            return lines + "end\n";
+        };
+        if set_field(&mut layout, record) {
+            continue;
+        }
+        let Some(told) = play_record(&mut layout, record, &mut list) else {
+            return lines + "end\n";
+        };
+        lines += &told;
+        lines += &layout_text(&layout, &before);
+    }
+    lines
+}
+
+/// The next record, if all of it is there.
+fn take_record(list: &mut &[u8]) -> Option<Record> {
+    let (bytes, rest) = list.split_at_checked(RECORD)?;
+    *list = rest;
+    let mut record = [0; 4];
+    for (number, bytes) in record.iter_mut().zip(bytes.chunks(8)) {
+        *number = u64::from_le_bytes(bytes.try_into().ok()?);
+    }
+    Some(record)
+}
+
+/// The next chart, if all of it and of its padding is there.
+fn take_chart<'a>(list: &mut &'a [u8], length: u64) -> Option<&'a [u8]> {
+    let length = usize::try_from(length).ok()?;
+    let padded = length.checked_next_multiple_of(RECORD)?;
+    let (chart, rest) = list.split_at_checked(padded)?;
+    *list = rest;
+    Some(&chart[..length])
+}
+
+/// Sets one field, if that is what the record asks for.
+fn set_field(layout: &mut Layout, [op, a, b, _]: Record) -> bool {
+    let fields = layout.fields_mut();
+    let place = a as usize;
+    match op {
+        2 => fields.n = place,
+        3 if place < PLACES => fields.order[place] = b as u8,
+        4 if place < PLACES => fields.adjacency[place] = b,
+        3 | 4 => {}
+        5 => fields.count = a as u32,
+        _ => return false,
+    }
+    true
+}
+
+/// Plays one record that answers: its name, refusal code and answers. None if
+/// it ends the list.
+fn play_record(layout: &mut Layout, record: Record, list: &mut &[u8]) -> Option<String> {
+    let [op, a, b, _] = record;
+    let (v, w) = (a as usize, b as usize);
+    let none = |()| String::new();
+    Some(match op {
+        0 => {
+            *layout = Layout::empty();
+            told("empty", "", Ok(String::new()))
+        }
+        1 => {
+            let chart = take_chart(list, a)?;
+            *layout = Layout::empty();
+            told("chart", "", layout.read_chart(chart).map(none))
+        }
+        16 => told("add", " 0", layout.add_vertex().map(|v| format!(" {v}"))),
+        17 => told("link", "", layout.add_edge(v, w).map(none)),
+        18 => told("unlink", "", layout.remove_edge(v, w).map(none)),
+        19 => told("move", "", layout.move_after(v, w).map(none)),
+        20 => told(
+            "lay",
+            " 0",
+            layout.greedy_append(v).map(|t| format!(" {t}")),
+        ),
+        21 => told("sift", " 0", layout.sift(v).map(|r| format!(" {r}"))),
+        22 => told("round", " 0 0", round_text(layout)),
+        23 => {
+            let limit = u32::try_from(a).unwrap_or(u32::MAX);
+            told("settle", " 0 0 no", converge_text(layout, limit))
+        }
+        24 => told("count", " 0", layout.count().map(|c| format!(" {c}"))),
+        25 => {
+            let mut buffer = vec![b as u8; a.min(LONGEST_BUFFER) as usize];
+            let written = layout.write_order(&mut buffer);
+            let text = format!(" buffer{}", numbers(&buffer));
+            told("order", &text, written.map(|()| text.clone()))
+        }
+        26 => told("pair", " refused", crossing_text(layout)),
+        _ => return None,
+    })
+}
+
+fn round_text(layout: &mut Layout) -> Result<String, Refusal> {
+    let round = layout.sifting_round()?;
+    Ok(format!(" {} {}", round.reduction, round.moved))
+}
+
+fn converge_text(layout: &mut Layout, limit: u32) -> Result<String, Refusal> {
+    let run = layout.converge(limit)?;
+    let settled = if run.converged { "yes" } else { "no" };
+    Ok(format!(" {} {} {settled}", run.reduction, run.rounds))
+}
+
+fn crossing_text(layout: &Layout) -> Result<String, Refusal> {
+    Ok(match layout.first_crossing()? {
+        Some((first, second)) => format!(
+            " pair {} {} {} {}",
+            first.low, first.high, second.low, second.high
+        ),
+        None => " none".to_string(),
+    })
+}
+
+/// The name, the refusal code, and the answers of an accepted or of a refused
+/// call.
+fn told(name: &str, when_refused: &str, answer: Result<String, Refusal>) -> String {
+    match answer {
+        Ok(answers) => format!("{name} 0{answers}"),
+        Err(refusal) => format!("{name} {}{when_refused}", refusal.code()),
+    }
+}
+
+/// Each number with a space before it.
+fn numbers(bytes: &[u8]) -> String {
+    bytes.iter().map(|byte| format!(" {byte}")).collect()
+}
+
+/// The layout, with the adjacency words that differ from those before.
+fn layout_text(layout: &Layout, before: &Layout) -> String {
+    let (now, before) = (layout.fields(), before.fields());
+    let words: String = (0..PLACES)
+        .filter(|&v| now.adjacency[v] != before.adjacency[v])
+        .map(|v| format!(" {v} {}", now.adjacency[v]))
+        .collect();
+    let (n, order, count) = (now.n, numbers(&now.order), now.count);
+    format!(" n {n} order{order} count {count} words{words}\n")
+}

@@ -1,0 +1,129 @@
+//! The functions of the library, as `hosts/c/rostulanda.h` declares them.
+//!
+//! A reference is a pointer that is aligned and not null, also that of an empty
+//! slice, and two that are lent to one call do not overlap unless both only
+//! read: just what the library asks for. So the functions that take no slice
+//! are safe to call.
+
+use crate::{Edge, Fields};
+
+/// The most vertices, and the places of an order.
+pub const PLACES: usize = 64;
+
+#[repr(C)]
+pub struct Vertex {
+    pub refusal: u8,
+    pub vertex: usize,
+}
+
+#[repr(C)]
+pub struct Tally {
+    pub refusal: u8,
+    pub tally: u32,
+}
+
+#[repr(C)]
+pub struct Reduction {
+    pub refusal: u8,
+    pub reduction: u32,
+}
+
+#[repr(C)]
+pub struct Round {
+    pub refusal: u8,
+    pub reduction: u32,
+    pub moved: u32,
+}
+
+#[repr(C)]
+pub struct Convergence {
+    pub refusal: u8,
+    pub reduction: u32,
+    pub rounds: u32,
+    pub converged: bool,
+}
+
+#[repr(C)]
+pub struct Counted {
+    pub refusal: u8,
+    pub count: u32,
+}
+
+#[repr(C)]
+pub struct Crossing {
+    pub refusal: u8,
+    pub found: bool,
+    pub first: Edge,
+    pub second: Edge,
+}
+
+#[repr(C)]
+pub struct Played {
+    pub refusal: u8,
+    pub layout: Fields,
+    pub calls: usize,
+}
+
+unsafe extern "C" {
+    pub safe fn rl_empty() -> Fields;
+    pub safe fn rl_add_vertex(l: &mut Fields) -> Vertex;
+    pub safe fn rl_add_edge(l: &mut Fields, a: usize, b: usize) -> u8;
+    pub safe fn rl_remove_edge(l: &mut Fields, a: usize, b: usize) -> u8;
+    pub safe fn rl_move_after(l: &mut Fields, a: usize, b: usize) -> u8;
+    pub safe fn rl_greedy_append(l: &mut Fields, start: usize) -> Tally;
+    pub safe fn rl_sift(l: &mut Fields, u: usize) -> Reduction;
+    pub safe fn rl_sifting_round(l: &mut Fields) -> Round;
+    pub safe fn rl_converge(l: &mut Fields, limit: u32) -> Convergence;
+    pub safe fn rl_count(l: &Fields) -> Counted;
+    pub safe fn rl_first_crossing(l: &Fields) -> Crossing;
+    pub safe fn rl_is_valid(l: &Fields) -> bool;
+
+    unsafe fn rl_read_chart(l: &mut Fields, chart: *const u8, length: usize) -> u8;
+    unsafe fn rl_order(l: &Fields, buffer: *mut u8, length: usize) -> u8;
+    unsafe fn rl_list_chart(
+        chart: *const u8,
+        length: usize,
+        out: *mut u8,
+        out_length: usize,
+    ) -> usize;
+    unsafe fn rl_play(
+        from_chart: bool,
+        chart: *const u8,
+        chart_length: usize,
+        calls: *const u64,
+        calls_length: usize,
+        answers: *mut u64,
+        answers_length: usize,
+    ) -> Played;
+}
+
+pub fn read_chart(l: &mut Fields, chart: &[u8]) -> u8 {
+    // SAFETY: pointer and length are those of a slice.
+    unsafe { rl_read_chart(l, chart.as_ptr(), chart.len()) }
+}
+
+pub fn order(l: &Fields, buffer: &mut [u8]) -> u8 {
+    // SAFETY: pointer and length are those of a slice.
+    unsafe { rl_order(l, buffer.as_mut_ptr(), buffer.len()) }
+}
+
+pub fn list_chart(chart: &[u8], out: &mut [u8]) -> usize {
+    // SAFETY: pointers and lengths are those of slices.
+    unsafe { rl_list_chart(chart.as_ptr(), chart.len(), out.as_mut_ptr(), out.len()) }
+}
+
+pub fn play(chart: Option<&[u8]>, calls: &[u64], answers: &mut [u64]) -> Played {
+    let bytes = chart.unwrap_or_default();
+    // SAFETY: pointers and lengths are those of slices.
+    unsafe {
+        rl_play(
+            chart.is_some(),
+            bytes.as_ptr(),
+            bytes.len(),
+            calls.as_ptr(),
+            calls.len(),
+            answers.as_mut_ptr(),
+            answers.len(),
+        )
+    }
+}

@@ -1,0 +1,342 @@
+//! A layout, held by the host and lent to each call.
+
+use crate::ffi::{self, PLACES};
+use crate::refusal::{accepted, Refusal};
+use crate::row::Row;
+
+/// The fields of a layout as the library holds them. They may hold anything at
+/// all: a layout that is not valid is refused by every call.
+#[repr(C)]
+#[derive(Clone, Debug, PartialEq, Eq)]
+pub struct Fields {
+    /// How many vertices there are: 0 to n − 1.
+    pub n: usize,
+    /// The vertices clockwise in the first n places, 0 in the others.
+    pub order: [u8; PLACES],
+    /// Bit w of word v (document 01: neighbour word) is set exactly when an
+    /// edge joins v and w.
+    pub adjacency: [u64; PLACES],
+    /// The carried count, which no call examines.
+    pub count: u32,
+}
+
+/// An edge (document 01: link), the lower end first.
+#[repr(C)]
+#[derive(Clone, Copy, Debug, PartialEq, Eq, Hash, PartialOrd, Ord)]
+pub struct Edge {
+    pub low: usize,
+    pub high: usize,
+}
+
+/// What a sifting round did.
+#[derive(Clone, Copy, Debug, PartialEq, Eq)]
+pub struct Round {
+    /// The summed reduction (document 01: saving).
+    pub reduction: u32,
+    /// How many vertices moved.
+    pub moved: u32,
+}
+
+/// What sifting rounds up to a limit did.
+#[derive(Clone, Copy, Debug, PartialEq, Eq)]
+pub struct Convergence {
+    /// The summed reduction (document 01: saving).
+    pub reduction: u32,
+    /// The rounds run, the last one included.
+    pub rounds: u32,
+    /// Whether the last round moved no vertex (document 01: settled). The
+    /// layout is then a local minimum: no move of one vertex lowers the
+    /// crossings.
+    pub converged: bool,
+}
+
+/// A circular layout (document 01: ring): vertices round a circle, edges as
+/// chords. A refused call leaves it as it was.
+#[derive(Clone, Debug, PartialEq, Eq)]
+pub struct Layout {
+    fields: Fields,
+}
+
+impl Default for Layout {
+    fn default() -> Layout {
+        Layout::empty()
+    }
+}
+
+impl Layout {
+    /// The layout without vertices.
+    pub fn empty() -> Layout {
+        Layout::from_fields(ffi::rl_empty())
+    }
+
+    /// The layout of a chart, with its true crossings.
+    pub fn from_chart(chart: &[u8]) -> Result<Layout, Refusal> {
+        let mut layout = Layout::empty();
+        layout.read_chart(chart)?;
+        Ok(layout)
+    }
+
+    /// Vertices 0 to n − 1 in rising number, with these edges, each given once.
+    pub fn from_edges(n: usize, edges: &[(usize, usize)]) -> Result<Layout, Refusal> {
+        let mut layout = Layout::empty();
+        for _ in 0..n {
+            layout.add_vertex()?;
+        }
+        for &(a, b) in edges {
+            layout.add_edge(a, b)?;
+        }
+        Ok(layout)
+    }
+
+    /// A layout of any fields, valid or not.
+    pub fn from_fields(fields: Fields) -> Layout {
+        Layout { fields }
+    }
+
+    /// Reads a chart into this layout.
+    pub fn read_chart(&mut self, chart: &[u8]) -> Result<(), Refusal> {
+        accepted(ffi::read_chart(&mut self.fields, chart), ())
+    }
+
+    /// Adds a vertex without edges at the end of the order (document 01: add),
+    /// and gives its number.
+    pub fn add_vertex(&mut self) -> Result<usize, Refusal> {
+        let answer = ffi::rl_add_vertex(&mut self.fields);
+        accepted(answer.refusal, answer.vertex)
+    }
+
+    /// Joins two vertices by an edge (document 01: link).
+    pub fn add_edge(&mut self, a: usize, b: usize) -> Result<(), Refusal> {
+        accepted(ffi::rl_add_edge(&mut self.fields, a, b), ())
+    }
+
+    /// Takes the edge between two vertices away (document 01: unlink).
+    pub fn remove_edge(&mut self, a: usize, b: usize) -> Result<(), Refusal> {
+        accepted(ffi::rl_remove_edge(&mut self.fields, a, b), ())
+    }
+
+    /// Takes a out of the order and puts it directly after b (document 01: move
+    /// a behind b).
+    pub fn move_after(&mut self, a: usize, b: usize) -> Result<(), Refusal> {
+        accepted(ffi::rl_move_after(&mut self.fields, a, b), ())
+    }
+
+    /// Makes a new order by greedy append from a first vertex (document 01: lay
+    /// from s), and gives the tally of the crossings at the ends taken.
+    pub fn greedy_append(&mut self, start: usize) -> Result<u32, Refusal> {
+        let answer = ffi::rl_greedy_append(&mut self.fields, start);
+        accepted(answer.refusal, answer.tally)
+    }
+
+    /// Moves u to where the crossings are fewest, of several places to the
+    /// first clockwise, and gives the reduction (document 01: saving). Where
+    /// none has fewer than its own, u stays.
+    pub fn sift(&mut self, u: usize) -> Result<u32, Refusal> {
+        let answer = ffi::rl_sift(&mut self.fields, u);
+        accepted(answer.refusal, answer.reduction)
+    }
+
+    /// Sifts each vertex once, in rising number (document 01: round).
+    pub fn sifting_round(&mut self) -> Result<Round, Refusal> {
+        let answer = ffi::rl_sifting_round(&mut self.fields);
+        let round = Round {
+            reduction: answer.reduction,
+            moved: answer.moved,
+        };
+        accepted(answer.refusal, round)
+    }
+
+    /// Runs sifting rounds until one moves no vertex, or `limit` of them
+    /// (document 01: settle). The limit is from 1 to 1000.
+    pub fn converge(&mut self, limit: u32) -> Result<Convergence, Refusal> {
+        let answer = ffi::rl_converge(&mut self.fields, limit);
+        let convergence = Convergence {
+            reduction: answer.reduction,
+            rounds: answer.rounds,
+            converged: answer.converged,
+        };
+        accepted(answer.refusal, convergence)
+    }
+
+    /// The carried count. Of a layout that came from [`Layout::empty`] or a
+    /// chart and was changed by calls alone, it is the number of crossings.
+    pub fn count(&self) -> Result<u32, Refusal> {
+        let answer = ffi::rl_count(&self.fields);
+        accepted(answer.refusal, answer.count)
+    }
+
+    /// The vertices, clockwise.
+    pub fn order(&self) -> Result<Vec<usize>, Refusal> {
+        let mut buffer = [0; PLACES];
+        self.write_order(&mut buffer)?;
+        let used = &buffer[..self.fields.n];
+        Ok(used.iter().map(|&v| usize::from(v)).collect())
+    }
+
+    /// Writes the order to the first n bytes of the buffer; the others keep
+    /// what they hold.
+    pub fn write_order(&self, buffer: &mut [u8]) -> Result<(), Refusal> {
+        accepted(ffi::order(&self.fields, buffer), ())
+    }
+
+    /// The first two edges that cross (document 01: shown crossing pair), edges
+    /// sorted by lower, then higher end, or `None` if no two edges cross.
+    pub fn first_crossing(&self) -> Result<Option<(Edge, Edge)>, Refusal> {
+        let answer = ffi::rl_first_crossing(&self.fields);
+        let pair = (answer.first, answer.second);
+        accepted(answer.refusal, answer.found.then_some(pair))
+    }
+
+    /// Whether the layout is valid (document 01: whole).
+    pub fn is_valid(&self) -> bool {
+        ffi::rl_is_valid(&self.fields)
+    }
+
+    /// The edges, sorted by lower, then higher end.
+    pub fn edges(&self) -> Vec<Edge> {
+        let joined = |low: usize, high: usize| self.fields.adjacency[low] >> high & 1 == 1;
+        let pairs = (0..PLACES).flat_map(|low| (low + 1..PLACES).map(move |high| (low, high)));
+        pairs
+            .filter(|&(low, high)| joined(low, high))
+            .map(|(low, high)| Edge { low, high })
+            .collect()
+    }
+
+    /// Converges with a limit, and gives what the program `ringlist` prints of
+    /// such a run.
+    pub fn row(&mut self, limit: u32) -> Result<Row, Refusal> {
+        let before = self.count()?;
+        let convergence = self.converge(limit)?;
+        Ok(Row {
+            vertices: self.fields.n,
+            edges: self.edges().len(),
+            before,
+            after: self.count()?,
+            rounds: convergence.rounds,
+            converged: convergence.converged,
+            order: self.order()?,
+        })
+    }
+
+    pub fn fields(&self) -> &Fields {
+        &self.fields
+    }
+
+    /// The fields, to be set to anything.
+    pub fn fields_mut(&mut self) -> &mut Fields {
+        &mut self.fields
+    }
+}
+
+#[cfg(test)]
+mod tests {
+    use super::*;
+    use crate::FIRST_CHART;
+
+    fn first() -> Layout {
+        Layout::from_chart(FIRST_CHART).unwrap()
+    }
+
+    #[test]
+    fn a_chart_is_read() {
+        let layout = first();
+        assert_eq!(layout.order(), Ok(vec![0, 1, 2, 3]));
+        assert_eq!(layout.count(), Ok(1));
+        let edge = |low, high| Edge { low, high };
+        assert_eq!(layout.edges(), [edge(0, 2), edge(1, 3)]);
+        let pair = (edge(0, 2), edge(1, 3));
+        assert_eq!(layout.first_crossing(), Ok(Some(pair)));
+        assert_eq!(Layout::from_edges(4, &[(2, 0), (1, 3)]), Ok(layout));
+    }
+
+    #[test]
+    fn a_refused_chart_leaves_the_layout() {
+        let mut layout = first();
+        assert_eq!(layout.read_chart(&[]), Err(Refusal::ChartTags));
+        assert_eq!(layout.read_chart(&[1]), Err(Refusal::ChartFields));
+        let long = layout.read_chart(&[0; 8193]);
+        assert_eq!(long, Err(Refusal::ChartTooLong));
+        assert_eq!(layout, first());
+    }
+
+    #[test]
+    fn edits() {
+        let mut layout = first();
+        assert_eq!(layout.add_vertex(), Ok(4));
+        assert_eq!(layout.add_edge(4, 1), Ok(()));
+        assert_eq!(layout.count(), Ok(2));
+        assert_eq!(layout.add_edge(1, 4), Err(Refusal::EdgeIsThere));
+        assert_eq!(layout.add_edge(4, 4), Err(Refusal::SameVertex));
+        assert_eq!(layout.add_edge(4, usize::MAX), Err(Refusal::NoSuchVertex));
+        assert_eq!(layout.remove_edge(4, 1), Ok(()));
+        assert_eq!(layout.remove_edge(4, 1), Err(Refusal::NoSuchEdge));
+        assert_eq!(layout.move_after(4, 0), Ok(()));
+        assert_eq!(layout.order(), Ok(vec![0, 4, 1, 2, 3]));
+        let full = Layout::from_edges(65, &[]);
+        assert_eq!(full, Err(Refusal::NoRoom));
+    }
+
+    #[test]
+    fn sifting() {
+        let mut layout = first();
+        assert_eq!(layout.sift(0), Ok(1));
+        assert_eq!(layout.order(), Ok(vec![1, 0, 2, 3]));
+        assert_eq!(layout.first_crossing(), Ok(None));
+        let round = Round {
+            reduction: 1,
+            moved: 1,
+        };
+        assert_eq!(first().sifting_round(), Ok(round));
+        let run = |rounds, converged| Convergence {
+            reduction: 1,
+            rounds,
+            converged,
+        };
+        assert_eq!(first().converge(1), Ok(run(1, false)));
+        assert_eq!(first().converge(1000), Ok(run(2, true)));
+        for limit in [0, 1001, u32::MAX] {
+            assert_eq!(first().converge(limit), Err(Refusal::LimitOutOfRange));
+        }
+    }
+
+    #[test]
+    fn greedy_append() {
+        let edges = [(0, 1), (0, 2), (1, 3), (2, 3)];
+        let mut layout = Layout::from_edges(4, &edges).unwrap();
+        assert_eq!(layout.greedy_append(0), Ok(0));
+        assert_eq!(layout.order(), Ok(vec![2, 0, 1, 3]));
+        assert_eq!(layout.greedy_append(4), Err(Refusal::NoSuchVertex));
+    }
+
+    #[test]
+    fn an_order_goes_into_a_lent_buffer() {
+        let mut buffer = [77; 5];
+        let short = first().write_order(&mut buffer[..3]);
+        assert_eq!((short, buffer), (Err(Refusal::BufferTooShort), [77; 5]));
+        assert_eq!(first().write_order(&mut buffer), Ok(()));
+        assert_eq!(buffer, [0, 1, 2, 3, 77]);
+        assert_eq!(Layout::empty().write_order(&mut []), Ok(()));
+    }
+
+    #[test]
+    fn an_invalid_layout_is_refused_and_left() {
+        let mut layout = first();
+        *layout.fields_mut() = Fields {
+            n: usize::MAX,
+            order: [255; PLACES],
+            adjacency: [u64::MAX; PLACES],
+            count: 5,
+        };
+        let before = layout.clone();
+        let refused = Err(Refusal::InvalidLayout);
+        assert!(!layout.is_valid());
+        assert_eq!(layout.add_vertex().map(drop), refused);
+        assert_eq!(layout.sifting_round().map(drop), refused);
+        assert_eq!(layout.converge(50).map(drop), refused);
+        assert_eq!(layout.order().map(drop), refused);
+        assert_eq!(layout.row(50).map(drop), refused);
+        assert_eq!(layout.first_crossing().map(drop), refused);
+        assert_eq!(layout.edges().len(), 64 * 63 / 2);
+        assert_eq!(layout, before);
+    }
+}

@@ -1,0 +1,37 @@
+//! Circular layouts with few crossings, proved.
+//!
+//! Vertices stand round a circle and edges are chords. A [`Layout`] is lent to
+//! each call of the proved library, which changes it in place. A refused call
+//! leaves it as it was and says why: a [`Refusal`].
+//!
+//! ```
+//! use rostulanda::Layout;
+//!
+//! let mut layout = Layout::from_edges(4, &[(0, 2), (1, 3)])?;
+//! assert_eq!(layout.count()?, 1);
+//! let run = layout.converge(50)?;
+//! assert!(run.converged);
+//! assert_eq!(layout.count()?, 0);
+//! assert_eq!(layout.order()?, [1, 0, 2, 3]);
+//! # Ok::<(), rostulanda::Refusal>(())
+//! ```
+//!
+//! The words are those of graph drawing; document 01's stand beside them once.
+
+#[doc(hidden)]
+pub mod boundary;
+mod ffi;
+mod layout;
+mod list;
+mod refusal;
+mod row;
+
+pub use ffi::PLACES;
+pub use layout::{Convergence, Edge, Fields, Layout, Round};
+pub use list::{play, Answer, Call, Played};
+pub use refusal::Refusal;
+pub use row::{list_chart, Row};
+
+/// Four vertices, 0-2 and 1-3: one crossing.
+#[cfg(test)]
+const FIRST_CHART: &[u8] = include_bytes!("../../../charts/first.chart");

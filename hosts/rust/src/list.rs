@@ -1,0 +1,114 @@
+//! Lists of calls, played in one go.
+
+use crate::ffi;
+use crate::layout::Layout;
+use crate::refusal::{accepted, Refusal};
+
+/// A call that changes a layout, with what it names: any numbers at all.
+#[derive(Clone, Copy, Debug, PartialEq, Eq)]
+pub enum Call {
+    AddVertex,
+    AddEdge(usize, usize),
+    RemoveEdge(usize, usize),
+    MoveAfter(usize, usize),
+    GreedyAppend(usize),
+    Sift(usize),
+    SiftingRound,
+    Converge(usize),
+}
+
+impl Call {
+    /// The three numbers that the library reads.
+    fn numbers(self) -> [u64; 3] {
+        let (op, a, b) = match self {
+            Call::AddVertex => (16, 0, 0),
+            Call::AddEdge(a, b) => (17, a, b),
+            Call::RemoveEdge(a, b) => (18, a, b),
+            Call::MoveAfter(a, b) => (19, a, b),
+            Call::GreedyAppend(start) => (20, start, 0),
+            Call::Sift(u) => (21, u, 0),
+            Call::SiftingRound => (22, 0, 0),
+            Call::Converge(limit) => (23, limit, 0),
+        };
+        [op, a as u64, b as u64]
+    }
+}
+
+/// What one call of a list answered: its further numbers in the sequence of the
+/// call's own answer, 0 where it has fewer; a bool counts as 0 or 1.
+pub type Answer = Result<[u64; 3], Refusal>;
+
+/// A list of calls played.
+#[derive(Clone, Debug, PartialEq, Eq)]
+pub struct Played {
+    pub layout: Layout,
+    pub answers: Vec<Answer>,
+}
+
+/// Plays a list of calls from a chart, or from the empty layout. Refused calls
+/// may stand anywhere among them; only a refused chart refuses the list.
+pub fn play(chart: Option<&[u8]>, calls: &[Call]) -> Result<Played, Refusal> {
+    let numbers: Vec<u64> = calls.iter().flat_map(|call| call.numbers()).collect();
+    let mut table = vec![0; 4 * calls.len()];
+    let played = ffi::play(chart, &numbers, &mut table);
+    let answers = table.chunks_exact(4).take(played.calls).map(|answer| {
+        // A refusal code is a byte.
+        accepted(answer[0] as u8, [answer[1], answer[2], answer[3]])
+    });
+    let answers = answers.collect();
+    let layout = Layout::from_fields(played.layout);
+    accepted(played.refusal, Played { layout, answers })
+}
+
+#[cfg(test)]
+mod tests {
+    use super::*;
+    use crate::FIRST_CHART;
+
+    #[test]
+    fn a_list_is_its_calls_one_after_another() {
+        let calls = [
+            Call::AddVertex,
+            Call::AddEdge(4, 1),
+            Call::AddEdge(4, 4),
+            Call::MoveAfter(4, 0),
+            Call::Sift(2),
+            Call::SiftingRound,
+            Call::GreedyAppend(3),
+            Call::RemoveEdge(4, 1),
+            Call::Converge(50),
+        ];
+        let played = play(Some(FIRST_CHART), &calls).unwrap();
+
+        let mut layout = Layout::from_chart(FIRST_CHART).unwrap();
+        let mut answers: Vec<Answer> = Vec::new();
+        let number = |n: u32| [u64::from(n), 0, 0];
+        answers.push(layout.add_vertex().map(|v| [v as u64, 0, 0]));
+        answers.push(layout.add_edge(4, 1).map(|()| [0; 3]));
+        answers.push(layout.add_edge(4, 4).map(|()| [0; 3]));
+        answers.push(layout.move_after(4, 0).map(|()| [0; 3]));
+        answers.push(layout.sift(2).map(number));
+        let round = layout.sifting_round();
+        answers.push(round.map(|r| [r.reduction.into(), r.moved.into(), 0]));
+        answers.push(layout.greedy_append(3).map(number));
+        answers.push(layout.remove_edge(4, 1).map(|()| [0; 3]));
+        let run = layout.converge(50);
+        answers.push(run.map(|c| [c.reduction.into(), c.rounds.into(), c.converged.into()]));
+        assert_eq!(played, Played { layout, answers });
+        assert_eq!(played.answers[2], Err(Refusal::SameVertex));
+    }
+
+    #[test]
+    fn an_empty_list_gives_the_start() {
+        let played = play(None, &[]).unwrap();
+        assert_eq!((played.layout, played.answers), (Layout::empty(), vec![]));
+        let start = play(Some(FIRST_CHART), &[]).map(|played| played.layout);
+        assert_eq!(start, Layout::from_chart(FIRST_CHART));
+    }
+
+    #[test]
+    fn a_refused_chart_refuses_the_list() {
+        let played = play(Some(&[1]), &[Call::AddVertex]);
+        assert_eq!(played, Err(Refusal::ChartFields));
+    }
+}
