@@ -1,8 +1,8 @@
 use mathlib.Core.Path.{ap}
 use Rattle.model.specs.Histories.{outcome}
 use borrow.Author.Needs.{needs}
-use Rattle.history.proofs.outcomes.of_converged.Statement.{statement}
-use Rattle.history.proofs.outcomes.of_converged.Tie as tie
+use Rattle.steps.proofs.outcomes.of_converged.Statement.{statement}
+use Rattle.steps.proofs.outcomes.of_converged.Tie as tie
 
 cast-t3 : tie.Need-cast-t3
 cast-t3 c = search needs

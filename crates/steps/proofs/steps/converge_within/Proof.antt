@@ -1,8 +1,8 @@
 use mathlib.Core.Path.{_∙_}
-use Rattle.history.specs.Limits.{limits-above}
+use Rattle.steps.specs.Limits.{limits-above}
 use borrow.Author.Needs.{needs}
-use Rattle.history.proofs.steps.converge_within.Statement.{statement}
-use Rattle.history.proofs.steps.converge_within.Tie as tie
+use Rattle.steps.proofs.steps.converge_within.Statement.{statement}
+use Rattle.steps.proofs.steps.converge_within.Tie as tie
 
 converge-requires : tie.Need-converge-requires
 converge-requires c κs = search needs

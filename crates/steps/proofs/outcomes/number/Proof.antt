@@ -1,6 +1,6 @@
 use Rattle.model.specs.Lists.{one}
-use Rattle.history.proofs.outcomes.number.Statement.{statement}
-use Rattle.history.proofs.outcomes.number.Tie as tie
+use Rattle.steps.proofs.outcomes.number.Statement.{statement}
+use Rattle.steps.proofs.outcomes.number.Tie as tie
 
 returns : tie.Need-returns
 unfolding one

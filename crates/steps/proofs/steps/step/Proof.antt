@@ -2,8 +2,8 @@ use mathlib.Core.Path.{sym, ap, _∙_}
 use Rattle.model.specs.Histories.{answerOf}
 use Rattle.model.specs.Histories.{ofAdded, ofChanged, ofAppended, ofSifted, ofRounded, ofConverged}
 use borrow.Author.Needs.{needs}
-use Rattle.history.proofs.steps.step.Statement.{statement}
-use Rattle.history.proofs.steps.step.Tie as tie
+use Rattle.steps.proofs.steps.step.Statement.{statement}
+use Rattle.steps.proofs.steps.step.Tie as tie
 
 enum-told : tie.Need-enum-told
 enum-told c = search needs

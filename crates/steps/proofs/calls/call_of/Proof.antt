@@ -1,7 +1,7 @@
 use borrow.Author.Tests.{ne-eqb}
 use Rattle.model.specs.Playing.{callOf}
-use Rattle.history.proofs.calls.call_of.Statement.{statement}
-use Rattle.history.proofs.calls.call_of.Tie as tie
+use Rattle.steps.proofs.calls.call_of.Statement.{statement}
+use Rattle.steps.proofs.calls.call_of.Tie as tie
 
 returns : tie.Need-returns
 unfolding callOf
