@@ -1,6 +1,5 @@
 -- What reading a chart gives: a valid layout with its true crossings, whatever the sequence in which the edges are written.
 use Prim.Native.Nat.{ℕ}
-use native.Mathlib.Decide.{ℕ-discrete}
 use mathlib.Core.Path.{_≡_, refl, sym, ap, ap₂, _∙_, subst}
 use mathlib.Core.Bool.{Bool, true, _&&_, _||_}
 use mathlib.Core.List.{List, [], _∷_, flatMap}
@@ -20,7 +19,7 @@ use Rattle.laws.specs.Sums.Lists.{All, none, also}
 use Rattle.laws.specs.Layouts.Sizes.{Sized, empty-sized}
 use Rattle.laws.specs.Layouts.Refusals.{checked-either, Numbered, all-pass, when-accepted, when-refused, checked-number}
 use Rattle.laws.specs.Sums.Indicators.{both-left, both-right, eqb-swap}
-use Rattle.chart.specs.Edges.{edge}
+use Rattle.passes.specs.Edges.{edge}
 use Rattle.chart.specs.Order.{padded-length}
 use Rattle.chart.specs.Words.{adjacencyOf, adjacency-length, adjacency-bit, adjacency-lt, adjacency-ext}
 use Rattle.chart.specs.Reading.{layoutFrom, Accepted, valid-read, count-true, refusedRead}
@@ -80,17 +79,7 @@ pub read-refused : (s : List ℕ) → (readOf s .refusal ≡ 0 → ⊥) → read
 unfolding readOf refusedRead
 read-refused s d = when-refused (chartChecks s) (readAnswer s) refusedRead (read-number s) d
 
--- so reading gives such a layout in any case
-pub read-right : (s : List ℕ) → T (valid (readOf s .layout)) × (readOf s .layout .count ≡ crossingsOf (readOf s .layout))
-unfolding refusedRead
-read-right s =
-    elim (ℕ-discrete (readOf s .refusal) 0) [
-      | yes e ↦ read-valid s e
-      | no d ↦
-          subst (λ (r : ChartRead). T (valid (r .layout)) × (r .layout .count ≡ crossingsOf (r .layout))) (sym (read-refused s d)) (empty-valid, empty-count)
-    ]
-
--- and its arrays have their places
+-- the arrays of a layout that is read have their places
 pub read-sized : (s : List ℕ) → Sized (readOf s .layout)
 unfolding readOf chartLayout refusedRead
 read-sized s =

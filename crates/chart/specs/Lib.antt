@@ -1,6 +1,4 @@
 -- The passes of the reader, and what an accepted chart gives: Laws has what others cite, Sequence that links may be written in any sequence.
-pub mod Fields
-pub mod Edges
 pub mod Words
 pub mod Order
 pub mod Reading

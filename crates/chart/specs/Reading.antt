@@ -34,7 +34,7 @@ use Rattle.laws.specs.Layouts.Validity.{each-once, sound-valid}
 use Rattle.laws.specs.Sums.Indicators.{both-left, both-right}
 use Rattle.laws.specs.Layouts.Recount.{counted, counted-crossings}
 use Rattle.laws.specs.Layouts.Refusals.{Numbered, all-pass}
-use Rattle.chart.specs.Edges.{Ends, joins-none, joins-swap}
+use Rattle.passes.specs.Edges.{Ends, joins-none, joins-swap}
 use Rattle.chart.specs.Words.{wordOf-below, adjacencyOf, adjacency-at, adjacency-linked}
 use Rattle.chart.specs.Order.{padded, padded-length, padded-at}
 

@@ -23,8 +23,8 @@ use Rattle.laws.specs.Sums.Lists.{length-upto, map-upto-at, sumOver-upto}
 use Rattle.laws.specs.Sums.Bits.{bit-beyond, bits-ext, set-same, set-other}
 use Rattle.laws.specs.Layouts.EdgeEdits.{both, set-changes, words-lt, joined-to, joined-back, bits-kept}
 use Rattle.laws.specs.Sums.Any.{any-new, any-old, noRepeats-last, noRepeats-more}
-use Rattle.chart.specs.Edges.{edge, edge-swap, same-edge, other-edge, Ends, edge-ends, edges-next, edges-last, EndsUpTo, ends-start, ends-next}
-use Rattle.chart.specs.Edges.{ends-known}
+use Rattle.passes.specs.Edges.{edge, edge-swap, same-edge, other-edge, Ends, edge-ends, edges-next, edges-last, EndsUpTo, ends-start, ends-next}
+use Rattle.passes.specs.Edges.{ends-known}
 
 -- ---- a word made of its bits
 

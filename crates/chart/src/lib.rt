@@ -1,7 +1,6 @@
 // Reading charts: the questions of document 01, each asked of the whole input before the next, and the
-// layout (ring) that an accepted chart gives. fields has questions 1 to 4, edges 5 to 7, order 8.
+// layout (ring) that an accepted chart gives. passes has questions 1 to 6, edges 7, order 8.
 mod edges;
-mod fields;
 mod order;
 
 use model::Asked;
@@ -14,14 +13,14 @@ ghost use Prim.Native.Nat.{_≤_};
 ghost use mathlib.Core.Bool.{true};
 ghost use Rattle.model.specs.Lists.{every};
 ghost use Rattle.model.specs.Charts.{edgesIn, edgeWithin, readOf, asked, bodiesFound, sizeFound};
-ghost use Rattle.chart.specs.Fields.{BodiesAt};
+ghost use Rattle.passes.specs.Fields.{BodiesAt};
 ghost use Rattle.chart.specs.Reading.{refusedRead, readDivided, readFields, readBodies, readEdges, readOrder};
 
 // An accepted chart gives its edges, its order and its crossings; a refused one the empty layout.
 pub fn read(bytes: &[u8]) -> ChartRead
     ensures { λ r. ⌜ r ≡ readOf (now (bytes .entry)) ⌝ }
 {
-    let divided = fields::ask_fields(bytes);
+    let divided = passes::ask_fields(bytes);
     let Asked::Passed = divided else {
         return refused(asked_code(divided));
     };
@@ -32,7 +31,7 @@ pub fn read(bytes: &[u8]) -> ChartRead
 fn read_divided(bytes: &[u8]) -> ChartRead
     ensures { λ r. ⌜ r ≡ readDivided (now (bytes .entry)) ⌝ }
 {
-    let bodies = fields::find_bodies(bytes);
+    let bodies = passes::find_bodies(bytes);
     let BodiesFound::Found(size, links, order) = bodies else {
         return refused(bodies_code(bodies));
     };
@@ -49,7 +48,7 @@ fn read_fields(bytes: &[u8], size: usize, links: usize, order: usize) -> ChartRe
     let links_end = links_start + links;
     let order_start = links_end + 3;
     let order_end = order_start + order;
-    let found = fields::find_size(&bytes[3..size_end]);
+    let found = passes::find_size(&bytes[3..size_end]);
     let SizeFound::Found(n) = found else {
         return refused(size_code(found));
     };
@@ -66,7 +65,7 @@ fn read_bodies(n: usize, links: &[u8], body: &[u8]) -> ChartRead
     requires { ⌜ n ≤ 64 ⌝ }
     ensures { λ r. ⌜ r ≡ readBodies n (now (links .entry)) (now (body .entry)) ⌝ }
 {
-    let within = edges::ask_ends(n, links);
+    let within = passes::ask_ends(n, links);
     let Asked::Passed = within else {
         return refused(asked_code(within));
     };

@@ -12,13 +12,13 @@ use lib.Dec.{T, eqb, ltb}
 use borrow.Author.Tests.{le-ltb, lt-ltb}
 use Rattle.model.specs.declared.Edge.{Edge}
 use Rattle.model.specs.declared.Layout.{Layout}
-use Rattle.model.specs.Lists.{one, upto, keep, noRepeats, place}
+use Rattle.model.specs.Lists.{upto, keep, noRepeats, place}
 use Rattle.model.specs.Crossings.{bit, linked, edges, alternate, crosses}
 use Rattle.model.specs.Layouts.{vertexOrder, valid}
 use Rattle.model.specs.Reading.{Shown, pairWith, orElse, firstPair, firstCrossingOf}
 use Rattle.laws.specs.Sums.Indicators.{less, same, more, order as which}
 use Rattle.laws.specs.Sums.Ranges.{sum}
-use Rattle.laws.specs.Sums.Lists.{All, none, keep-append, all-at, flatMap-append, length-upto, upto-at}
+use Rattle.laws.specs.Sums.Lists.{All, keep-append, all-at, flatMap-append, length-upto, upto-at}
 use Rattle.laws.specs.Orders.Permutations.{Permutation, at-lt, at-of-place, place-of-at, place-below}
 use Rattle.laws.specs.Crossings.Bound.{sum-more}
 use Rattle.laws.specs.Crossings.Edges.{Within, all-edges}

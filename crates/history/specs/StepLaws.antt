@@ -1,10 +1,9 @@
 -- What an accepted call of a list gives on a valid layout: its sifts and rounds are proper ones, and its answer counts them.
 use Prim.Native.Nat.{ℕ, _+_, _*_, _≤_, _<_}
-use native.Mathlib.Nat.{add-zero}
 use native.Mathlib.Omega.{arith}
 use mathlib.Core.Path.{_≡_, refl, sym, ap, _∙_, subst}
 use mathlib.Core.Bool.{Bool, true, false, cond, false≢true}
-use mathlib.Core.List.{List, [], _∷_, _++_, map, flatMap}
+use mathlib.Core.List.{List, [], _++_, flatMap}
 use lib.ListN.{length, length-append}
 use lib.Dec.{T, eqb}
 use borrow.Author.Tests.{eqb-true}
@@ -12,14 +11,13 @@ use Rattle.model.specs.declared.Layout.{Layout}
 use Rattle.model.specs.declared.Converged.{Converged}
 use Rattle.model.specs.declared.Call.{Call}
 use Rattle.model.specs.declared.Call.the-variants as call
-use Rattle.model.specs.Lists.{one, upto, All, none, also}
+use Rattle.model.specs.Lists.{one, All, none, also}
 use Rattle.model.specs.Layouts.{crossingsOf, valid}
-use Rattle.model.specs.Sifting.{sifted, siftOf, siftRound, roundOf, roundsUpTo, settleOf}
+use Rattle.model.specs.Sifting.{siftOf, siftRound, roundOf, roundsUpTo, settleOf}
 use Rattle.model.specs.Histories.{Start, empty, read, Step, Sift, Round, Follow, ended, next, outcome, ofAdded, ofChanged, ofAppended, ofSifted, ofRounded}
 use Rattle.model.specs.Histories.{ofConverged, answerOf, accepted, roundsOfStep, siftsOfStep}
-use Rattle.model.specs.Histories.{butLast, sifting, siftCalled, roundsOfCall, siftsOfRound, roundsFrom, roundsDue, saysConverged, BestPlace}
+use Rattle.model.specs.Histories.{butLast, sifting, siftCalled, roundsOfCall, siftsOfRound, roundsDue, saysConverged, BestPlace}
 use Rattle.model.specs.Histories.{LocalMinimum}
-use Rattle.laws.specs.Sums.Indicators.{T-true}
 use Rattle.laws.specs.Sums.Lists.{all-mono, all-append, all-flatMap}
 use Rattle.laws.specs.Sifting.LocalSearch.{follow-flat}
 use Rattle.laws.specs.Sifting.Rounds.{ProperSift, ProperRound, proper-sift, proper-round, round-size, round-length, settling, rounds-follow}

@@ -2,9 +2,9 @@
 ghost use mathlib.Core.Path.{_≡_};
 ghost use Prim.Native.Nat.{_+_, _*_, _≤_};
 ghost use lib.ListN.{length, drop};
-ghost use Rattle.model.specs.Playing.{callOf, firstCall, callsOf};
-use model::Call;
+ghost use Rattle.model.specs.Playing.{firstCall, callsOf};
 use model::Decoded;
+use steps::call_of;
 
 // How many calls the list holds: up to the first number that stands for none.
 pub(crate) fn count_calls(calls: &[u64]) -> usize
@@ -28,21 +28,4 @@ pub(crate) fn call_at(calls: &[u64], i: usize) -> Decoded
 {
     let at = 3 * i;
     call_of(calls[at], calls[at + 1] as usize, calls[at + 2] as usize)
-}
-
-// The call that three numbers are.
-pub fn call_of(op: u64, a: usize, b: usize) -> Decoded
-    ensures { λ r. ⌜ r ≡ callOf op a b ⌝ }
-{
-    match op {
-        16 => Decoded::Next(Call::AddVertex),
-        17 => Decoded::Next(Call::AddEdge(a, b)),
-        18 => Decoded::Next(Call::RemoveEdge(a, b)),
-        19 => Decoded::Next(Call::MoveAfter(a, b)),
-        20 => Decoded::Next(Call::GreedyAppend(a)),
-        21 => Decoded::Next(Call::Sift(a)),
-        22 => Decoded::Next(Call::SiftingRound),
-        23 => Decoded::Next(Call::Converge(a)),
-        _ => Decoded::End,
-    }
 }

@@ -1,10 +1,8 @@
-// Lists of calls: a call as a value, three numbers for a call, and a list of them played.
+// Lists of calls: three numbers for a call, and a list of them played. A single call stands in steps.
 mod calls;
-mod outcomes;
 mod playing;
-mod steps;
 mod table;
 
-pub use calls::call_of;
 pub use playing::play;
+pub use steps::call_of;
 pub use steps::step;

@@ -10,13 +10,13 @@ ghost use Rattle.history.specs.CallLists.{callThere};
 ghost use Rattle.history.specs.Demand3.{Demand3};
 use super::calls::call_at;
 use super::calls::count_calls;
-use super::steps::step;
 use super::table::put_answer;
 use model::ChartRead;
 use model::Decoded;
 use model::Layout;
 use model::Origin;
 use model::Played;
+use steps::step;
 
 // Plays the calls, and writes the answer of each into the table. Refused where the chart is, and with
 // 18 where the table is too short for the answers: nothing is then played or written.

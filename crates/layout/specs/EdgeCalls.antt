@@ -1,9 +1,9 @@
 -- Link and unlink as one call: a change of one bit at both ends, behind one check more than a move has.
 use Prim.Native.Nat.{ℕ, _<_}
-use mathlib.Core.Path.{_≡_, sym, ap, ap₂, _∙_}
+use mathlib.Core.Path.{_≡_, sym, ap, _∙_}
 use mathlib.Core.Bool.{Bool, not, cond}
 use mathlib.Core.List.{List}
-use lib.ListN.{length, getD, set}
+use lib.ListN.{length}
 use Rattle.model.specs.declared.Layout.{Layout}
 use Rattle.model.specs.Crossings.{linked}
 use Rattle.model.specs.Checks.{Check, refusal}
@@ -73,9 +73,3 @@ module _ (k : EdgeCall) (l : Layout) (a b : ℕ) where
   edge-accepted e z w m =
       changed-accepted l (k .checks l a b) (withEdges l (atBothEnds (k .change) (l .adjacency) a b)) (sym e ∙ z)
       (m ∙ edges-recounted (k .change) (k .value) (k .changes) (k .pair l a b (sym e ∙ z)) (w .1) (w .0))
-
--- the two words, written one after the other
-pub ends-written : (f : ℕ → ℕ → ℕ) (adj : List ℕ) (a b : ℕ) {x y : ℕ} → x ≡ f (getD adj a 0) b → y ≡ f (getD adj b 0) a
-    → set (set adj a x) b y ≡ atBothEnds f adj a b
-unfolding atBothEnds
-ends-written f adj a b p q = ap₂ (λ (x y : ℕ). set (set adj a x) b y) p q

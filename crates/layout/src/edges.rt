@@ -1,9 +1,7 @@
 // Adding and removing an edge (document 01: link, unlink).
 ghost use mathlib.Core.Path.{_≡_};
-ghost use Prim.Native.Nat.{_<_};
-ghost use lib.ListN.{length};
 ghost use Rattle.model.specs.Checks.{refusal};
-ghost use Rattle.model.specs.Edits.{linkChecks, unlinkChecks, linkOf, unlinkOf, withBit, withoutBit, atBothEnds};
+ghost use Rattle.model.specs.Edits.{linkChecks, unlinkChecks, linkOf, unlinkOf};
 use counting::recounted;
 use model::Changed;
 use model::Layout;
@@ -18,8 +16,8 @@ pub fn add_edge(l: Layout, a: usize, b: usize) -> Changed
     }
     let n = l.n;
     let order = l.order;
-    let before = l.adjacency;
-    let adjacency = joined(before, a, b);
+    let mut adjacency = l.adjacency;
+    words::join(&mut adjacency, a, b);
     Changed {
         refusal: 0,
         layout: recounted(l, n, order, adjacency),
@@ -35,8 +33,8 @@ pub fn remove_edge(l: Layout, a: usize, b: usize) -> Changed
     }
     let n = l.n;
     let order = l.order;
-    let before = l.adjacency;
-    let adjacency = parted(before, a, b);
+    let mut adjacency = l.adjacency;
+    words::part(&mut adjacency, a, b);
     Changed {
         refusal: 0,
         layout: recounted(l, n, order, adjacency),
@@ -71,28 +69,4 @@ fn remove_refusal(l: Layout, a: usize, b: usize) -> u8
         return 0;
     }
     15
-}
-
-// The words with the edge a-b in them.
-fn joined(adjacency: [u64; 64], a: usize, b: usize) -> [u64; 64]
-    requires { ⌜ (a < 64) × (b < 64) ⌝ }
-    ensures { λ r. ⌜ (r ≡ atBothEnds withBit adjacency a b) × (length adjacency ≡ 64) ⌝ }
-{
-    let mut next = adjacency;
-    let before: &[u64] = &adjacency;
-    next[a] = words::set(before[a], b);
-    next[b] = words::set(before[b], a);
-    next
-}
-
-// The words without the edge a-b.
-fn parted(adjacency: [u64; 64], a: usize, b: usize) -> [u64; 64]
-    requires { ⌜ (a < 64) × (b < 64) ⌝ }
-    ensures { λ r. ⌜ (r ≡ atBothEnds withoutBit adjacency a b) × (length adjacency ≡ 64) ⌝ }
-{
-    let mut next = adjacency;
-    let before: &[u64] = &adjacency;
-    next[a] = words::clear(before[a], b);
-    next[b] = words::clear(before[b], a);
-    next
 }

@@ -1,7 +1,7 @@
 // The answer line: a name and a refusal number, the call's own answers, and the layout that then
 // stands.
 ghost use mathlib.Core.Path.{_≡_};
-ghost use Prim.Native.Nat.{_+_, _*_, _≤_, _<_};
+ghost use Prim.Native.Nat.{_+_, _≤_, _<_};
 ghost use lib.ListN.{length};
 use crate::text::put;
 use crate::text::put_byte;

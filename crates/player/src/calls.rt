@@ -1,6 +1,6 @@
 // The calls that change a layout, each through history::step: what is compared is what the theorem
 // over lists of calls speaks of.
-ghost use Prim.Native.Nat.{_+_, _≤_};
+ghost use Prim.Native.Nat.{_≤_};
 ghost use mathlib.Core.Path.{_≡_};
 ghost use lib.ListN.{length};
 use crate::answer::Played;

@@ -6,7 +6,6 @@ ghost use Prim.Native.Nat.{_≤_, _<_};
 ghost use lib.Dec.{leb};
 ghost use lib.ListN.{length, take};
 ghost use Rattle.model.specs.Layouts.{valid, eachOnce, zeroFrom, symmetric as symmetricWords, loopless as looplessWords, bitsBelow};
-ghost use Rattle.model.specs.Crossings.{linked as linkedIn};
 ghost use Rattle.validity.specs.Passes.{symmetricRow};
 use model::Layout;
 

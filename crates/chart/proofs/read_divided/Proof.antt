@@ -1,6 +1,6 @@
 use borrow.Author.Needs.{needs}
 use mathlib.Core.Path.{_∙_}
-use Rattle.chart.specs.Fields.{bodies-at}
+use Rattle.passes.specs.Fields.{bodies-at}
 use Rattle.chart.specs.Reading.{bodies-number, read-tagged, read-untagged}
 use Rattle.chart.proofs.read_divided.Statement.{statement}
 use Rattle.chart.proofs.read_divided.Tie as tie

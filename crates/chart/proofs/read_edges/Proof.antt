@@ -1,6 +1,6 @@
 use borrow.Author.Needs.{needs}
 use mathlib.Core.Path.{refl, _∙_}
-use Rattle.chart.specs.Edges.{within-mono}
+use Rattle.passes.specs.Edges.{within-mono}
 use Rattle.chart.specs.Reading.{asked-number, asked-passed, read-once, read-repeated}
 use Rattle.chart.proofs.read_edges.Statement.{statement}
 use Rattle.chart.proofs.read_edges.Tie as tie

@@ -1,6 +1,6 @@
 -- The call lay: its list holds each vertex once, and its tally is exactly the crossings of the layout that it returns.
 use Prim.Native.Nat.{ℕ, zero, suc, _+_, _-_, _≤_, _<_}
-use native.Mathlib.Nat.{le-refl, le-trans, le-of-eq, le-add-right}
+use native.Mathlib.Nat.{le-refl, le-trans, le-add-right}
 use native.Mathlib.Omega.{arith}
 use native.Mathlib.Decide.{ℕ-discrete}
 use mathlib.Core.Path.{_≡_, refl, sym, ap, _∙_, subst}
@@ -11,23 +11,22 @@ use lib.Dec.{T, ltb, lt→ltb}
 use Rattle.model.specs.declared.Layout.{Layout}
 use Rattle.model.specs.declared.Appended.{Appended}
 use Rattle.model.specs.Lists.{sumOver, occurrences}
-use Rattle.model.specs.Crossings.{linked, crossings}
+use Rattle.model.specs.Crossings.{crossings}
 use Rattle.model.specs.Layouts.{crossingsOf, valid, reordered}
 use Rattle.model.specs.Checks.{refusal, isValid, isVertex}
 use Rattle.model.specs.GreedyAppend.{unplaced, degreeIn, nextVertex, closing, open′, frontCrossings, backCrossings}
 use Rattle.model.specs.GreedyAppend.{Placing, placeVertex, placeMore, placeAll, layChecks, layAnswer, layRefused, layOf}
-use Rattle.laws.specs.Sums.Indicators.{one-le}
 use Rattle.laws.specs.Sums.Lists.{All, none, also, all-mono}
-use Rattle.laws.specs.Orders.Permutations.{at, Permutation}
+use Rattle.laws.specs.Orders.Permutations.{Permutation}
 use Rattle.laws.specs.Sums.Pairs.{Symmetric}
 use Rattle.laws.specs.Crossings.Counting.{crossingSum, placed}
 use Rattle.laws.specs.Crossings.Edges.{weight, crossings-sum}
-use Rattle.laws.specs.Crossings.Bound.{mostCrossings, crossingSum-bound}
+use Rattle.laws.specs.Crossings.Bound.{mostCrossings}
 use Rattle.laws.specs.Layouts.Validity.{sound}
 use Rattle.laws.specs.Layouts.Sizes.{Sized, reordered-sized}
 use Rattle.laws.specs.Layouts.Refusals.{checked-either, vertex-passed, all-passed, when-accepted, when-refused, checked-number}
 use Rattle.laws.specs.Layouts.Reordering.{reordered-crossings, reordered-valid, Keeps, same-keeps, changed-keeps}
-use Rattle.laws.specs.Append.Order.{Placed, placed-start, placed-back, placed-front, placed-all, placed-count, all-placed, next-unplaced}
+use Rattle.laws.specs.Append.Order.{Placed, placed-start, placed-back, placed-front, placed-all, all-placed, next-unplaced}
 use Rattle.laws.specs.Append.Order.{unplacedBut, unplaced-front, unplaced-back, sumOver-but}
 use Rattle.laws.specs.Append.Crossings.{crossingsMet, Closing, met-start, met-back, met-front, met-finished}
 
@@ -132,15 +131,6 @@ module _ {n : ℕ} (adj : List ℕ) (symmetry : Symmetric n (weight adj)) where
       let next = next-unplaced (laid .order) adj (omega (arith, laid .size)) in
       laid-more k (omega arith) (laid-next laid (next .0) (next .1))
 
-  -- so the tally is at no step more than the most crossings possible
-  pub laid-bound : {m : ℕ} {s : Placing} → n ≤ 64 → Laid n adj m s → s .tally ≤ mostCrossings
-  laid-bound {m} {s} small laid =
-      let finished = laid-more (n - m) (omega (arith, placed-count (laid .order), laid .size)) laid in
-      le-trans (tally-grows n adj (n - m) s)
-      (le-trans (le-of-eq (laid-finished finished))
-      (crossingSum-bound n 1 (placed (placeMore (n - m) n adj s .placed) (weight adj)) small
-      (λ i j a b. one-le (linked adj (at (placeMore (n - m) n adj s .placed) i) (at (placeMore (n - m) n adj s .placed) j)))))
-
   module _ (s : ℕ) (h : s < n) where
     pub laid-all : Laid n adj n (placeAll n adj s)
     unfolding placeAll
@@ -191,17 +181,6 @@ module _ (l : Layout) (s : ℕ) where
   -- the tally of an accepted lay is the crossings of its layout
   pub lay-tally : layOf l s .refusal ≡ 0 → layOf l s .tally ≡ crossingsOf (layOf l s .layout)
   lay-tally e = let passed = lay-passed e in rw (lay-accepted (passed .0) (passed .1)) (lay-crossings (passed .0) (passed .1))
-
-  pub lay-tally-bound : layOf l s .tally ≤ mostCrossings
-  lay-tally-bound =
-      elim (ℕ-discrete (layOf l s .refusal) 0) [
-        | yes e ↦
-            let passed = lay-passed e in
-            let facts = sound l (passed .0) in
-            rw (lay-accepted (passed .0) (passed .1))
-            (laid-bound (l .adjacency) (facts .symmetry) (facts .small) (laid-all (l .adjacency) (facts .symmetry) s (passed .1)))
-        | no d ↦ rw (lay-refused d) (omega arith)
-      ]
 
   pub lay-keeps : Keeps l (layOf l s .layout)
   unfolding reordered

@@ -1,8 +1,8 @@
 -- Adding and removing an edge: the words of both ends change, and the edges stay symmetric.
-use Prim.Native.Nat.{ℕ, _^_, _<_}
+use Prim.Native.Nat.{ℕ, _%_, _^_, _<_}
 use native.Mathlib.Decide.{ℕ-discrete}
 use native.Mathlib.Omega.{arith}
-use mathlib.Core.Path.{_≡_, sym, ap, _∙_}
+use mathlib.Core.Path.{_≡_, sym, ap, ap₂, _∙_}
 use mathlib.Core.List.{List}
 use lib.ListN.{length, getD, set, length-set}
 use lib.Seq.{getD-set-same, getD-set-other}
@@ -35,6 +35,14 @@ set-changes = record { here = set-same; elsewhere = set-other; within = set-lt }
 
 pub clear-changes : ChangesOne withoutBit 0
 clear-changes = record { here = clear-same; elsewhere = clear-other; within = clear-lt }
+
+-- ends that are places of the array, taken modulo its length
+pub ends-within : (f : ℕ → ℕ → ℕ) (adj : List ℕ) {words : List ℕ} {a b : ℕ} → a < 64 → b < 64 → words ≡ atBothEnds f adj (a % 64) (b % 64)
+    → words ≡ atBothEnds f adj a b
+ends-within f adj {words} {a} {b} h l e =
+    let first : a % 64 ≡ a = omega arith in
+    let second : b % 64 ≡ b = omega arith in
+    e ∙ ap₂ (atBothEnds f adj) first second
 
 module _ (f : ℕ → ℕ → ℕ) (adj : List ℕ) (a b : ℕ) (first : a < length adj) (second : b < length adj) (different : a ≡ b → ⊥) where
   -- the words, one by one

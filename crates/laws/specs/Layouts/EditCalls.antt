@@ -1,24 +1,21 @@
--- The calls add, link and unlink: what an accepted one may count on and gives, and that a refused one changes nothing. They keep a valid layout
--- valid and a right count right, where the arrays have their places.
+-- The calls add, link and unlink: a refused one changes nothing, and they keep a valid layout valid and a right count right, where the arrays have
+-- their places.
 use Prim.Native.Nat.{ℕ, suc, _<_}
 use native.Mathlib.Omega.{arith}
-use mathlib.Core.Path.{_≡_, refl, sym, ap, _∙_}
-use mathlib.Core.Bool.{Bool, true, false, not, cond}
+use mathlib.Core.Path.{_≡_, refl, sym}
 use mathlib.Core.List.{List, [], _∷_}
 use lib.ListN.{set}
-use lib.Dec.{T, lt→ltb}
-use borrow.Author.Tests.{ltb-true, not-true}
+use lib.Dec.{T}
+use borrow.Author.Tests.{ltb-true}
 use Rattle.model.specs.declared.Layout.{Layout}
 use Rattle.model.specs.declared.Added.{Added}
-use Rattle.model.specs.Crossings.{linked}
 use Rattle.model.specs.Layouts.{capacity, valid}
-use Rattle.model.specs.Checks.{Check, refusal, isValid, hasRoom}
-use Rattle.model.specs.Edits.{added, addChecks, addAnswer, addRefused, addOf, changedTo, changeRefused, changedOr, moveChecks}
+use Rattle.model.specs.Checks.{Check, refusal, hasRoom}
+use Rattle.model.specs.Edits.{added, addChecks, addAnswer, addRefused, addOf, changeRefused, changedOr}
 use Rattle.model.specs.Edits.{withBit, withoutBit, atBothEnds, withEdges, linkChecks, linkOf, unlinkChecks, unlinkOf}
-use Rattle.laws.specs.Sums.Lists.{none, also}
-use Rattle.laws.specs.Layouts.Refusals.{passed, all-passed, valid-passed, when-accepted, when-refused, checked-number, checked-either}
-use Rattle.laws.specs.Layouts.Refusals.{Pair, passed-pair, link-last, link-pair, unlink-last, unlink-pair}
-use Rattle.laws.specs.Layouts.Refusals.{changed-number, changed-accepted, changed-refused, changed-either}
+use Rattle.laws.specs.Layouts.Refusals.{passed, valid-passed, when-refused, checked-number, checked-either}
+use Rattle.laws.specs.Layouts.Refusals.{Pair, link-pair, unlink-pair}
+use Rattle.laws.specs.Layouts.Refusals.{changed-number, changed-refused, changed-either}
 use Rattle.laws.specs.Layouts.EdgeEdits.{ChangesOne, set-changes, clear-changes, edges-valid}
 use Rattle.laws.specs.Layouts.VertexEdits.{added-valid}
 use Rattle.laws.specs.Layouts.Reordering.{Keeps, same-keeps, changed-keeps}
@@ -37,13 +34,6 @@ module _ (l : Layout) where
       let first = valid-passed l (hasRoom l ∷ []) e in
       (first .0, ltb-true (l .n) capacity (passed (hasRoom l) [] (omega arith) (first .1) .passes))
 
-  pub add-passed : addOf l .refusal ≡ 0 → T (valid l) × (l .n < capacity)
-  add-passed e = room-passed (sym add-number ∙ e)
-
-  pub add-accepted : T (valid l) → l .n < capacity → addOf l ≡ addAnswer l
-  unfolding addOf addChecks isValid hasRoom
-  add-accepted t h = when-accepted (addChecks l) (addAnswer l) (addRefused l) (all-passed (also t (also (lt→ltb (l .n) capacity h) none)))
-
   pub add-refused : (addOf l .refusal ≡ 0 → ⊥) → addOf l ≡ addRefused l (addOf l .refusal)
   unfolding addOf
   add-refused d = when-refused (addChecks l) (addAnswer l) (addRefused l) add-number d
@@ -59,12 +49,8 @@ module _ (l : Layout) where
 
 -- ---- link and unlink
 
--- the checks cs are those of a call with two named vertices, and one more with the test t
+-- the checks cs are those of a call with two named vertices, and one more
 module _ (l : Layout) (a b : ℕ) (cs : List Check) (pair : refusal cs ≡ 0 → Pair l a b) where
-  edge-passed : (t : Bool) (code : ℕ) → 0 < code → (refusal (moveChecks l a b) ≡ 0 → refusal cs ≡ cond t 0 code) → refusal cs ≡ 0 → Pair l a b × (t ≡ true)
-  edge-passed true code h last e = (pair e, refl)
-  edge-passed false code h last e = absurd (omega (arith, last (passed-pair l a b (pair e))))
-
   edges-keep : {f : ℕ → ℕ → ℕ} {x : ℕ} → ChangesOne f x → Sized l → Keeps l (changedOr l cs (withEdges l (atBothEnds f (l .adjacency) a b)) .layout)
   unfolding withEdges
   edges-keep {f} {x} change s =
@@ -80,17 +66,6 @@ module _ (l : Layout) (a b : ℕ) where
   unfolding linkOf
   link-number = changed-number l (linkChecks l a b) linkedLayout
 
-  pub link-passed : linkOf l a b .refusal ≡ 0 → Pair l a b × (linked (l .adjacency) a b ≡ false)
-  link-passed e =
-      let apart = not (linked (l .adjacency) a b) in
-      let p = edge-passed l a b (linkChecks l a b) (link-pair l a b) apart 14 (omega arith) (link-last l a b) (sym link-number ∙ e) in
-      (p .0, not-true (linked (l .adjacency) a b) (p .1))
-
-  pub link-accepted : Pair l a b → linked (l .adjacency) a b ≡ false → linkOf l a b ≡ changedTo linkedLayout
-  unfolding linkOf
-  link-accepted p e =
-      sym (changed-accepted l (linkChecks l a b) linkedLayout (link-last l a b (passed-pair l a b p) ∙ ap (λ (t : Bool). cond (not t) 0 14) e) refl)
-
   pub link-refused : (linkOf l a b .refusal ≡ 0 → ⊥) → linkOf l a b ≡ changeRefused l (linkOf l a b .refusal)
   unfolding linkOf
   link-refused d = sym (changed-refused l (linkChecks l a b) linkedLayout link-number d)
@@ -105,15 +80,6 @@ module _ (l : Layout) (a b : ℕ) where
   unlink-number : unlinkOf l a b .refusal ≡ refusal (unlinkChecks l a b)
   unfolding unlinkOf
   unlink-number = changed-number l (unlinkChecks l a b) unlinkedLayout
-
-  pub unlink-passed : unlinkOf l a b .refusal ≡ 0 → Pair l a b × (linked (l .adjacency) a b ≡ true)
-  unlink-passed e =
-      edge-passed l a b (unlinkChecks l a b) (unlink-pair l a b) (linked (l .adjacency) a b) 15 (omega arith) (unlink-last l a b) (sym unlink-number ∙ e)
-
-  pub unlink-accepted : Pair l a b → linked (l .adjacency) a b ≡ true → unlinkOf l a b ≡ changedTo unlinkedLayout
-  unfolding unlinkOf
-  unlink-accepted p e =
-      sym (changed-accepted l (unlinkChecks l a b) unlinkedLayout (unlink-last l a b (passed-pair l a b p) ∙ ap (λ (t : Bool). cond t 0 15) e) refl)
 
   pub unlink-refused : (unlinkOf l a b .refusal ≡ 0 → ⊥) → unlinkOf l a b ≡ changeRefused l (unlinkOf l a b .refusal)
   unfolding unlinkOf

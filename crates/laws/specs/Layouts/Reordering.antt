@@ -1,10 +1,10 @@
 -- A valid layout with another order, its carried count, and the call move.
-use Prim.Native.Nat.{ℕ, _+_, _-_, _≤_, _<_}
+use Prim.Native.Nat.{ℕ, _-_, _≤_, _<_}
 use native.Mathlib.Nat.{add-sub-of-le}
 use native.Mathlib.Omega.{arith}
 use mathlib.Core.Path.{_≡_, refl, sym, ap, _∙_, subst}
 use mathlib.Core.List.{List, _++_}
-use lib.ListN.{length, take, drop, take-append-drop}
+use lib.ListN.{length, take, drop}
 use lib.Seq.{length-front, getD-drop, take-at}
 use lib.Dec.{T}
 use Rattle.model.specs.declared.Layout.{Layout}
@@ -14,9 +14,9 @@ use Rattle.model.specs.Crossings.{crossings}
 use Rattle.model.specs.Layouts.{vertexOrder, crossingsOf, valid, modulus, carried, changed, reordered}
 use Rattle.model.specs.Checks.{refusal}
 use Rattle.model.specs.Edits.{changedTo, changeRefused, movedAfter, moveChecks, moveOf}
-use Rattle.laws.specs.Sums.Indicators.{same, order}
+use Rattle.laws.specs.Sums.Indicators.{order}
 use Rattle.laws.specs.Orders.Permutations.{at, Permutation}
-use Rattle.laws.specs.Layouts.Refusals.{Pair, pair-passed, passed-pair}
+use Rattle.laws.specs.Layouts.Refusals.{pair-passed, passed-pair}
 use Rattle.laws.specs.Layouts.Refusals.{changed-number, changed-accepted, changed-refused, changed-either}
 use Rattle.laws.specs.Layouts.Validity.{sound, sound-valid, crossings-bound}
 use Rattle.laws.specs.Orders.Moves.{at-right, moved-permutation}
@@ -103,19 +103,6 @@ same-keeps e t = (subst (λ (k : Layout). T (valid k)) (sym e) t, λ c. subst (�
 pub changed-keeps : (l : Layout) (n : ℕ) (places adj : List ℕ) → T (valid (changed l n places adj)) → Keeps l (changed l n places adj)
 changed-keeps l n places adj u t = (u, changed-count l n places adj t u)
 
--- a layout with the order that it has is the same layout
-pub reordered-present : (l : Layout) → l .count < modulus → reordered l (vertexOrder l) ≡ l
-unfolding reordered changed vertexOrder crossingsOf
-reordered-present l h = λ i. record { n = l .n; order = parts i; adjacency = l .adjacency; count = counts i }
-  where
-    parts : take (l .n) (l .order) ++ drop (l .n) (l .order) ≡ l .order
-    parts = take-append-drop (l .n) (l .order)
-
-    counts : carried (l .count) (crossingsOf l) (crossings (l .n) (take (l .n) (take (l .n) (l .order) ++ drop (l .n) (l .order))) (l .adjacency)) ≡ l .count
-    counts =
-        ap (λ (xs : List ℕ). carried (l .count) (crossingsOf l) (crossings (l .n) (take (l .n) xs) (l .adjacency))) parts
-        ∙ carried-same (l .count) (crossingsOf l) h
-
 -- ---- the call move
 
 module _ (l : Layout) (a b : ℕ) where
@@ -126,11 +113,7 @@ module _ (l : Layout) (a b : ℕ) where
   unfolding moveOf
   move-number = changed-number l (moveChecks l a b) movedLayout
 
-  -- what an accepted move may count on
-  pub move-passed : moveOf l a b .refusal ≡ 0 → Pair l a b
-  move-passed e = pair-passed l a b (sym move-number ∙ e)
-
-  -- and a move that may count on it is accepted
+  -- a move of two different vertices is accepted
   pub move-accepted : T (valid l) → a < l .n → b < l .n → (a ≡ b → ⊥) → moveOf l a b ≡ changedTo movedLayout
   unfolding moveOf
   move-accepted t h k d =

@@ -10,7 +10,7 @@ use borrow.Author.Tests.{le-leb, lt-leb, eq-eqb, ne-eqb}
 use lib.Dec.{T, eqb, leb, ltb, leb→le, ltb→lt, lt→ltb, eqb→eq}
 use Rattle.model.specs.declared.Layout.{Layout}
 use Rattle.model.specs.Lists.{one, upto, every, occurrences}
-use Rattle.model.specs.Crossings.{bit, linked}
+use Rattle.model.specs.Crossings.{linked}
 use Rattle.model.specs.Layouts.{capacity, vertexOrder, crossingsOf, eachOnce, zeroFrom, symmetric, loopless, bitsBelow, valid}
 use Rattle.laws.specs.Sums.Indicators.{T-true, less, same, more, order, and-left, and-right, one-le, beq-eq}
 use Rattle.laws.specs.Sums.Every.{every-upto, upto-every, upto-fails, every-keep}

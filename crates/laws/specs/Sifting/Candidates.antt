@@ -2,9 +2,9 @@
 use Prim.Native.Nat.{ℕ, suc, _+_, _-_, _≤_, _<_}
 use native.Mathlib.Nat.{le-refl, le-trans, le-of-eq}
 use native.Mathlib.Omega.{arith}
-use mathlib.Core.Path.{_≡_, refl, sym, ap, _∙_, subst}
-use mathlib.Core.Bool.{Bool, true, false}
-use mathlib.Core.List.{List, [], _∷_, map}
+use mathlib.Core.Path.{_≡_, refl, sym, ap, _∙_}
+use mathlib.Core.Bool.{true, false}
+use mathlib.Core.List.{List}
 use lib.ListN.{length, take, drop, length-append, length-drop, List·getD-append}
 use lib.Seq.{length-take-le, getD-take, getD-drop}
 use lib.Dec.{T, eqb}
@@ -19,7 +19,7 @@ use Rattle.laws.specs.Sums.Indicators.{less, same, more, order, one-eq, 
 use Rattle.laws.specs.Sums.Lists.{All, all-mono, all-map, all-places}
 use Rattle.laws.specs.Orders.Permutations.{at, occurrences-append, Permutation, place-below, occurs-at, none-beyond}
 use Rattle.laws.specs.Layouts.Validity.{sound}
-use Rattle.laws.specs.Sifting.LocalSearch.{least-default, chosen-stays, chosen-goes, chosen-has, chosen-least}
+use Rattle.laws.specs.Sifting.LocalSearch.{least-default, chosen-stays, chosen-has, chosen-least}
 use Rattle.laws.specs.Orders.Moves.{at-right, rest-occurrences, moved-permutation, moved-again}
 use Rattle.laws.specs.Layouts.Reordering.{reordered-order, reordered-crossings}
 use Rattle.laws.specs.Layouts.Reordering.{reordered-length, reordered-valid, carried-right, carried-carried, carried-lt, carried-same, crossings-fit}

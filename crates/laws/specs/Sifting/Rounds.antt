@@ -20,9 +20,7 @@ use Rattle.model.specs.Sifting.{clockwiseFrom, candidates, least, leastCrossing
 use Rattle.model.specs.Sifting.{roundsUpTo}
 use Rattle.model.specs.Histories.{Follow, ended, next, Sift, Round, siftOn, roundOn, siftsFrom, siftsOfRound, roundsFrom, butLast, BestPlace}
 use Rattle.model.specs.Histories.{LocalMinimum}
-use Rattle.laws.specs.Sums.Indicators.{one-eq}
 use Rattle.laws.specs.Sums.Lists.{All, none, also, all-mono, all-map, all-upto, length-upto}
-use Rattle.laws.specs.Orders.Permutations.{occurrences-cons}
 use Rattle.laws.specs.Layouts.Validity.{sound}
 use Rattle.laws.specs.Sifting.LocalSearch.{NoneBelow, Best, Minimum, Sifts, sift-best, chain-size, Rounds, round-lowers, Settles, spent, last}
 use Rattle.laws.specs.Sifting.LocalSearch.{further}

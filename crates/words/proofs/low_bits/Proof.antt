@@ -1,7 +1,6 @@
 use borrow.Author.Needs.{needs}
-use Prim.Native.Nat.{_-_, _^_, min}
+use Prim.Native.Nat.{_-_, _^_}
 use native.Mathlib.Nat.{min-eq-left, min-eq-right, le-of-lt}
-use mathlib.Core.Path.{_≡_, sym, ap}
 use lib.Pow.{pow-pos}
 use Rattle.laws.specs.Sums.Bits.{shifted-one}
 use Rattle.words.proofs.low_bits.Statement.{statement}

@@ -4,8 +4,10 @@ use native.Mathlib.Omega.{arith}
 use mathlib.Core.Path.{sym, _∙_}
 use mathlib.Core.Bool.{false≢true}
 use lib.ListN.{length, getD}
+use Rattle.model.specs.Edits.{withBit}
 use Rattle.model.specs.Charts.{asked, refuse}
-use Rattle.chart.specs.Edges.{Ends}
+use Rattle.laws.specs.Layouts.EdgeEdits.{ends-within}
+use Rattle.passes.specs.Edges.{Ends}
 use Rattle.chart.specs.Words.{JoinedUpTo, joined-start, joined-ends, joined-next, joined-repeat, joined-words, joined-once, answer-once, answer-repeat}
 use Rattle.chart.proofs.edges.join_edges.Statement.{statement}
 use Rattle.chart.proofs.edges.join_edges.Tie as tie
@@ -65,7 +67,7 @@ returns c =
     (answer-repeat _ again, λ z. absurd (false≢true z))
 
 join-requires : tie.Need-join-requires Inv-loop μ-loop
-join-requires c κs = let new = c .before in let e = ends (new .before .before .before) in (e .first, e .second)
+join-requires c κs = search needs
 
 add-i : tie.Need-add-i Inv-loop μ-loop
 add-i c = omega arith
@@ -76,8 +78,10 @@ loop-less c = omega arith
 loop-again : tie.Need-loop-again Inv-loop μ-loop
 loop-again c =
     let new = c .before .before in
-    let at = turn (new .before .before .before) in
-    joined-next (at .before .loop .inv) (at .loop-test .taken) (start at .pre .0) (sym (new .before .is-set .ensures) ∙ new .if1 .left) (c .join .ensures)
+    let asked = new .before .before .before in
+    let at = turn asked in
+    joined-next (at .before .loop .inv) (at .loop-test .taken) (start at .pre .0) (sym (new .before .is-set .ensures) ∙ new .if1 .left)
+    (ends-within withBit _ (ends asked .first) (ends asked .second) (c .join .ensures))
 
 returns-2 : tie.Need-returns-2 Inv-loop μ-loop
 returns-2 c =

@@ -2,8 +2,8 @@ use borrow.Author.Needs.{needs}
 use native.Mathlib.Omega.{arith}
 use native.Mathlib.Nat.{mul-le-mul}
 use Prim.Native.Nat.{ℕ, _*_, _≤_}
-use mathlib.Core.Path.{_≡_, ap₂, subst}
-use Rattle.laws.specs.Sums.Bits.{maskedOnes, maskedOnes-le}
+use mathlib.Core.Path.{ap₂}
+use Rattle.laws.specs.Sums.Bits.{maskedOnes-le}
 use Rattle.counting.proofs.counter.count_pair.Statement.{statement}
 use Rattle.counting.proofs.counter.count_pair.Tie as tie
 

@@ -1,10 +1,10 @@
 use borrow.Author.Needs.{needs}
 use Prim.Native.Nat.{ℕ, _*_, _-_}
 use native.Mathlib.Omega.{arith}
-use mathlib.Core.Path.{_≡_, ap, ap₂, sym, _∙_}
+use mathlib.Core.Path.{_≡_, ap, ap₂, _∙_}
 use Rattle.model.specs.Edits.{withoutBit}
 use Rattle.laws.specs.Sums.Bits.{maskedOnes}
-use Rattle.laws.specs.Crossings.Masks.{wordAt, maskBefore}
+use Rattle.laws.specs.Crossings.Masks.{wordAt}
 use Rattle.counting.specs.Loops.{RowUpTo, row-start, row-next, row-end}
 use Rattle.counting.proofs.counter.count_row.Statement.{statement}
 use Rattle.counting.proofs.counter.count_row.Tie as tie

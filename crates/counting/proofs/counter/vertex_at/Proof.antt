@@ -1,5 +1,4 @@
 use borrow.Author.Needs.{needs}
-use Prim.Native.Nat.{_%_}
 use native.Mathlib.Nat.{mod-lt, zero-lt-suc}
 use mathlib.Core.Path.{refl}
 use lib.ListN.{getD}

@@ -1,7 +1,6 @@
 use borrow.Author.Needs.{needs}
 use Prim.Native.Nat.{ℕ}
-use mathlib.Core.Path.{_≡_, ap, ap₂, _∙_}
-use Rattle.model.specs.declared.Layout.{Layout}
+use mathlib.Core.Path.{ap, ap₂, _∙_}
 use Rattle.model.specs.Layouts.{carried}
 use Rattle.laws.specs.Layouts.Recount.{counted, recounted}
 use Rattle.counting.proofs.recount.recounted.Statement.{statement}

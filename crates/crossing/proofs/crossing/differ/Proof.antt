@@ -1,5 +1,4 @@
-use mathlib.Core.Path.{sym, ap, _∙_}
-use mathlib.Core.Bool.{not, and-true, or-false}
+use mathlib.Core.Bool.{and-true, or-false}
 use borrow.Author.Tests.{eq-eqb, ne-eqb}
 use Rattle.model.specs.Lists.{any, noRepeats}
 use Rattle.crossing.proofs.crossing.differ.Statement.{statement}

@@ -1,8 +1,8 @@
 use borrow.Author.Needs.{needs}
 use Prim.Native.Nat.{ℕ, _-_, _<_}
 use native.Mathlib.Omega.{arith}
-use mathlib.Core.Path.{_≡_, ap, _∙_}
-use lib.ListN.{length, getD}
+use mathlib.Core.Path.{ap}
+use lib.ListN.{getD}
 use borrow.Author.Tests.{lt-ltb, le-ltb}
 use Rattle.layout.specs.MovedPlaces.{ShiftedUpTo, shifted-start, shifted-next, shifted-end}
 use Rattle.layout.proofs.moves.moved.Statement.{statement}

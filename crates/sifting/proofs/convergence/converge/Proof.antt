@@ -1,7 +1,6 @@
 use borrow.Author.Needs.{needs}
 use mathlib.Core.Path.{_≡_, sym, _∙_}
 use mathlib.Core.List.{[], _∷_}
-use Rattle.model.specs.declared.Converged.{Converged}
 use Rattle.model.specs.Checks.{refusal, limitFits}
 use Rattle.model.specs.Sifting.{settleChecks, settleRefused, settleOf, roundsUpTo}
 use Rattle.laws.specs.Layouts.Refusals.{valid-passed, when-accepted, when-refused}

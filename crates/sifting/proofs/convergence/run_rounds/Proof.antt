@@ -1,4 +1,4 @@
-use Prim.Native.Nat.{ℕ, _-_}
+use Prim.Native.Nat.{_-_}
 use native.Mathlib.Omega.{arith}
 use Rattle.sifting.specs.Loops.{SettlingUpTo, settling-start, settling-next, settling-still, settling-limit, settling-bounds}
 use Rattle.sifting.proofs.convergence.run_rounds.Statement.{statement}

@@ -1,4 +1,4 @@
-use Prim.Native.Nat.{ℕ, _-_}
+use Prim.Native.Nat.{_-_}
 use native.Mathlib.Omega.{arith}
 use Rattle.laws.specs.Layouts.Validity.{crossings-bound}
 use Rattle.sifting.specs.Loops.{RoundUpTo, ready, round-start, round-next, round-end}

@@ -5,9 +5,7 @@ use native.Mathlib.Nat.{sub-le}
 use mathlib.Core.Path.{_≡_, ap, ap₂, _∙_}
 use mathlib.Core.Bool.{cond}
 use lib.Dec.{eqb}
-use Rattle.model.specs.declared.Layout.{Layout}
 use Rattle.model.specs.declared.Sifted.{Sifted}
-use Rattle.model.specs.declared.Rounded.{Rounded}
 use Rattle.model.specs.Lists.{one}
 use Rattle.model.specs.Layouts.{crossingsOf}
 use Rattle.model.specs.Sifting.{sifted, reduction, moves}

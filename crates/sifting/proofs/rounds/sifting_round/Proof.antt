@@ -1,8 +1,7 @@
 use borrow.Author.Needs.{needs}
-use mathlib.Core.Path.{_≡_, sym, subst, _∙_}
+use mathlib.Core.Path.{sym, subst}
 use lib.Dec.{T}
 use Rattle.model.specs.Checks.{checked, byRefusal, refusal, isValid}
-use Rattle.model.specs.Layouts.{valid}
 use Rattle.model.specs.Sifting.{roundOf}
 use Rattle.laws.specs.Sums.Indicators.{test-held, test-failed}
 use Rattle.sifting.proofs.rounds.sifting_round.Statement.{statement}

@@ -1,9 +1,7 @@
 use borrow.Author.Needs.{needs}
-use mathlib.Core.Path.{_≡_, sym, _∙_}
-use mathlib.Core.List.{[], _∷_}
+use mathlib.Core.Path.{sym, _∙_}
 use Prim.Native.Nat.{_<_}
 use lib.Dec.{T}
-use Rattle.model.specs.declared.Sifted.{Sifted}
 use Rattle.model.specs.Layouts.{valid}
 use Rattle.model.specs.Sifting.{siftChecks, siftAnswer, siftRefused, siftOf}
 use Rattle.laws.specs.Layouts.Refusals.{when-refused, vertex-passed}

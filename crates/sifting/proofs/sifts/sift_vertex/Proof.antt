@@ -3,7 +3,6 @@ use Prim.Native.Nat.{ℕ, _-_, _≤_}
 use native.Mathlib.Omega.{arith}
 use mathlib.Core.Path.{_≡_, ap₂}
 use Rattle.model.specs.declared.Layout.{Layout}
-use Rattle.model.specs.declared.Sifted.{Sifted}
 use Rattle.model.specs.Layouts.{vertexOrder, crossingsOf}
 use Rattle.model.specs.Sifting.{sifted, reduction}
 use Rattle.laws.specs.Layouts.Recount.{drawn}

@@ -1,7 +1,7 @@
 use borrow.Author.Needs.{needs}
-use Prim.Native.Nat.{ℕ, _-_, _<_}
+use Prim.Native.Nat.{_-_, _<_}
 use native.Mathlib.Omega.{arith}
-use mathlib.Core.Path.{_≡_, refl, sym, _∙_}
+use mathlib.Core.Path.{refl, sym, _∙_}
 use Rattle.laws.specs.Sums.Bits.{set-within}
 use Rattle.validity.specs.Passes.{SeenUpTo, seen-none, seen-next, seen-all, seen-again, not-a-vertex}
 use Rattle.validity.proofs.validity.each_once.Statement.{statement}

@@ -1,6 +1,6 @@
-use Prim.Native.Nat.{ℕ, _-_, _<_}
+use Prim.Native.Nat.{_-_, _<_}
 use native.Mathlib.Omega.{arith}
-use mathlib.Core.Path.{_≡_, sym, _∙_}
+use mathlib.Core.Path.{sym, _∙_}
 use Rattle.validity.specs.Passes.{PassedUpTo, passed-none, passed-next, passed-all, failed-at, symmetricRow, symmetric-rows}
 use borrow.Author.Tests.{not-true, not-false}
 use Rattle.validity.proofs.validity.symmetric.Statement.{statement}

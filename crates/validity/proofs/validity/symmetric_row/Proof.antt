@@ -1,7 +1,7 @@
 use borrow.Author.Needs.{needs}
 use Prim.Native.Nat.{ℕ, _-_, _<_}
 use native.Mathlib.Omega.{arith}
-use mathlib.Core.Path.{_≡_, ap₂}
+use mathlib.Core.Path.{ap₂}
 use borrow.Author.Tests.{not-true, not-false}
 use mathlib.Core.Bool.{Bool, Bool·beq}
 use mathlib.Core.List.{List}
