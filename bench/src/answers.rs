@@ -5,12 +5,11 @@ use std::fmt::{Debug, Display};
 
 use layouts::{chart, fan, most_edges, Random};
 use second::calls::{self, Answer};
-use second::circle::Circle;
-use second::crossings::crossings;
 use second::layout::Layout;
 
 use crate::agreement::{agree, Outcome};
-use crate::{lists, proved};
+use crate::proved::{self, fields, Told};
+use crate::{expected, lists};
 
 /// Compares all answers, and prints how many agree.
 pub fn print() -> Outcome {
@@ -18,10 +17,12 @@ pub fn print() -> Outcome {
         random: Random(2004),
         answers: 0,
     };
+    comparison.empty()?;
     comparison.all_sizes()?;
     comparison.no_crossing()?;
     comparison.lists()?;
     comparison.charts()?;
+    comparison.listings()?;
     println!("bench: {} answers agree", comparison.answers);
     Ok(())
 }
@@ -33,8 +34,9 @@ const SMALL: u64 = 20;
 const LISTS: u64 = 10;
 const LENGTH: usize = 100;
 
-/// Charts with changed bytes.
+/// Charts with changed bytes, and how many are listed into each buffer.
 const CHARTS: usize = 2000;
+const LISTINGS: usize = 20;
 
 struct Comparison {
     random: Random,
@@ -64,6 +66,10 @@ impl Comparison {
         agree(&call, "baseline", &baseline, &second)
     }
 
+    fn empty(&mut self) -> Outcome {
+        self.proved("empty", proved::empty(), Layout::EMPTY)
+    }
+
     /// Every number of vertices, with no edges, with all, and with some.
     fn all_sizes(&mut self) -> Outcome {
         for n in 0..=64 {
@@ -82,8 +88,6 @@ impl Comparison {
 
     /// A layout whose count can be any.
     fn valid(&mut self, mut layout: Layout) -> Outcome {
-        let counted = crossings(&Circle::new(&layout));
-        self.proved("crossings", proved::crossings(&layout), counted)?;
         let carried = self.random.below(1 << 32) as u32;
         for count in [0, u32::MAX, carried] {
             layout.count = count;
@@ -120,15 +124,12 @@ impl Comparison {
 
     /// All calls on a layout, valid or not.
     fn any(&mut self, l: Layout) -> Outcome {
-        let handed_over = calls::Answer {
-            refusal: 0,
-            layout: l,
-            value: (),
-        };
-        self.proved("no call", proved::no_call(l), handed_over)?;
-        self.proved("count", proved::count(l), calls::count(l))?;
-        let [pair, second] = [proved::first_crossing(l), calls::first_crossing(l)];
-        self.proved("pair", pair, second)?;
+        let lent = fields(&l);
+        let valid = proved::is_valid(&lent).told();
+        self.proved("valid", valid, expected::is_valid(l))?;
+        self.proved("count", proved::count(&lent).told(), calls::count(l))?;
+        let pair = proved::first_crossing(&lent).told();
+        self.proved("pair", pair, calls::first_crossing(l))?;
         self.orders(l)?;
         self.edits(l)?;
         self.sifting(l)
@@ -139,7 +140,7 @@ impl Comparison {
         let n = l.n.min(64) as usize;
         for length in [0, n.saturating_sub(1), n, 64, 65, self.random.below(66)] {
             let mut buffers = [vec![0xA5; length], vec![0xA5; length]];
-            let answer = proved::order(l, &mut buffers[0]);
+            let answer = proved::order(&fields(&l), &mut buffers[0]).told();
             let second = calls::order(l, &mut buffers[1]);
             let [buffer, other] = buffers;
             let call = format!("order, a buffer of {length} bytes");
@@ -150,30 +151,36 @@ impl Comparison {
 
     /// The calls that change the edges or the order, but for sifting.
     fn edits(&mut self, l: Layout) -> Outcome {
-        self.proved("add", proved::add_vertex(l), calls::add_vertex(l))?;
+        let lent = &fields(&l);
+        self.proved("add", proved::add_vertex(lent).told(), calls::add_vertex(l))?;
         for _ in 0..4 {
             let (a, b) = (self.vertex(&l), self.vertex(&l));
             let call = |name| format!("{name} {a} {b}");
-            let [answer, second] = [proved::add_edge(l, a, b), calls::add_edge(l, a, b)];
-            self.proved(call("link"), answer, second)?;
-            let [answer, second] = [proved::remove_edge(l, a, b), calls::remove_edge(l, a, b)];
-            self.proved(call("unlink"), answer, second)?;
-            let [answer, second] = [proved::move_after(l, a, b), calls::move_after(l, a, b)];
-            self.proved(call("move"), answer, second)?;
-            let [answer, second] = [proved::greedy_append(l, a), calls::greedy_append(l, a)];
-            self.proved(format!("lay {a}"), answer, second)?;
+            let answer = proved::add_edge(lent, a, b).told();
+            self.proved(call("link"), answer, calls::add_edge(l, a, b))?;
+            let answer = proved::remove_edge(lent, a, b).told();
+            self.proved(call("unlink"), answer, calls::remove_edge(l, a, b))?;
+            let answer = proved::move_after(lent, a, b).told();
+            self.proved(call("move"), answer, calls::move_after(l, a, b))?;
+            let answer = proved::greedy_append(lent, a).told();
+            self.proved(format!("lay {a}"), answer, calls::greedy_append(l, a))?;
         }
         Ok(())
     }
 
     fn sifting(&mut self, l: Layout) -> Outcome {
+        let lent = &fields(&l);
         for _ in 0..4 {
             let u = self.vertex(&l);
-            let sides = [proved::sift(l, u), baseline::sift(l, u), calls::sift(l, u)];
+            let sides = [
+                proved::sift(lent, u).told(),
+                baseline::sift(l, u),
+                calls::sift(l, u),
+            ];
             self.all(format!("sift {u}"), sides)?;
         }
         let sides = [
-            proved::sifting_round(l),
+            proved::sifting_round(lent).told(),
             baseline::sifting_round(l),
             calls::sifting_round(l),
         ];
@@ -182,7 +189,7 @@ impl Comparison {
         let few = if l.n <= SMALL { 6 } else { 4 };
         for &limit in &limits[..few] {
             let sides = [
-                proved::converge(l, limit),
+                proved::converge(lent, limit).told(),
                 baseline::converge(l, limit),
                 calls::converge(l, limit),
             ];
@@ -196,28 +203,81 @@ impl Comparison {
         self.any(fan())
     }
 
-    /// Lists of calls from the empty layout.
+    /// Lists of calls from the empty layout and from charts: as they are, with
+    /// numbers left out, with one that is no call, and with answers that don't
+    /// fit.
     fn lists(&mut self) -> Outcome {
         for seed in 1..=LISTS {
             let list = lists::mixed(seed, LENGTH);
-            let call = format!("list of calls {seed}");
-            self.proved(call, proved::play(&list), lists::play(&list))?;
+            let numbers = list.as_flattened();
+            let all = 4 * LENGTH;
+            let chart = self.chart(SMALL as u8);
+            let mut ended = numbers.to_vec();
+            ended[3 * self.random.below(LENGTH)] = [0, 15, 24, u64::MAX][seed as usize % 4];
+            self.list(None, numbers, all)?;
+            self.list(Some(&chart), numbers, all + 5)?;
+            self.list(Some(&chart), numbers, all - 1)?;
+            self.list(Some(&chart), &numbers[..3 * LENGTH - 1], all - 1)?;
+            self.list(None, &numbers[..3 * LENGTH - 2], all - 4)?;
+            self.list(None, &ended, all)?;
+            self.list(Some(&chart[1..]), numbers, all)?;
+            self.list(Some(&chart), &[], 0)?;
         }
         Ok(())
     }
 
-    /// Charts as they are, and with bytes changed, left out and added.
+    /// A list of calls, from a chart or from the empty layout, with room for so
+    /// many numbers.
+    fn list(&mut self, chart: Option<&[u8]>, numbers: &[u64], room: usize) -> Outcome {
+        let mut tables = [vec![0xA5; room], vec![0xA5; room]];
+        let played = proved::play(chart, numbers, &mut tables[0]).told();
+        let second = expected::play(chart, numbers, &mut tables[1]);
+        let [table, other] = tables;
+        let call = format!("list {numbers:?} from {chart:?}");
+        self.proved(call, (played, table), (second, other))
+    }
+
+    /// A chart of up to so many vertices.
+    fn chart(&mut self, most: u8) -> Vec<u8> {
+        let n = self.random.below(usize::from(most) + 1) as u8;
+        let edges = self.random.below(most_edges(n) + 1);
+        chart(&self.random.layout(n, edges))
+    }
+
+    /// Charts as they are, and with bytes changed, left out and added, read over
+    /// a layout, which stays if the chart is refused.
     fn charts(&mut self) -> Outcome {
+        let there = self.random.layout(7, 10);
         for _ in 0..CHARTS {
-            let n = self.random.below(65) as u8;
-            let edges = self.random.below(most_edges(n) + 1);
-            let layout = self.random.layout(n, edges);
-            let mut bytes = chart(&layout);
+            let mut bytes = self.chart(64);
             self.change(&mut bytes);
-            let [answer, second] = [proved::read_chart(&bytes), second::chart::read(&bytes)];
+            let answer = proved::read_chart(&fields(&there), &bytes).told();
+            let second = expected::read_chart(there, &bytes);
             self.proved(format!("chart {bytes:?}"), answer, second)?;
         }
         Ok(())
+    }
+
+    /// Listings, in buffers that hold something else.
+    fn listings(&mut self) -> Outcome {
+        for length in [0, 1023, 1024, 1025, 4000] {
+            for _ in 0..LISTINGS {
+                let mut bytes = self.chart(SMALL as u8);
+                self.change(&mut bytes);
+                self.listing(&bytes, length)?;
+            }
+        }
+        let large = chart(&self.random.layout(64, 100));
+        self.listing(&large, 1024)
+    }
+
+    fn listing(&mut self, bytes: &[u8], length: usize) -> Outcome {
+        let mut buffers = [vec![0xA5; length], vec![0xA5; length]];
+        let written = proved::list_chart(bytes, &mut buffers[0]);
+        let second = expected::list_chart(bytes, &mut buffers[1]);
+        let [buffer, other] = buffers;
+        let call = format!("listing {bytes:?}, a buffer of {length} bytes");
+        self.proved(call, (written, buffer), (second, other))
     }
 
     fn change(&mut self, bytes: &mut Vec<u8>) {

@@ -7,19 +7,23 @@ use std::path::{Path, PathBuf};
 use std::process::{Command, Output};
 
 use crate::agreement::Outcome;
-use crate::rows::{self, three_columns, Repeat};
+use crate::lent;
+use crate::rows::{self, three_columns, Repeat, Row};
 
-/// The argument with which the program runs itself.
+/// The arguments with which the program runs itself.
 pub const EACH_ONCE: &str = "--each-once";
+pub const LENT_ONCE: &str = "--lent-once";
 
 /// What is counted, as callgrind names it: each call of `counted` on its own.
 const COUNTED: &str = "bench::instructions::counted";
 
-/// Prints a line for each call.
+/// Prints a line for each call, and then what being lent costs.
 pub fn print() -> Outcome {
-    let directory = Directory::new()?;
-    let output = run_under_callgrind(&directory.0)?;
-    let names = String::from_utf8_lossy(&output.stdout);
+    print_rows()?;
+    print_lent()
+}
+
+fn print_rows() -> Outcome {
     println!(
         "instructions of a call; ratio: proved to baseline, or to second where there is none\n"
     );
@@ -27,14 +31,38 @@ pub fn print() -> Outcome {
         "{:<49}{:>14}{:>14}{:>14}{:>10}",
         "", "proved", "baseline", "second", "ratio"
     );
-    let mut parts = 1..;
-    for line in names.lines() {
-        let (name, sides) = line.split_once('\t').ok_or("a line without sides")?;
-        let counts = parts.by_ref().take(sides.len());
-        let counts: Result<Vec<u64>, String> = counts.map(|i| read_part(&directory.0, i)).collect();
-        println!("{}", text(name, &counts?));
+    for (name, counts) in counts(EACH_ONCE)? {
+        println!("{}", text(&name, &counts));
     }
     Ok(())
+}
+
+fn print_lent() -> Outcome {
+    println!("\ninstructions of a call on one lent layout, and of the same call by value\n");
+    for (name, counts) in counts(LENT_ONCE)? {
+        let [in_place, by_value] = lent::of_a_call([0, 1, 2].map(|side| counts[side] as f64));
+        println!("{:<63}{in_place:>9.0}", format!("{name}, in place"));
+        println!("{:<63}{by_value:>9.0}", "the same by value, within a list");
+        let more = in_place - by_value;
+        println!("lent, not by value: {more:+.0} instructions a call");
+    }
+    Ok(())
+}
+
+/// The instructions of each row that the program makes once with this argument,
+/// of each of its sides.
+fn counts(argument: &str) -> Result<Vec<(String, Vec<u64>)>, String> {
+    let directory = Directory::new()?;
+    let output = run_under_callgrind(&directory.0, argument)?;
+    let names = String::from_utf8_lossy(&output.stdout);
+    let mut parts = 1..;
+    let mut row = |line: &str| {
+        let (name, sides) = line.split_once('\t').ok_or("a line without sides")?;
+        let counts = parts.by_ref().take(sides.len());
+        let counts: Result<_, String> = counts.map(|i| read_part(&directory.0, i)).collect();
+        Ok((name.to_string(), counts?))
+    };
+    names.lines().map(&mut row).collect()
 }
 
 fn text(name: &str, counts: &[u64]) -> String {
@@ -44,13 +72,20 @@ fn text(name: &str, counts: &[u64]) -> String {
     format!("{name:<49}{columns}{ratio:>10.2}")
 }
 
-/// Makes each call once on each of its sides, to be counted. Prints a line for
-/// each row: its name, and a stroke for each side.
+/// Makes each call once on each of its sides, to be counted.
 pub fn each_once() -> Outcome {
-    rows::for_each(|row| {
-        println!("{}\t{}", row.name, "|".repeat(row.sides.len()));
-        row.sides.iter().for_each(counted);
-    })
+    rows::for_each(once)
+}
+
+/// Makes the calls that are lent a layout, and the same by value, to be counted.
+pub fn lent_once() -> Outcome {
+    lent::for_each(once)
+}
+
+/// Prints a line for the row: its name, and a stroke for each side.
+fn once(row: &Row) {
+    println!("{}\t{}", row.name, "|".repeat(row.sides.len()));
+    row.sides.iter().for_each(counted);
 }
 
 /// Makes a call once. It is made from here, and from nowhere else, while
@@ -64,7 +99,7 @@ fn counted(side: &Repeat) {
 /// The program writes the names of the rows, callgrind a file for each call.
 /// There is no environment: its length moves the stack, and copying depends on
 /// where things lie.
-fn run_under_callgrind(directory: &Path) -> Result<Output, String> {
+fn run_under_callgrind(directory: &Path, argument: &str) -> Result<Output, String> {
     let program = std::env::current_exe().map_err(|error| error.to_string())?;
     let files = directory.join("part");
     let run = Command::new(valgrind()?)
@@ -74,7 +109,7 @@ fn run_under_callgrind(directory: &Path) -> Result<Output, String> {
         .arg(format!("--dump-after={COUNTED}"))
         .arg(format!("--callgrind-out-file={}", files.display()))
         .arg(program)
-        .arg(EACH_ONCE)
+        .arg(argument)
         .output();
     let output = run.map_err(|error| format!("valgrind: {error}"))?;
     match output.status.success() {

@@ -1,33 +1,23 @@
-//! Lists of mixed calls, alike in every run, and playing them with the second
-//! program.
+//! Lists of mixed calls, alike in every run.
 
 use layouts::Random;
-use second::calls::{self, Answer};
-use second::layout::Layout;
 
 /// A call: its op (tests/README.md) and its two numbers.
 pub type Call = [u64; 3];
 
-/// What a call answers: the refusal number, and up to three numbers, the others
-/// 0. A bool is 1 or 0.
-pub type Row = [u64; 4];
+pub const ADD: u64 = 16;
+pub const LINK: u64 = 17;
+pub const UNLINK: u64 = 18;
+pub const MOVE: u64 = 19;
+pub const LAY: u64 = 20;
+pub const SIFT: u64 = 21;
+pub const ROUND: u64 = 22;
+pub const SETTLE: u64 = 23;
 
-/// What playing a list gives.
-#[derive(Debug, PartialEq)]
-pub struct Played {
-    /// A row for each call.
-    pub table: Vec<Row>,
-    pub layout: Layout,
+/// Whether the number is that of a call.
+pub fn is_call([op, _, _]: &Call) -> bool {
+    (ADD..=SETTLE).contains(op)
 }
-
-const ADD: u64 = 16;
-const LINK: u64 = 17;
-const UNLINK: u64 = 18;
-const MOVE: u64 = 19;
-const LAY: u64 = 20;
-const SIFT: u64 = 21;
-const ROUND: u64 = 22;
-const SETTLE: u64 = 23;
 
 /// How many of forty calls each call is, behind the first ones.
 const MIX: [(u64, usize); 8] = [
@@ -111,41 +101,4 @@ impl Maker {
         let chosen = self.random.below(self.edges.len());
         self.edges.swap_remove(chosen)
     }
-}
-
-/// Plays a list from the empty layout.
-pub fn play(list: &[Call]) -> Played {
-    let mut layout = Layout::EMPTY;
-    let table = list.iter().map(|&call| play_call(&mut layout, call));
-    Played {
-        table: table.collect(),
-        layout,
-    }
-}
-
-fn play_call(layout: &mut Layout, [op, a, b]: Call) -> Row {
-    let l = *layout;
-    let limit = u32::try_from(a).unwrap_or(u32::MAX);
-    match op {
-        ADD => row(layout, calls::add_vertex(l), |v| [v, 0, 0]),
-        LINK => row(layout, calls::add_edge(l, a, b), |()| [0; 3]),
-        UNLINK => row(layout, calls::remove_edge(l, a, b), |()| [0; 3]),
-        MOVE => row(layout, calls::move_after(l, a, b), |()| [0; 3]),
-        LAY => row(layout, calls::greedy_append(l, a), |t| [t.into(), 0, 0]),
-        SIFT => row(layout, calls::sift(l, a), |r| [r.into(), 0, 0]),
-        ROUND => row(layout, calls::sifting_round(l), |r| {
-            [r.reduction.into(), r.moved.into(), 0]
-        }),
-        SETTLE => row(layout, calls::converge(l, limit), |c| {
-            [c.reduction.into(), c.rounds.into(), c.converged.into()]
-        }),
-        _ => unreachable!("a list has calls only"),
-    }
-}
-
-/// Takes over the answer's layout, and gives its row.
-fn row<T>(layout: &mut Layout, answer: Answer<T>, numbers: fn(T) -> [u64; 3]) -> Row {
-    *layout = answer.layout;
-    let [a, b, c] = numbers(answer.value);
-    [answer.refusal.into(), a, b, c]
 }

@@ -4,7 +4,9 @@
 
 mod agreement;
 mod answers;
+mod expected;
 mod instructions;
+mod lent;
 mod lists;
 mod proved;
 mod rows;
@@ -20,6 +22,7 @@ fn main() -> ExitCode {
         ["--answers"] => answers::print(),
         ["--instructions"] => instructions::print(),
         [instructions::EACH_ONCE] => instructions::each_once(),
+        [instructions::LENT_ONCE] => instructions::lent_once(),
         _ => {
             eprintln!("usage: bench/run [--answers | --instructions]");
             return ExitCode::from(2);

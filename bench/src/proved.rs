@@ -1,288 +1,246 @@
-//! The proved calls, as functions of the second program's layouts. They are
-//! linked from `crates/bench_calls`: a reference is a pointer, a slice a
-//! pointer and a length.
+//! The proved calls, as the library for hosts has them: each is lent a layout and
+//! changes it in place. Here each gets a fresh copy of a layout. What it answers
+//! is told in the second program's types, to be compared.
 
+use std::fmt::Debug;
+
+use rostulanda::{ffi, Fields};
 use second::calls::{Answer, Crossing};
-use second::layout::{Layout, PLACES};
+use second::layout::Layout;
 use second::sifting::{Convergence, Round};
 
-use crate::lists::{Call, Played};
+use crate::expected::Played;
 
-type Order = [u8; PLACES];
-type Words = [u64; PLACES];
+/// An answer of the library, and the same answer in the second program's types.
+pub trait Told {
+    type As: PartialEq + Debug;
 
-extern "C" {
-    fn bench_count_crossings(n: u64, order: &Order, words: &Words) -> u32;
-    fn bench_no_call(n: &mut u64, order: &mut Order, words: &mut Words, count: &mut u32) -> u8;
-    fn bench_add(
-        n: &mut u64,
-        order: &mut Order,
-        words: &mut Words,
-        count: &mut u32,
-        vertex: &mut u64,
-    ) -> u8;
-    fn bench_link(
-        n: &mut u64,
-        order: &mut Order,
-        words: &mut Words,
-        count: &mut u32,
-        a: u64,
-        b: u64,
-    ) -> u8;
-    fn bench_unlink(
-        n: &mut u64,
-        order: &mut Order,
-        words: &mut Words,
-        count: &mut u32,
-        a: u64,
-        b: u64,
-    ) -> u8;
-    fn bench_move(
-        n: &mut u64,
-        order: &mut Order,
-        words: &mut Words,
-        count: &mut u32,
-        a: u64,
-        b: u64,
-    ) -> u8;
-    fn bench_lay(
-        n: &mut u64,
-        order: &mut Order,
-        words: &mut Words,
-        count: &mut u32,
-        start: u64,
-        tally: &mut u32,
-    ) -> u8;
-    fn bench_sift(
-        n: &mut u64,
-        order: &mut Order,
-        words: &mut Words,
-        count: &mut u32,
-        u: u64,
-        reduction: &mut u32,
-    ) -> u8;
-    fn bench_round(
-        n: &mut u64,
-        order: &mut Order,
-        words: &mut Words,
-        count: &mut u32,
-        reduction: &mut u32,
-        moved: &mut u32,
-    ) -> u8;
-    fn bench_settle(
-        n: &mut u64,
-        order: &mut Order,
-        words: &mut Words,
-        count: &mut u32,
-        limit: u32,
-        reduction: &mut u32,
-        rounds: &mut u32,
-        converged: &mut bool,
-    ) -> u8;
-    fn bench_play(
-        calls: *const u64,
-        calls_length: usize,
-        table: *mut u64,
-        table_length: usize,
-        n: &mut u64,
-        order: &mut Order,
-        words: &mut Words,
-        count: &mut u32,
-    ) -> usize;
-    fn bench_pair(
-        n: u64,
-        order: &Order,
-        words: &Words,
-        count: u32,
-        is_found: &mut bool,
-        ends: &mut [usize; 4],
-    ) -> u8;
-    fn bench_chart(
-        bytes: *const u8,
-        length: usize,
-        n: &mut u64,
-        order: &mut Order,
-        words: &mut Words,
-        count: &mut u32,
-    ) -> u8;
-    fn bench_count(n: u64, order: &Order, words: &Words, count: u32, answered: &mut u32) -> u8;
-    fn bench_order(
-        n: u64,
-        order: &Order,
-        words: &Words,
-        count: u32,
-        buffer: *mut u8,
-        length: usize,
-    ) -> u8;
+    fn told(self) -> Self::As;
 }
 
-/// Hands a layout's fields over, by reference, before the other arguments.
-macro_rules! hand_over {
-    ($call:ident, $layout:ident $(, $argument:expr)*) => {{
-        let l = &mut $layout;
-        unsafe { $call(&mut l.n, &mut l.order, &mut l.adjacency, &mut l.count $(, $argument)*) }
-    }};
+/// What a call that was lent a layout left: its report, and the layout.
+pub struct Left<R> {
+    report: R,
+    layout: Fields,
 }
 
-/// A call that names two vertices and changes the layout.
-type Edit = unsafe extern "C" fn(&mut u64, &mut Order, &mut Words, &mut u32, u64, u64) -> u8;
+/// What a call reports: the refusal number, and its value.
+pub trait Report {
+    type Value: PartialEq + Debug;
 
-/// The crossings, from nothing.
-pub fn crossings(layout: &Layout) -> u32 {
-    unsafe { bench_count_crossings(layout.n, &layout.order, &layout.adjacency) }
+    fn parts(self) -> (u8, Self::Value);
 }
 
-/// Hands the layout over and back.
-pub fn no_call(mut layout: Layout) -> Answer<()> {
-    let refusal = hand_over!(bench_no_call, layout);
-    answer(refusal, layout, ())
-}
+impl<R: Report> Told for Left<R> {
+    type As = Answer<R::Value>;
 
-pub fn add_vertex(mut layout: Layout) -> Answer<u64> {
-    let mut vertex = 0;
-    let refusal = hand_over!(bench_add, layout, &mut vertex);
-    answer(refusal, layout, vertex)
-}
-
-pub fn add_edge(layout: Layout, a: u64, b: u64) -> Answer<()> {
-    edit(bench_link, layout, a, b)
-}
-
-pub fn remove_edge(layout: Layout, a: u64, b: u64) -> Answer<()> {
-    edit(bench_unlink, layout, a, b)
-}
-
-pub fn move_after(layout: Layout, a: u64, b: u64) -> Answer<()> {
-    edit(bench_move, layout, a, b)
-}
-
-fn edit(call: Edit, mut layout: Layout, a: u64, b: u64) -> Answer<()> {
-    let refusal = hand_over!(call, layout, a, b);
-    answer(refusal, layout, ())
-}
-
-pub fn greedy_append(mut layout: Layout, start: u64) -> Answer<u32> {
-    let mut tally = 0;
-    let refusal = hand_over!(bench_lay, layout, start, &mut tally);
-    answer(refusal, layout, tally)
-}
-
-pub fn sift(mut layout: Layout, u: u64) -> Answer<u32> {
-    let mut reduction = 0;
-    let refusal = hand_over!(bench_sift, layout, u, &mut reduction);
-    answer(refusal, layout, reduction)
-}
-
-pub fn sifting_round(mut layout: Layout) -> Answer<Round> {
-    let mut round = Round::default();
-    let (reduction, moved) = (&mut round.reduction, &mut round.moved);
-    let refusal = hand_over!(bench_round, layout, reduction, moved);
-    answer(refusal, layout, round)
-}
-
-pub fn converge(mut layout: Layout, limit: u32) -> Answer<Convergence> {
-    let mut run = Convergence::default();
-    let (reduction, rounds) = (&mut run.reduction, &mut run.rounds);
-    let converged = &mut run.converged;
-    let refusal = hand_over!(bench_settle, layout, limit, reduction, rounds, converged);
-    answer(refusal, layout, run)
-}
-
-pub fn count(layout: Layout) -> Answer<u32> {
-    let mut count = 0;
-    let refusal = unsafe {
-        bench_count(
-            layout.n,
-            &layout.order,
-            &layout.adjacency,
-            layout.count,
-            &mut count,
-        )
-    };
-    answer(refusal, layout, count)
-}
-
-pub fn order(layout: Layout, buffer: &mut [u8]) -> Answer<()> {
-    let refusal = unsafe {
-        bench_order(
-            layout.n,
-            &layout.order,
-            &layout.adjacency,
-            layout.count,
-            buffer.as_mut_ptr(),
-            buffer.len(),
-        )
-    };
-    answer(refusal, layout, ())
-}
-
-pub fn first_crossing(layout: Layout) -> Answer<Crossing> {
-    let mut is_found = false;
-    let mut ends = [0; 4];
-    let refusal = unsafe {
-        bench_pair(
-            layout.n,
-            &layout.order,
-            &layout.adjacency,
-            layout.count,
-            &mut is_found,
-            &mut ends,
-        )
-    };
-    let [a, b, c, d] = ends;
-    let crossing = match (refusal, is_found) {
-        (0, true) => Crossing::Pair((a, b), (c, d)),
-        (0, false) => Crossing::None,
-        _ => Crossing::Refused,
-    };
-    answer(refusal, layout, crossing)
-}
-
-pub fn read_chart(bytes: &[u8]) -> Result<Layout, u8> {
-    let mut l = Layout::EMPTY;
-    let refusal = unsafe {
-        bench_chart(
-            bytes.as_ptr(),
-            bytes.len(),
-            &mut l.n,
-            &mut l.order,
-            &mut l.adjacency,
-            &mut l.count,
-        )
-    };
-    match refusal {
-        0 => Ok(l),
-        _ => Err(refusal),
+    fn told(self) -> Self::As {
+        let (refusal, value) = self.report.parts();
+        Answer {
+            refusal,
+            layout: second_layout(self.layout),
+            value,
+        }
     }
 }
 
-/// Plays a list from the empty layout. The proved side is lent the calls and the
-/// table of their answers, and says how many calls it played.
-pub fn play(list: &[Call]) -> Played {
-    let mut l = Layout::EMPTY;
-    let mut table = vec![[0; 4]; list.len()];
-    let calls = list.as_flattened();
-    let answers = table.as_flattened_mut();
-    let played = unsafe {
-        bench_play(
-            calls.as_ptr(),
-            calls.len(),
-            answers.as_mut_ptr(),
-            answers.len(),
-            &mut l.n,
-            &mut l.order,
-            &mut l.adjacency,
-            &mut l.count,
-        )
-    };
-    assert_eq!(played, list.len(), "every call is played");
-    Played { table, layout: l }
+impl<A: Told, B: PartialEq + Debug> Told for (A, B) {
+    type As = (A::As, B);
+
+    fn told(self) -> Self::As {
+        (self.0.told(), self.1)
+    }
 }
 
-fn answer<T>(refusal: u8, layout: Layout, value: T) -> Answer<T> {
-    Answer {
-        refusal,
-        layout,
-        value,
+/// A layout of the second program, as it can be lent.
+pub fn fields(l: &Layout) -> Fields {
+    Fields {
+        n: l.n as usize,
+        order: l.order,
+        adjacency: l.adjacency,
+        count: l.count,
+    }
+}
+
+fn second_layout(l: Fields) -> Layout {
+    Layout {
+        n: l.n as u64,
+        order: l.order,
+        adjacency: l.adjacency,
+        count: l.count,
+    }
+}
+
+/// Lends a copy of a layout to a call.
+fn lend<R>(l: &Fields, call: impl FnOnce(&mut Fields) -> R) -> Left<R> {
+    let mut layout = l.clone();
+    let report = call(&mut layout);
+    Left { report, layout }
+}
+
+pub fn empty() -> Layout {
+    second_layout(ffi::rl_empty())
+}
+
+pub fn read_chart(l: &Fields, chart: &[u8]) -> Left<u8> {
+    lend(l, |l| ffi::read_chart(l, chart))
+}
+
+pub fn add_vertex(l: &Fields) -> Left<ffi::Vertex> {
+    lend(l, |l| ffi::rl_add_vertex(l))
+}
+
+pub fn add_edge(l: &Fields, a: u64, b: u64) -> Left<u8> {
+    lend(l, |l| ffi::rl_add_edge(l, a as usize, b as usize))
+}
+
+pub fn remove_edge(l: &Fields, a: u64, b: u64) -> Left<u8> {
+    lend(l, |l| ffi::rl_remove_edge(l, a as usize, b as usize))
+}
+
+pub fn move_after(l: &Fields, a: u64, b: u64) -> Left<u8> {
+    lend(l, |l| ffi::rl_move_after(l, a as usize, b as usize))
+}
+
+pub fn greedy_append(l: &Fields, start: u64) -> Left<ffi::Tally> {
+    lend(l, |l| ffi::rl_greedy_append(l, start as usize))
+}
+
+pub fn sift(l: &Fields, u: u64) -> Left<ffi::Reduction> {
+    lend(l, |l| ffi::rl_sift(l, u as usize))
+}
+
+pub fn sifting_round(l: &Fields) -> Left<ffi::Round> {
+    lend(l, |l| ffi::rl_sifting_round(l))
+}
+
+pub fn converge(l: &Fields, limit: u32) -> Left<ffi::Convergence> {
+    lend(l, |l| ffi::rl_converge(l, limit))
+}
+
+pub fn count(l: &Fields) -> Left<ffi::Counted> {
+    lend(l, |l| ffi::rl_count(l))
+}
+
+pub fn order(l: &Fields, buffer: &mut [u8]) -> Left<u8> {
+    lend(l, |l| ffi::order(l, buffer))
+}
+
+pub fn first_crossing(l: &Fields) -> Left<ffi::Crossing> {
+    lend(l, |l| ffi::rl_first_crossing(l))
+}
+
+pub fn is_valid(l: &Fields) -> Left<bool> {
+    lend(l, |l| ffi::rl_is_valid(l))
+}
+
+pub fn list_chart(chart: &[u8], out: &mut [u8]) -> usize {
+    ffi::list_chart(chart, out)
+}
+
+pub fn play(chart: Option<&[u8]>, calls: &[u64], answers: &mut [u64]) -> ffi::Played {
+    ffi::play(chart, calls, answers)
+}
+
+impl Told for ffi::Played {
+    type As = Played;
+
+    fn told(self) -> Played {
+        Played {
+            refusal: self.refusal,
+            layout: second_layout(self.layout),
+            calls: self.calls,
+        }
+    }
+}
+
+impl Report for u8 {
+    type Value = ();
+
+    fn parts(self) -> (u8, ()) {
+        (self, ())
+    }
+}
+
+/// Validity is asked for, and refused to nobody.
+impl Report for bool {
+    type Value = bool;
+
+    fn parts(self) -> (u8, bool) {
+        (0, self)
+    }
+}
+
+impl Report for ffi::Vertex {
+    type Value = u64;
+
+    fn parts(self) -> (u8, u64) {
+        (self.refusal, self.vertex as u64)
+    }
+}
+
+impl Report for ffi::Tally {
+    type Value = u32;
+
+    fn parts(self) -> (u8, u32) {
+        (self.refusal, self.tally)
+    }
+}
+
+impl Report for ffi::Reduction {
+    type Value = u32;
+
+    fn parts(self) -> (u8, u32) {
+        (self.refusal, self.reduction)
+    }
+}
+
+impl Report for ffi::Counted {
+    type Value = u32;
+
+    fn parts(self) -> (u8, u32) {
+        (self.refusal, self.count)
+    }
+}
+
+impl Report for ffi::Round {
+    type Value = Round;
+
+    fn parts(self) -> (u8, Round) {
+        let round = Round {
+            reduction: self.reduction,
+            moved: self.moved,
+        };
+        (self.refusal, round)
+    }
+}
+
+impl Report for ffi::Convergence {
+    type Value = Convergence;
+
+    fn parts(self) -> (u8, Convergence) {
+        let run = Convergence {
+            reduction: self.reduction,
+            rounds: self.rounds,
+            converged: self.converged,
+        };
+        (self.refusal, run)
+    }
+}
+
+/// Where there is no pair, all four ends are 0; anything else is told as a pair,
+/// which the second program doesn't answer then.
+impl Report for ffi::Crossing {
+    type Value = Crossing;
+
+    fn parts(self) -> (u8, Crossing) {
+        let [first, second] = [self.first, self.second].map(|edge| (edge.low, edge.high));
+        let is_blank = !self.found && [first, second] == [(0, 0); 2];
+        let crossing = match (self.refusal, is_blank) {
+            (0, true) => Crossing::None,
+            (_, true) => Crossing::Refused,
+            _ => Crossing::Pair(first, second),
+        };
+        (self.refusal, crossing)
     }
 }

@@ -1,16 +1,17 @@
 //! The calls that are measured, each with the sides that it is measured on.
 
-use std::fmt::Debug;
 use std::hint::black_box;
 
 use layouts::{chart, fan, layout, pairs};
 use second::calls;
-use second::circle::Circle;
-use second::crossings::crossings;
 use second::layout::Layout;
 
 use crate::agreement::{agree, Outcome};
-use crate::{lists, proved};
+use crate::proved::{self, fields, Told};
+use crate::{expected, lists};
+
+/// The calls of a list that is measured.
+pub const CALLS: usize = 1000;
 
 /// Makes a call so many times.
 pub type Repeat<'a> = Box<dyn Fn(u32) + 'a>;
@@ -35,7 +36,6 @@ pub fn three_columns(sides: &[String], width: usize) -> String {
 /// Does something with each row.
 pub fn for_each(mut does: impl FnMut(&Row)) -> Outcome {
     let rows = &mut Rows { does: &mut does };
-    counting(rows)?;
     for edges in [1000, 2015] {
         accepted(rows, edges)?;
     }
@@ -44,8 +44,7 @@ pub fn for_each(mut does: impl FnMut(&Row)) -> Outcome {
     appending(rows)?;
     sifting(rows)?;
     playing(rows)?;
-    refused(rows)?;
-    handing_over(rows)
+    refused(rows)
 }
 
 /// Where the rows go, if their sides answer alike.
@@ -54,27 +53,27 @@ struct Rows<'a> {
 }
 
 impl Rows<'_> {
-    fn two<A: PartialEq + Debug>(
+    fn two<P: Told>(
         &mut self,
         name: &str,
-        proved: impl Fn() -> A,
-        second: impl Fn() -> A,
+        proved: impl Fn() -> P,
+        second: impl Fn() -> P::As,
     ) -> Outcome {
-        agree(name, "proved", &proved(), &second())?;
+        agree(name, "proved", &proved().told(), &second())?;
         let sides = vec![repeated(proved), repeated(second)];
         (self.does)(&Row { name, sides });
         Ok(())
     }
 
-    fn three<A: PartialEq + Debug>(
+    fn three<P: Told>(
         &mut self,
         name: &str,
-        proved: impl Fn() -> A,
-        baseline: impl Fn() -> A,
-        second: impl Fn() -> A,
+        proved: impl Fn() -> P,
+        baseline: impl Fn() -> P::As,
+        second: impl Fn() -> P::As,
     ) -> Outcome {
         let expected = second();
-        agree(name, "proved", &proved(), &expected)?;
+        agree(name, "proved", &proved().told(), &expected)?;
         agree(name, "baseline", &baseline(), &expected)?;
         let sides = vec![repeated(proved), repeated(baseline), repeated(second)];
         (self.does)(&Row { name, sides });
@@ -84,7 +83,7 @@ impl Rows<'_> {
 
 /// Each time the call is made, from inputs and for an answer that the compiler
 /// knows nothing about.
-fn repeated<'a, A>(call: impl Fn() -> A + 'a) -> Repeat<'a> {
+pub fn repeated<'a, A>(call: impl Fn() -> A + 'a) -> Repeat<'a> {
     Box::new(move |times| {
         for _ in 0..times {
             black_box(black_box(&call)());
@@ -92,61 +91,44 @@ fn repeated<'a, A>(call: impl Fn() -> A + 'a) -> Repeat<'a> {
     })
 }
 
-fn counting(rows: &mut Rows) -> Outcome {
-    for edges in [1000, 2016] {
-        let l = layout(64, edges);
-        let circle = Circle::new(&l);
-        let name = format!("crossings, 64 vertices, {edges} edges");
-        rows.two(
-            &name,
-            || proved::crossings(&l),
-            || crossings(&Circle::new(&l)),
-        )?;
-        rows.two(
-            &format!("{name}, lists sorted"),
-            || proved::crossings(&l),
-            || crossings(&circle),
-        )?;
-    }
-    Ok(())
-}
-
 /// Calls on 64 vertices with so many edges, one of all 2,016 missing at least.
 fn accepted(rows: &mut Rows, edges: usize) -> Outcome {
     let l = layout(64, edges);
+    let lent = fields(&l);
     let (a, b) = pairs(&l, false)[0];
     let (c, d) = pairs(&l, true)[edges / 2];
     let name = |call| format!("{call}, 64 vertices, {edges} edges");
     rows.two(
         &name("link"),
-        || proved::add_edge(l, a, b),
+        || proved::add_edge(&lent, a, b),
         || calls::add_edge(l, a, b),
     )?;
     rows.two(
         &name("unlink"),
-        || proved::remove_edge(l, c, d),
+        || proved::remove_edge(&lent, c, d),
         || calls::remove_edge(l, c, d),
     )?;
     rows.two(
         &name("move"),
-        || proved::move_after(l, c, d),
+        || proved::move_after(&lent, c, d),
         || calls::move_after(l, c, d),
     )?;
-    rows.two(&name("count"), || proved::count(l), || calls::count(l))?;
+    rows.two(&name("count"), || proved::count(&lent), || calls::count(l))?;
     rows.two(
         &name("order"),
-        || into_buffer(l, proved::order),
-        || into_buffer(l, calls::order),
+        || into_buffer(|buffer| proved::order(&lent, buffer)),
+        || into_buffer(|buffer| calls::order(l, buffer)),
     )?;
     rows.two(
         &name("pair"),
-        || proved::first_crossing(l),
+        || proved::first_crossing(&lent),
         || calls::first_crossing(l),
     )?;
     let fewer = layout(63, edges.min(1953));
+    let lent = fields(&fewer);
     rows.two(
         &format!("add, 63 vertices, {} edges", edges.min(1953)),
-        || proved::add_vertex(fewer),
+        || proved::add_vertex(&lent),
         || calls::add_vertex(fewer),
     )
 }
@@ -154,36 +136,40 @@ fn accepted(rows: &mut Rows, edges: usize) -> Outcome {
 /// The most edges of 64 vertices of which no two cross.
 fn no_pair(rows: &mut Rows) -> Outcome {
     let l = fan();
+    let lent = fields(&l);
     rows.two(
         "pair, 64 vertices, 125 edges, none",
-        || proved::first_crossing(l),
+        || proved::first_crossing(&lent),
         || calls::first_crossing(l),
     )
 }
 
+/// Charts read over the empty layout.
 fn charts(rows: &mut Rows) -> Outcome {
+    let empty = fields(&Layout::EMPTY);
     for edges in [1000, 2016] {
         let bytes = chart(&layout(64, edges));
         rows.two(
             &format!("reading a chart, 64 vertices, {edges} edges"),
-            || proved::read_chart(&bytes),
-            || second::chart::read(&bytes),
+            || proved::read_chart(&empty, &bytes),
+            || expected::read_chart(Layout::EMPTY, &bytes),
         )?;
     }
     let bytes = [chart(&layout(64, 2016)), vec![0x52, 0, 1, 0]].concat();
     rows.two(
         "reading a chart refused 3, a fourth field",
-        || proved::read_chart(&bytes),
-        || second::chart::read(&bytes),
+        || proved::read_chart(&empty, &bytes),
+        || expected::read_chart(Layout::EMPTY, &bytes),
     )
 }
 
 /// Laying 64 vertices with 1,000 edges.
 fn appending(rows: &mut Rows) -> Outcome {
     let l = layout(64, 1000);
+    let lent = fields(&l);
     rows.two(
         "lay, 64 vertices, 1000 edges",
-        || proved::greedy_append(l, 5),
+        || proved::greedy_append(&lent, 5),
         || calls::greedy_append(l, 5),
     )
 }
@@ -191,22 +177,23 @@ fn appending(rows: &mut Rows) -> Outcome {
 /// Sifting 64 vertices with 1,000 edges.
 fn sifting(rows: &mut Rows) -> Outcome {
     let l = layout(64, 1000);
+    let lent = fields(&l);
     let name = |call| format!("{call}, 64 vertices, 1000 edges");
     rows.three(
         &name("sift"),
-        || proved::sift(l, 5),
+        || proved::sift(&lent, 5),
         || baseline::sift(l, 5),
         || calls::sift(l, 5),
     )?;
     rows.three(
         &name("round"),
-        || proved::sifting_round(l),
+        || proved::sifting_round(&lent),
         || baseline::sifting_round(l),
         || calls::sifting_round(l),
     )?;
     rows.three(
         &name("settle with limit 50"),
-        || proved::converge(l, 50),
+        || proved::converge(&lent, 50),
         || baseline::converge(l, 50),
         || calls::converge(l, 50),
     )
@@ -214,25 +201,33 @@ fn sifting(rows: &mut Rows) -> Outcome {
 
 /// A list of calls, each on what the one before it left.
 fn playing(rows: &mut Rows) -> Outcome {
-    let list = lists::mixed(1, 1000);
+    let list = lists::mixed(1, CALLS);
+    let numbers = list.as_flattened();
     rows.two(
         "1000 mixed calls from the empty layout",
-        || proved::play(&list),
-        || lists::play(&list),
+        || into_table(|table| proved::play(None, numbers, table)),
+        || into_table(|table| expected::play(None, numbers, table)),
     )
 }
 
-fn into_buffer<A>(l: Layout, order: fn(Layout, &mut [u8]) -> A) -> (A, [u8; 64]) {
+fn into_buffer<A>(order: impl Fn(&mut [u8]) -> A) -> (A, [u8; 64]) {
     let mut buffer = [0; 64];
-    (order(l, &mut buffer), buffer)
+    (order(&mut buffer), buffer)
+}
+
+/// With a table for the answers of the list.
+fn into_table<A>(play: impl Fn(&mut [u64]) -> A) -> (A, Vec<u64>) {
+    let mut table = vec![0; 4 * CALLS];
+    (play(&mut table), table)
 }
 
 fn refused(rows: &mut Rows) -> Outcome {
     let l = layout(64, 2016);
     let mut link = |name: &str, l: Layout, a: u64, b: u64| {
+        let lent = fields(&l);
         rows.two(
             &format!("link refused {name}"),
-            || proved::add_edge(l, a, b),
+            || proved::add_edge(&lent, a, b),
             || calls::add_edge(l, a, b),
         )
     };
@@ -242,18 +237,4 @@ fn refused(rows: &mut Rows) -> Outcome {
     last.adjacency[63] |= 1 << 63;
     link("11, the last vertex joined to itself", last, 0, 1)?;
     link("11, n is 65", Layout { n: 65, ..l }, 0, 1)
-}
-
-/// What the proved calls above spend on handing a layout over and back.
-fn handing_over(rows: &mut Rows) -> Outcome {
-    let l = layout(64, 2016);
-    rows.two(
-        "no call: a layout handed over and back",
-        || proved::no_call(l),
-        || calls::Answer {
-            refusal: 0,
-            layout: black_box(l),
-            value: (),
-        },
-    )
 }

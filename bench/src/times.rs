@@ -3,6 +3,7 @@
 use std::time::{Duration, Instant};
 
 use crate::agreement::Outcome;
+use crate::lent;
 use crate::rows::{self, three_columns, Repeat, Row};
 
 /// Batches of calls on each side: as many as go into the time for a side, from a
@@ -21,8 +22,13 @@ struct Time {
     minimum: f64,
 }
 
-/// Prints a line for each call.
+/// Prints a line for each call, and then what being lent costs.
 pub fn print() -> Outcome {
+    print_rows()?;
+    print_lent()
+}
+
+fn print_rows() -> Outcome {
     println!("\nmicroseconds of a call: median and minimum; ratio: proved to baseline, or to second where there is none\n");
     println!(
         "{:<49}{:>18}{:>18}{:>18}{:>14}",
@@ -44,6 +50,28 @@ fn line(row: &Row) {
         proved.median / other.median,
         proved.minimum / other.minimum,
     );
+}
+
+fn print_lent() -> Outcome {
+    println!("\nmicroseconds of a call on one lent layout, and of the same call by value\n");
+    println!("{:<63}{:>9}{:>9}", "", "median", "min");
+    lent::for_each(lent_lines)
+}
+
+fn lent_lines(row: &Row) {
+    let times = times(&row.sides);
+    let figure = |of: fn(&Time) -> f64| lent::of_a_call([0, 1, 2].map(|side| of(&times[side])));
+    let medians = figure(|time| time.median);
+    let minimums = figure(|time| time.minimum);
+    let names = [
+        format!("{}, in place", row.name),
+        "the same by value, within a list".to_string(),
+    ];
+    for (name, (median, minimum)) in names.iter().zip(medians.iter().zip(minimums)) {
+        println!("{name:<63}{median:>9.3}{minimum:>9.3}");
+    }
+    let [median, minimum] = [medians, minimums].map(|[in_place, by_value]| in_place - by_value);
+    println!("lent, not by value: {median:+.3} us a call, by the minimums {minimum:+.3} us");
 }
 
 fn columns(time: &Time) -> String {

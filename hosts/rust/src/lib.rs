@@ -20,7 +20,8 @@
 
 #[doc(hidden)]
 pub mod boundary;
-mod ffi;
+#[doc(hidden)]
+pub mod ffi;
 mod layout;
 mod list;
 mod refusal;

@@ -1,0 +1,112 @@
+//! What the second program has in another form than the library: a chart read
+//! over a layout, a listing in a lent buffer, a list of calls.
+
+use second::calls::{self, Answer};
+use second::layout::Layout;
+use second::{chart, list};
+
+use crate::lists::*;
+
+/// What playing a list gives, beside the table of the answers.
+#[derive(Debug, PartialEq)]
+pub struct Played {
+    pub refusal: u8,
+    pub layout: Layout,
+    pub calls: usize,
+}
+
+/// What a call answers: the refusal number, and up to three numbers, the others
+/// 0. A bool is 1 or 0.
+type Row = [u64; 4];
+
+/// The least buffer for a listing.
+pub const LISTING_BYTES: usize = 1024;
+
+/// The layout of a chart, or the one that is there if the chart is refused.
+pub fn read_chart(l: Layout, bytes: &[u8]) -> Answer<()> {
+    let (refusal, layout) = match chart::read(bytes) {
+        Ok(layout) => (0, layout),
+        Err(refusal) => (refusal, l),
+    };
+    Answer {
+        refusal,
+        layout,
+        value: (),
+    }
+}
+
+/// Whether a layout is valid.
+pub fn is_valid(layout: Layout) -> Answer<bool> {
+    Answer {
+        refusal: 0,
+        layout,
+        value: layout.is_valid(),
+    }
+}
+
+/// Writes a chart's listing to a buffer that is long enough for any, and gives
+/// its length.
+pub fn list_chart(bytes: &[u8], out: &mut [u8]) -> usize {
+    if out.len() < LISTING_BYTES {
+        return 0;
+    }
+    let listing = list::listing(bytes);
+    out[..listing.len()].copy_from_slice(listing.as_bytes());
+    listing.len()
+}
+
+/// Plays the calls up to the first number that is none, from a chart or from the
+/// empty layout, and writes four numbers for each.
+pub fn play(chart: Option<&[u8]>, numbers: &[u64], answers: &mut [u64]) -> Played {
+    let start = chart.map_or(Ok(Layout::EMPTY), chart::read);
+    let list = numbers.as_chunks().0;
+    let length = list.iter().take_while(|call| is_call(call)).count();
+    let refused = |refusal, layout| Played {
+        refusal,
+        layout,
+        calls: 0,
+    };
+    match start {
+        Err(refusal) => refused(refusal, Layout::EMPTY),
+        Ok(layout) if answers.len() < 4 * length => refused(18, layout),
+        Ok(layout) => play_all(layout, &list[..length], answers),
+    }
+}
+
+fn play_all(mut layout: Layout, list: &[Call], answers: &mut [u64]) -> Played {
+    for (&call, answer) in list.iter().zip(answers.chunks_mut(4)) {
+        answer.copy_from_slice(&play_call(&mut layout, call));
+    }
+    Played {
+        refusal: 0,
+        layout,
+        calls: list.len(),
+    }
+}
+
+fn play_call(layout: &mut Layout, [op, a, b]: Call) -> Row {
+    let l = *layout;
+    let limit = u32::try_from(a).unwrap_or(u32::MAX);
+    match op {
+        ADD => row(layout, calls::add_vertex(l), |v| [v, 0, 0]),
+        LINK => row(layout, calls::add_edge(l, a, b), |()| [0; 3]),
+        UNLINK => row(layout, calls::remove_edge(l, a, b), |()| [0; 3]),
+        MOVE => row(layout, calls::move_after(l, a, b), |()| [0; 3]),
+        LAY => row(layout, calls::greedy_append(l, a), |t| [t.into(), 0, 0]),
+        SIFT => row(layout, calls::sift(l, a), |r| [r.into(), 0, 0]),
+        ROUND => row(layout, calls::sifting_round(l), |r| {
+            [r.reduction.into(), r.moved.into(), 0]
+        }),
+        SETTLE => row(layout, calls::converge(l, limit), |c| {
+            [c.reduction.into(), c.rounds.into(), c.converged.into()]
+        }),
+        _ => unreachable!("a list has calls only"),
+    }
+}
+
+/// Takes over the answer's layout, and gives its row.
+fn row<T>(layout: &mut Layout, answer: Answer<T>, numbers: fn(T) -> [u64; 3]) -> Row {
+    *layout = answer.layout;
+    let [a, b, c] = numbers(answer.value);
+    [answer.refusal.into(), a, b, c]
+}

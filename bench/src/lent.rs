@@ -1,0 +1,74 @@
+//! What being lent costs: calls made one after another on one lent layout, beside
+//! the same calls by value, within a list.
+
+use layouts::{chart, layout, pairs};
+use rostulanda::{ffi, Fields};
+use second::layout::Layout;
+
+use crate::agreement::{agree, Outcome};
+use crate::lists::{Call, LINK, UNLINK};
+use crate::proved::{self, fields, Told};
+use crate::rows::{repeated, Row, CALLS};
+
+/// Does something with each comparison: a row whose sides are the calls in place,
+/// the list of them from a chart, and an empty list from that chart.
+pub fn for_each(mut does: impl FnMut(&Row)) -> Outcome {
+    let l = layout(64, 1000);
+    let missing = pairs(&l, false);
+    let by_turns = |&(a, b): &(u64, u64)| [[LINK, a, b], [UNLINK, a, b]];
+    let accepted: Vec<Call> = missing.iter().flat_map(by_turns).take(CALLS).collect();
+    compare(
+        &mut does,
+        "link and unlink by turns, 64 vertices, 1000 edges",
+        &l,
+        &accepted,
+    )?;
+    compare(
+        &mut does,
+        "link refused 12, 64 vertices, 1000 edges",
+        &l,
+        &[[LINK, 0, 64]; CALLS],
+    )
+}
+
+/// One call in place, and the same by value: what the sides took, without what a
+/// list takes that has no calls, for each of the calls.
+pub fn of_a_call([in_place, list, no_calls]: [f64; 3]) -> [f64; 2] {
+    [in_place, list - no_calls].map(|taken| taken / CALLS as f64)
+}
+
+fn compare(does: &mut dyn FnMut(&Row), name: &str, l: &Layout, calls: &[Call]) -> Outcome {
+    let (lent, chart) = (fields(l), chart(l));
+    let list = |calls: &[Call]| within_a_list(&chart, calls);
+    let (played, table) = list(calls);
+    let refusals: Vec<u8> = table.chunks(4).map(|answer| answer[0] as u8).collect();
+    let (layout, refused) = in_place(&lent, calls);
+    let by_value = (fields(&played.told().layout), refusals);
+    agree(name, "in place", &(layout, refused), &by_value)?;
+    let sides = vec![
+        repeated(|| in_place(&lent, calls)),
+        repeated(|| list(calls)),
+        repeated(|| list(&[])),
+    ];
+    does(&Row { name, sides });
+    Ok(())
+}
+
+/// Makes the calls, links and unlinks, on one copy of the layout. Answers that
+/// copy, and the refusal numbers.
+fn in_place(l: &Fields, calls: &[Call]) -> (Fields, Vec<u8>) {
+    let mut l = l.clone();
+    let made = calls.iter().map(|&[op, a, b]| match op {
+        LINK => ffi::rl_add_edge(&mut l, a as usize, b as usize),
+        _ => ffi::rl_remove_edge(&mut l, a as usize, b as usize),
+    });
+    let refusals = made.collect();
+    (l, refusals)
+}
+
+/// Plays the calls as a list, from a chart. Each goes by value.
+fn within_a_list(chart: &[u8], calls: &[Call]) -> (ffi::Played, Vec<u64>) {
+    let mut table = vec![0; 4 * calls.len()];
+    let played = proved::play(Some(chart), calls.as_flattened(), &mut table);
+    (played, table)
+}
