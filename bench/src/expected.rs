@@ -5,7 +5,7 @@ use second::calls::{self, Answer};
 use second::layout::Layout;
 use second::{chart, list};
 
-use crate::lists::*;
+use crate::lists::{is_call, Call, ADD, LAY, LINK, MOVE, ROUND, SETTLE, SIFT, UNLINK};
 
 /// What playing a list gives, beside the table of the answers.
 #[derive(Debug, PartialEq)]

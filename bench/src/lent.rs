@@ -6,6 +6,7 @@ use rostulanda::{ffi, Fields};
 use second::layout::Layout;
 
 use crate::agreement::{agree, Outcome};
+use crate::expected;
 use crate::lists::{Call, LINK, UNLINK};
 use crate::proved::{self, fields, Told};
 use crate::rows::{repeated, Row, CALLS};
@@ -39,19 +40,25 @@ pub fn of_a_call([in_place, list, no_calls]: [f64; 3]) -> [f64; 2] {
 
 fn compare(does: &mut dyn FnMut(&Row), name: &str, l: &Layout, calls: &[Call]) -> Outcome {
     let (lent, chart) = (fields(l), chart(l));
-    let list = |calls: &[Call]| within_a_list(&chart, calls);
-    let (played, table) = list(calls);
-    let refusals: Vec<u8> = table.chunks(4).map(|answer| answer[0] as u8).collect();
-    let (layout, refused) = in_place(&lent, calls);
-    let by_value = (fields(&played.told().layout), refusals);
-    agree(name, "in place", &(layout, refused), &by_value)?;
+    answers_agree(name, &lent, &chart, calls)?;
     let sides = vec![
         repeated(|| in_place(&lent, calls)),
-        repeated(|| list(calls)),
-        repeated(|| list(&[])),
+        repeated(|| within_a_list(&chart, calls)),
+        repeated(|| within_a_list(&chart, &[])),
     ];
     does(&Row { name, sides });
     Ok(())
+}
+
+/// Whether the calls answer as the second program does, in place and by value.
+fn answers_agree(name: &str, l: &Fields, chart: &[u8], calls: &[Call]) -> Outcome {
+    let mut table = vec![0; 4 * calls.len()];
+    let second = expected::play(Some(chart), calls.as_flattened(), &mut table);
+    let refusals = table.chunks(4).map(|answer| answer[0] as u8).collect();
+    let left = (fields(&second.layout), refusals);
+    agree(name, "in place", &in_place(l, calls), &left)?;
+    let by_value = within_a_list(chart, calls).told();
+    agree(name, "by value", &by_value, &(second, table))
 }
 
 /// Makes the calls, links and unlinks, on one copy of the layout. Answers that

@@ -4,6 +4,7 @@
 
 use std::fmt::Debug;
 
+pub use rostulanda::ffi::{list_chart, play};
 use rostulanda::{ffi, Fields};
 use second::calls::{Answer, Crossing};
 use second::layout::Layout;
@@ -134,14 +135,6 @@ pub fn is_valid(l: &Fields) -> Left<bool> {
     lend(l, |l| ffi::rl_is_valid(l))
 }
 
-pub fn list_chart(chart: &[u8], out: &mut [u8]) -> usize {
-    ffi::list_chart(chart, out)
-}
-
-pub fn play(chart: Option<&[u8]>, calls: &[u64], answers: &mut [u64]) -> ffi::Played {
-    ffi::play(chart, calls, answers)
-}
-
 impl Told for ffi::Played {
     type As = Played;
 
@@ -162,7 +155,7 @@ impl Report for u8 {
     }
 }
 
-/// Validity is asked for, and refused to nobody.
+/// Whether a layout is valid is never refused.
 impl Report for bool {
     type Value = bool;
 
