@@ -3,12 +3,11 @@
 ghost use mathlib.Core.Path.{_≡_};
 ghost use Prim.Native.Nat.{_+_, _≤_, _<_};
 ghost use lib.ListN.{length};
-use crate::text::put;
-use crate::text::put_byte;
-use crate::text::put_bytes;
-use crate::text::put_number;
-use crate::text::put_text;
 use model::Layout;
+use text::put_bytes;
+use text::put_number;
+use text::put_small;
+use text::put_text;
 
 // What a record did: the layout that now stands, how many bytes of the line are written, and whether
 // the list ends here.
@@ -31,24 +30,23 @@ pub(crate) fn silent(l: Layout) -> Played
 
 // The name and the refusal number.
 pub(crate) fn put_head(line: &mut [u8], name: &[u8], refusal: u8) -> usize
-    requires { ⌜ (length (now name) ≤ 6) × (10 ≤ length (now line)) ⌝ }
+    requires { ⌜ length (now name) ≤ 6 ⌝ }
     ensures { λ r. ⌜ r ≤ 10 ⌝ }
 {
     let at = put_text(line, 0, name);
-    put_byte(line, at, refusal)
+    put_small(line, at, refusal)
 }
 
 // The line's second half, from place at on: the layout that now stands, and the words that differ
 // from those before.
 pub(crate) fn told(line: &mut [u8], at: usize, before: Layout, after: Layout) -> Played
-    requires { ⌜ at + 1923 ≤ length (now line) ⌝ }
     ensures { λ r. ⌜ r .written ≤ at + 1923 ⌝ }
 {
     let fields_end = put_fields(line, at, after);
     let old_words = before.adjacency;
     let words = after.adjacency;
     let words_end = put_words(line, fields_end, &old_words, &words);
-    let end = put(line, words_end, b'\n');
+    let end = put_text(line, words_end, b"\n");
     Played {
         layout: after,
         written: end,
@@ -57,7 +55,6 @@ pub(crate) fn told(line: &mut [u8], at: usize, before: Layout, after: Layout) ->
 }
 
 fn put_fields(line: &mut [u8], at: usize, l: Layout) -> usize
-    requires { ⌜ at + 316 ≤ length (now line) ⌝ }
     ensures { λ r. ⌜ r ≤ at + 316 ⌝ }
 {
     let order = l.order;
@@ -67,7 +64,7 @@ fn put_fields(line: &mut [u8], at: usize, l: Layout) -> usize
 }
 
 fn put_field(line: &mut [u8], at: usize, name: &[u8], number: u64) -> usize
-    requires { ⌜ (length (now name) ≤ 6) × (at + 27 ≤ length (now line)) ⌝ }
+    requires { ⌜ length (now name) ≤ 6 ⌝ }
     ensures { λ r. ⌜ r ≤ at + 27 ⌝ }
 {
     let end = put_text(line, at, name);
@@ -75,7 +72,7 @@ fn put_field(line: &mut [u8], at: usize, name: &[u8], number: u64) -> usize
 }
 
 fn put_order(line: &mut [u8], at: usize, order: &[u8]) -> usize
-    requires { ⌜ (length (now order) ≡ 64) × (at + 262 ≤ length (now line)) ⌝ }
+    requires { ⌜ length (now order) ≡ 64 ⌝ }
     ensures { λ r. ⌜ r ≤ at + 262 ⌝ }
 {
     let end = put_text(line, at, b" order");
@@ -84,7 +81,7 @@ fn put_order(line: &mut [u8], at: usize, order: &[u8]) -> usize
 
 // The number and the value of each word that differs from the one before.
 fn put_words(line: &mut [u8], at: usize, before: &[u64], after: &[u64]) -> usize
-    requires { ⌜ (length (now before) ≡ 64) × (length (now after) ≡ 64) × (at + 1606 ≤ length (now line)) ⌝ }
+    requires { ⌜ (length (now before) ≡ 64) × (length (now after) ≡ 64) ⌝ }
     ensures { λ r. ⌜ r ≤ at + 1606 ⌝ }
 {
     let mut end = put_text(line, at, b" words");
@@ -97,12 +94,12 @@ fn put_words(line: &mut [u8], at: usize, before: &[u64], after: &[u64]) -> usize
 }
 
 fn put_changed(line: &mut [u8], at: usize, v: usize, before: u64, after: u64) -> usize
-    requires { ⌜ (v < 64) × (at + 25 ≤ length (now line)) ⌝ }
+    requires { ⌜ v < 64 ⌝ }
     ensures { λ r. ⌜ r ≤ at + 25 ⌝ }
 {
     if before == after {
         return at;
     }
-    let end = put_byte(line, at, v as u8);
+    let end = put_small(line, at, v as u8);
     put_number(line, end, after)
 }

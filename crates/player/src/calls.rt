@@ -1,20 +1,18 @@
 // The calls that change a layout, each through history::step: what is compared is what the theorem
 // over lists of calls speaks of.
 ghost use Prim.Native.Nat.{_≤_};
-ghost use mathlib.Core.Path.{_≡_};
 ghost use lib.ListN.{length};
 use crate::answer::Played;
 use crate::answer::put_head;
 use crate::answer::told;
-use crate::text::put_number;
-use crate::text::put_text;
 use model::Call;
 use model::Layout;
 use model::Outcome;
+use text::put_number;
+use text::put_text;
 
 // Makes the call and writes its line.
 pub(crate) fn play_call(l: Layout, c: Call, line: &mut [u8]) -> Played
-    requires { ⌜ length (now line) ≡ 4096 ⌝ }
     ensures { λ r. ⌜ r .written ≤ 4096 ⌝ }
 {
     let answer = history::step(l, c);
@@ -25,7 +23,6 @@ pub(crate) fn play_call(l: Layout, c: Call, line: &mut [u8]) -> Played
 
 // The call's name, its refusal number and the numbers that it answers.
 fn put_answer(line: &mut [u8], c: Call, answer: Outcome) -> usize
-    requires { ⌜ length (now line) ≡ 4096 ⌝ }
     ensures { λ r. ⌜ r ≤ 100 ⌝ }
 {
     match c {
@@ -41,7 +38,7 @@ fn put_answer(line: &mut [u8], c: Call, answer: Outcome) -> usize
 }
 
 fn put_one(line: &mut [u8], name: &[u8], answer: Outcome) -> usize
-    requires { ⌜ (length (now line) ≡ 4096) × (length (now name) ≤ 6) ⌝ }
+    requires { ⌜ length (now name) ≤ 6 ⌝ }
     ensures { λ r. ⌜ r ≤ 31 ⌝ }
 {
     let at = put_head(line, name, answer.refusal);
@@ -49,7 +46,7 @@ fn put_one(line: &mut [u8], name: &[u8], answer: Outcome) -> usize
 }
 
 fn put_two(line: &mut [u8], name: &[u8], answer: Outcome) -> usize
-    requires { ⌜ (length (now line) ≡ 4096) × (length (now name) ≤ 6) ⌝ }
+    requires { ⌜ length (now name) ≤ 6 ⌝ }
     ensures { λ r. ⌜ r ≤ 52 ⌝ }
 {
     let at = put_one(line, name, answer);
@@ -57,7 +54,6 @@ fn put_two(line: &mut [u8], name: &[u8], answer: Outcome) -> usize
 }
 
 fn put_converged(line: &mut [u8], answer: Outcome) -> usize
-    requires { ⌜ length (now line) ≡ 4096 ⌝ }
     ensures { λ r. ⌜ r ≤ 56 ⌝ }
 {
     let at = put_two(line, b"settle", answer);

@@ -1,7 +1,5 @@
 // One record of a list.
-ghost use mathlib.Core.Path.{_≡_};
 ghost use Prim.Native.Nat.{_≤_};
-ghost use lib.ListN.{length};
 ghost use Rattle.io.specs.Counts.{Counts};
 use crate::answer::Played;
 use crate::answer::silent;
@@ -10,9 +8,9 @@ use crate::fields;
 use crate::reads;
 use crate::record::number;
 use crate::starts;
-use crate::text::put_text;
 use model::Decoded;
 use model::Layout;
+use text::put_text;
 
 // Plays a record that starts from no chart, and ends the list at one that is cut short.
 pub fn play(l: Layout, record: &[u8], line: &mut [u8; 4096]) -> Played
@@ -47,7 +45,6 @@ pub fn play_chart(l: Layout, bytes: &[u8], is_whole: bool, line: &mut [u8; 4096]
 
 // What the table of ops says, but for charts.
 fn play_op(l: Layout, op: u64, a: u64, b: u64, line: &mut [u8]) -> Played
-    requires { ⌜ length (now line) ≡ 4096 ⌝ }
     ensures { λ r. ⌜ r .written ≤ 4096 ⌝ }
 {
     match op {
@@ -65,7 +62,6 @@ fn play_op(l: Layout, op: u64, a: u64, b: u64, line: &mut [u8]) -> Played
 
 // A call, or the end of the list.
 fn play_decoded(l: Layout, decoded: Decoded, line: &mut [u8]) -> Played
-    requires { ⌜ length (now line) ≡ 4096 ⌝ }
     ensures { λ r. ⌜ r .written ≤ 4096 ⌝ }
 {
     let Decoded::Next(c) = decoded else {
@@ -76,7 +72,6 @@ fn play_decoded(l: Layout, decoded: Decoded, line: &mut [u8]) -> Played
 
 // The list ends here.
 fn end(l: Layout, line: &mut [u8]) -> Played
-    requires { ⌜ length (now line) ≡ 4096 ⌝ }
     ensures { λ r. ⌜ r .written ≤ 4096 ⌝ }
 {
     let written = put_text(line, 0, b"end\n");

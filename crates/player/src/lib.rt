@@ -10,7 +10,6 @@ mod fields;
 mod reads;
 mod record;
 mod starts;
-mod text;
 
 pub use answer::Played;
 pub use dispatch::play;
