@@ -1,15 +1,14 @@
 // One record of a list.
 ghost use Prim.Native.Nat.{_≤_};
 ghost use Rattle.io.specs.Counts.{Counts};
-use crate::answer::Played;
-use crate::answer::silent;
 use crate::calls::play_call;
-use crate::fields;
 use crate::reads;
-use crate::record::number;
 use crate::starts;
+use answers::Played;
+use answers::silent;
 use model::Decoded;
 use model::Layout;
+use records::number;
 use text::put_text;
 
 // Plays a record that starts from no chart, and ends the list at one that is cut short.
@@ -49,10 +48,10 @@ fn play_op(l: Layout, op: u64, a: u64, b: u64, line: &mut [u8]) -> Played
 {
     match op {
         0 => starts::empty(l, line),
-        2 => silent(fields::with_n(l, a)),
-        3 => silent(fields::with_place(l, a, b)),
-        4 => silent(fields::with_word(l, a, b)),
-        5 => silent(fields::with_count(l, a)),
+        2 => silent(records::with_n(l, a)),
+        3 => silent(records::with_place(l, a, b)),
+        4 => silent(records::with_word(l, a, b)),
+        5 => silent(records::with_count(l, a)),
         24 => reads::count(l, line),
         25 => reads::order(l, a, b, line),
         26 => reads::pair(l, line),

@@ -2,9 +2,9 @@
 ghost use Prim.Native.Nat.{_+_, _≤_};
 ghost use mathlib.Core.Path.{_≡_};
 ghost use lib.ListN.{length};
-use crate::answer::Played;
-use crate::answer::put_head;
-use crate::answer::told;
+use answers::Played;
+use answers::put_head;
+use answers::told;
 use model::Edge;
 use model::FirstCrossing;
 use model::Layout;

@@ -1,8 +1,8 @@
 // The starts: from the empty layout, and from a chart.
 ghost use Prim.Native.Nat.{_≤_};
-use crate::answer::Played;
-use crate::answer::put_head;
-use crate::answer::told;
+use answers::Played;
+use answers::put_head;
+use answers::told;
 use model::Layout;
 
 pub(crate) fn empty(l: Layout, line: &mut [u8]) -> Played

@@ -2,8 +2,8 @@ use Prim.Native.Nat.{_+_, _*_, _-_, _≤_}
 use native.Mathlib.Omega.{arith}
 use mathlib.Core.Path.{_≡_}
 use lib.ListN.{length}
-use Rattle.player.proofs.answer.put_words.Statement.{statement}
-use Rattle.player.proofs.answer.put_words.Tie as tie
+use Rattle.answers.proofs.put_words.Statement.{statement}
+use Rattle.answers.proofs.put_words.Tie as tie
 
 abbrev Inv-loop : tie.InvT-loop
 Inv-loop line₀ at before after end₀ v₀ line end v = (v ≤ 64) × (end ≤ at + 6 + 25 * v) × (length line ≡ length line₀)

@@ -1,14 +1,14 @@
 // Layouts with one field set, to whatever a record says.
 use model::Layout;
 
-pub(crate) fn with_n(l: Layout, n: u64) -> Layout {
+pub fn with_n(l: Layout, n: u64) -> Layout {
     let mut next = l;
     next.n = n as usize;
     next
 }
 
 // A place that is not there sets nothing.
-pub(crate) fn with_place(l: Layout, place: u64, vertex: u64) -> Layout {
+pub fn with_place(l: Layout, place: u64, vertex: u64) -> Layout {
     let mut next = l;
     if place < 64 {
         let p = place as usize;
@@ -17,7 +17,7 @@ pub(crate) fn with_place(l: Layout, place: u64, vertex: u64) -> Layout {
     next
 }
 
-pub(crate) fn with_word(l: Layout, place: u64, word: u64) -> Layout {
+pub fn with_word(l: Layout, place: u64, word: u64) -> Layout {
     let mut next = l;
     if place < 64 {
         let v = place as usize;
@@ -26,7 +26,7 @@ pub(crate) fn with_word(l: Layout, place: u64, word: u64) -> Layout {
     next
 }
 
-pub(crate) fn with_count(l: Layout, count: u64) -> Layout {
+pub fn with_count(l: Layout, count: u64) -> Layout {
     let mut next = l;
     next.count = (count % 4294967296) as u32;
     next

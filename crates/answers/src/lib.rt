@@ -18,7 +18,7 @@ pub struct Played {
 }
 
 // A record that prints nothing.
-pub(crate) fn silent(l: Layout) -> Played
+pub fn silent(l: Layout) -> Played
     ensures { λ r. ⌜ r .written ≡ 0 ⌝ }
 {
     Played {
@@ -29,9 +29,8 @@ pub(crate) fn silent(l: Layout) -> Played
 }
 
 // The name and the refusal number.
-pub(crate) fn put_head(line: &mut [u8], name: &[u8], refusal: u8) -> usize
-    requires { ⌜ length (now name) ≤ 6 ⌝ }
-    ensures { λ r. ⌜ r ≤ 10 ⌝ }
+pub fn put_head(line: &mut [u8], name: &[u8], refusal: u8) -> usize
+    ensures { λ r. ⌜ r ≤ length (now (name .entry)) + 4 ⌝ }
 {
     let at = put_text(line, 0, name);
     put_small(line, at, refusal)
@@ -39,7 +38,7 @@ pub(crate) fn put_head(line: &mut [u8], name: &[u8], refusal: u8) -> usize
 
 // The line's second half, from place at on: the layout that now stands, and the words that differ
 // from those before.
-pub(crate) fn told(line: &mut [u8], at: usize, before: Layout, after: Layout) -> Played
+pub fn told(line: &mut [u8], at: usize, before: Layout, after: Layout) -> Played
     ensures { λ r. ⌜ r .written ≤ at + 1923 ⌝ }
 {
     let fields_end = put_fields(line, at, after);

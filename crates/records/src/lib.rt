@@ -1,7 +1,14 @@
-// The numbers of a record, eight bytes each, low byte first, and the sizes of a chart in a list.
+// The numbers of a record, eight bytes each, low byte first, the sizes of a chart in a list, and
+// layouts with a field set to such a number.
+mod fields;
+
 ghost use mathlib.Core.Path.{_≡_};
 ghost use Prim.Native.Nat.{_+_, _*_, _^_, _≤_, _<_};
 ghost use lib.ListN.{length};
+pub use fields::with_count;
+pub use fields::with_n;
+pub use fields::with_place;
+pub use fields::with_word;
 
 // The number from byte at on; 0 if the record has not so many bytes.
 pub fn number(bytes: &[u8], at: usize) -> u64 {
