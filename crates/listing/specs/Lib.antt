@@ -1,5 +1,3 @@
 -- The listing's parts: how many edges, and the text.
-pub mod Parts
-pub mod Decimals
 pub mod EdgeTotals
 pub mod Text

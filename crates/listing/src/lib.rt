@@ -1,7 +1,5 @@
 // The listing that ringlist prints, as bytes in a lent buffer.
 mod lines;
 mod listings;
-mod numbers;
-mod writing;
 
 pub use listings::list_chart;

@@ -5,10 +5,9 @@ ghost use Prim.Native.Nat.{_+_, _≤_};
 ghost use lib.ListN.{length};
 ghost use Rattle.model.specs.Listing.{text, line, spaced};
 ghost use Rattle.laws.specs.Buffers.Writing.{Written};
-use crate::numbers::put_bytes;
-use crate::numbers::put_line;
-use crate::writing::put_byte;
-use crate::writing::put_text;
+use text::put_bytes;
+use text::put_line;
+use text::put_text;
 
 // The numbers of a listing, one to a line.
 pub struct Numbers {
@@ -45,9 +44,9 @@ pub(crate) fn put_settled(out: &mut [u8], at: usize, converged: bool) -> usize
 // The order, with single spaces.
 pub(crate) fn put_order_line(out: &mut [u8], at: usize, order: &[u8]) -> usize
     requires { ⌜ (at ≤ 200) × (length (now order) ≤ 64) × (1024 ≤ length (now out)) ⌝ }
-    ensures { λ r. ⌜ Written (now (out .entry)) at (line "order" (flatMap spaced (now (order .entry)))) (now (out .exit)) r × (r ≤ length (now (out .exit))) ⌝ }
+    ensures { λ r. ⌜ Written (now (out .entry)) at (line "order" (flatMap spaced (now (order .entry)))) (now (out .exit)) r ⌝ }
 {
     let places = put_text(out, at, b"order");
     let end = put_bytes(out, places, order);
-    put_byte(out, end, b'\n')
+    put_text(out, end, b"\n")
 }

@@ -14,9 +14,9 @@ use super::lines::Numbers;
 use super::lines::put_numbers;
 use super::lines::put_order_line;
 use super::lines::put_settled;
-use crate::numbers::put_line;
 use model::Layout;
 use sifting::converge;
+use text::put_line;
 
 // Writes the listing to the start of a buffer of at least 1,024 bytes, and answers its length. A
 // shorter buffer is left alone, and 0 answered.

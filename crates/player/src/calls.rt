@@ -1,20 +1,17 @@
 // The calls that change a layout, each through history::step: what is compared is what the theorem
 // over lists of calls speaks of.
-ghost use Prim.Native.Nat.{_≤_};
-ghost use mathlib.Core.Path.{_≡_};
-ghost use lib.ListN.{length};
-use crate::answer::Played;
-use crate::answer::put_head;
-use crate::answer::told;
-use crate::text::put_number;
-use crate::text::put_text;
+ghost use Prim.Native.Nat.{_+_, _≤_};
+use answers::Played;
+use answers::told;
 use model::Call;
 use model::Layout;
 use model::Outcome;
+use text::put_number;
+use text::put_small;
+use text::put_text;
 
 // Makes the call and writes its line.
 pub(crate) fn play_call(l: Layout, c: Call, line: &mut [u8]) -> Played
-    requires { ⌜ length (now line) ≡ 4096 ⌝ }
     ensures { λ r. ⌜ r .written ≤ 4096 ⌝ }
 {
     let answer = history::step(l, c);
@@ -25,43 +22,63 @@ pub(crate) fn play_call(l: Layout, c: Call, line: &mut [u8]) -> Played
 
 // The call's name, its refusal number and the numbers that it answers.
 fn put_answer(line: &mut [u8], c: Call, answer: Outcome) -> usize
-    requires { ⌜ length (now line) ≡ 4096 ⌝ }
     ensures { λ r. ⌜ r ≤ 100 ⌝ }
 {
+    let name_end = put_name(line, c);
+    let at = put_small(line, name_end, answer.refusal);
+    put_numbers(line, at, numbers_of(c), answer)
+}
+
+fn put_name(line: &mut [u8], c: Call) -> usize
+    ensures { λ r. ⌜ r ≤ 6 ⌝ }
+{
     match c {
-        Call::AddVertex => put_one(line, b"add", answer),
-        Call::AddEdge(_, _) => put_head(line, b"link", answer.refusal),
-        Call::RemoveEdge(_, _) => put_head(line, b"unlink", answer.refusal),
-        Call::MoveAfter(_, _) => put_head(line, b"move", answer.refusal),
-        Call::GreedyAppend(_) => put_one(line, b"lay", answer),
-        Call::Sift(_) => put_one(line, b"sift", answer),
-        Call::SiftingRound => put_two(line, b"round", answer),
-        Call::Converge(_) => put_converged(line, answer),
+        Call::AddVertex => put_text(line, 0, b"add"),
+        Call::AddEdge(_, _) => put_text(line, 0, b"link"),
+        Call::RemoveEdge(_, _) => put_text(line, 0, b"unlink"),
+        Call::MoveAfter(_, _) => put_text(line, 0, b"move"),
+        Call::GreedyAppend(_) => put_text(line, 0, b"lay"),
+        Call::Sift(_) => put_text(line, 0, b"sift"),
+        Call::SiftingRound => put_text(line, 0, b"round"),
+        Call::Converge(_) => put_text(line, 0, b"settle"),
     }
 }
 
-fn put_one(line: &mut [u8], name: &[u8], answer: Outcome) -> usize
-    requires { ⌜ (length (now line) ≡ 4096) × (length (now name) ≤ 6) ⌝ }
-    ensures { λ r. ⌜ r ≤ 31 ⌝ }
-{
-    let at = put_head(line, name, answer.refusal);
-    put_number(line, at, answer.first)
+// How many numbers the call answers; the third is whether it converged.
+fn numbers_of(c: Call) -> u8 {
+    match c {
+        Call::AddVertex => 1,
+        Call::AddEdge(_, _) => 0,
+        Call::RemoveEdge(_, _) => 0,
+        Call::MoveAfter(_, _) => 0,
+        Call::GreedyAppend(_) => 1,
+        Call::Sift(_) => 1,
+        Call::SiftingRound => 2,
+        Call::Converge(_) => 3,
+    }
 }
 
-fn put_two(line: &mut [u8], name: &[u8], answer: Outcome) -> usize
-    requires { ⌜ (length (now line) ≡ 4096) × (length (now name) ≤ 6) ⌝ }
-    ensures { λ r. ⌜ r ≤ 52 ⌝ }
+fn put_numbers(line: &mut [u8], at: usize, count: u8, answer: Outcome) -> usize
+    ensures { λ r. ⌜ r ≤ at + 46 ⌝ }
 {
-    let at = put_one(line, name, answer);
-    put_number(line, at, answer.second)
+    if count == 0 {
+        return at;
+    }
+    let first = put_number(line, at, answer.first);
+    if count == 1 {
+        return first;
+    }
+    let second = put_number(line, first, answer.second);
+    if count == 2 {
+        return second;
+    }
+    put_converged(line, second, answer.third)
 }
 
-fn put_converged(line: &mut [u8], answer: Outcome) -> usize
-    requires { ⌜ length (now line) ≡ 4096 ⌝ }
-    ensures { λ r. ⌜ r ≤ 56 ⌝ }
+fn put_converged(line: &mut [u8], at: usize, converged: u64) -> usize
+    ensures { λ r. ⌜ r ≤ at + 4 ⌝ }
 {
-    let at = put_two(line, b"settle", answer);
-    if answer.third == 1 {
+    if converged == 1 {
         return put_text(line, at, b" yes");
     }
     put_text(line, at, b" no")

@@ -1,18 +1,15 @@
 // One record of a list.
-ghost use mathlib.Core.Path.{_≡_};
 ghost use Prim.Native.Nat.{_≤_};
-ghost use lib.ListN.{length};
 ghost use Rattle.io.specs.Counts.{Counts};
-use crate::answer::Played;
-use crate::answer::silent;
 use crate::calls::play_call;
-use crate::fields;
 use crate::reads;
-use crate::record::number;
 use crate::starts;
-use crate::text::put_text;
+use answers::Played;
+use answers::silent;
 use model::Decoded;
 use model::Layout;
+use records::number;
+use text::put_text;
 
 // Plays a record that starts from no chart, and ends the list at one that is cut short.
 pub fn play(l: Layout, record: &[u8], line: &mut [u8; 4096]) -> Played
@@ -47,15 +44,14 @@ pub fn play_chart(l: Layout, bytes: &[u8], is_whole: bool, line: &mut [u8; 4096]
 
 // What the table of ops says, but for charts.
 fn play_op(l: Layout, op: u64, a: u64, b: u64, line: &mut [u8]) -> Played
-    requires { ⌜ length (now line) ≡ 4096 ⌝ }
     ensures { λ r. ⌜ r .written ≤ 4096 ⌝ }
 {
     match op {
         0 => starts::empty(l, line),
-        2 => silent(fields::with_n(l, a)),
-        3 => silent(fields::with_place(l, a, b)),
-        4 => silent(fields::with_word(l, a, b)),
-        5 => silent(fields::with_count(l, a)),
+        2 => silent(records::with_n(l, a)),
+        3 => silent(records::with_place(l, a, b)),
+        4 => silent(records::with_word(l, a, b)),
+        5 => silent(records::with_count(l, a)),
         24 => reads::count(l, line),
         25 => reads::order(l, a, b, line),
         26 => reads::pair(l, line),
@@ -65,7 +61,6 @@ fn play_op(l: Layout, op: u64, a: u64, b: u64, line: &mut [u8]) -> Played
 
 // A call, or the end of the list.
 fn play_decoded(l: Layout, decoded: Decoded, line: &mut [u8]) -> Played
-    requires { ⌜ length (now line) ≡ 4096 ⌝ }
     ensures { λ r. ⌜ r .written ≤ 4096 ⌝ }
 {
     let Decoded::Next(c) = decoded else {
@@ -76,7 +71,6 @@ fn play_decoded(l: Layout, decoded: Decoded, line: &mut [u8]) -> Played
 
 // The list ends here.
 fn end(l: Layout, line: &mut [u8]) -> Played
-    requires { ⌜ length (now line) ≡ 4096 ⌝ }
     ensures { λ r. ⌜ r .written ≤ 4096 ⌝ }
 {
     let written = put_text(line, 0, b"end\n");

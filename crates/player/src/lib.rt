@@ -3,19 +3,15 @@
 // reads or writes a file. What a line says is compared with a second program by tests; what is
 // proved is that every function is safe and ends, and that every line fits its buffer.
 
-mod answer;
 mod calls;
 mod dispatch;
-mod fields;
 mod reads;
-mod record;
 mod starts;
-mod text;
 
-pub use answer::Played;
+pub use answers::Played;
 pub use dispatch::play;
 pub use dispatch::play_chart;
 pub use dispatch::starts_chart;
-pub use record::chart_kept;
-pub use record::chart_rest;
-pub use record::number;
+pub use records::chart_kept;
+pub use records::chart_rest;
+pub use records::number;

@@ -2,18 +2,17 @@
 ghost use Prim.Native.Nat.{_+_, _≤_};
 ghost use mathlib.Core.Path.{_≡_};
 ghost use lib.ListN.{length};
-use crate::answer::Played;
-use crate::answer::put_head;
-use crate::answer::told;
-use crate::text::put_bytes;
-use crate::text::put_number;
-use crate::text::put_text;
+use answers::Played;
+use answers::put_head;
+use answers::told;
 use model::Edge;
 use model::FirstCrossing;
 use model::Layout;
+use text::put_bytes;
+use text::put_number;
+use text::put_text;
 
 pub(crate) fn count(l: Layout, line: &mut [u8]) -> Played
-    requires { ⌜ length (now line) ≡ 4096 ⌝ }
     ensures { λ r. ⌜ r .written ≤ 4096 ⌝ }
 {
     let answer = layout::count(l);
@@ -25,7 +24,6 @@ pub(crate) fn count(l: Layout, line: &mut [u8]) -> Played
 // Reads the order into a buffer of size bytes, or 255 if that is less, each of which holds fill
 // modulo 256 before the call.
 pub(crate) fn order(l: Layout, size: u64, fill: u64, line: &mut [u8]) -> Played
-    requires { ⌜ length (now line) ≡ 4096 ⌝ }
     ensures { λ r. ⌜ r .written ≤ 4096 ⌝ }
 {
     let mut buffer = filled((fill % 256) as u8);
@@ -34,7 +32,7 @@ pub(crate) fn order(l: Layout, size: u64, fill: u64, line: &mut [u8]) -> Played
 }
 
 fn order_into(l: Layout, line: &mut [u8], buffer: &mut [u8]) -> Played
-    requires { ⌜ (length (now line) ≡ 4096) × (length (now buffer) ≤ 255) ⌝ }
+    requires { ⌜ length (now buffer) ≤ 255 ⌝ }
     ensures { λ r. ⌜ r .written ≤ 4096 ⌝ }
 {
     let refusal = layout::order(l, buffer);
@@ -45,7 +43,6 @@ fn order_into(l: Layout, line: &mut [u8], buffer: &mut [u8]) -> Played
 }
 
 pub(crate) fn pair(l: Layout, line: &mut [u8]) -> Played
-    requires { ⌜ length (now line) ≡ 4096 ⌝ }
     ensures { λ r. ⌜ r .written ≤ 4096 ⌝ }
 {
     let answer = crossing::first_crossing(l);
@@ -54,7 +51,6 @@ pub(crate) fn pair(l: Layout, line: &mut [u8]) -> Played
 }
 
 fn put_crossing(line: &mut [u8], answer: FirstCrossing) -> usize
-    requires { ⌜ length (now line) ≡ 4096 ⌝ }
     ensures { λ r. ⌜ r ≤ 100 ⌝ }
 {
     match answer {
@@ -72,7 +68,6 @@ fn put_crossing(line: &mut [u8], answer: FirstCrossing) -> usize
 }
 
 fn put_edge(line: &mut [u8], at: usize, edge: Edge) -> usize
-    requires { ⌜ at + 42 ≤ length (now line) ⌝ }
     ensures { λ r. ⌜ r ≤ at + 42 ⌝ }
 {
     let end = put_number(line, at, edge.low as u64);

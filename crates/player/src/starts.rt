@@ -1,14 +1,11 @@
 // The starts: from the empty layout, and from a chart.
 ghost use Prim.Native.Nat.{_≤_};
-ghost use mathlib.Core.Path.{_≡_};
-ghost use lib.ListN.{length};
-use crate::answer::Played;
-use crate::answer::put_head;
-use crate::answer::told;
+use answers::Played;
+use answers::put_head;
+use answers::told;
 use model::Layout;
 
 pub(crate) fn empty(l: Layout, line: &mut [u8]) -> Played
-    requires { ⌜ length (now line) ≡ 4096 ⌝ }
     ensures { λ r. ⌜ r .written ≤ 4096 ⌝ }
 {
     let at = put_head(line, b"empty", 0);
@@ -16,7 +13,6 @@ pub(crate) fn empty(l: Layout, line: &mut [u8]) -> Played
 }
 
 pub(crate) fn read_chart(l: Layout, bytes: &[u8], line: &mut [u8]) -> Played
-    requires { ⌜ length (now line) ≡ 4096 ⌝ }
     ensures { λ r. ⌜ r .written ≤ 4096 ⌝ }
 {
     let answer = chart::read(bytes);

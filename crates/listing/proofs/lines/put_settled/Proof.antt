@@ -24,7 +24,7 @@ returns : tie.Need-returns
 unfolding line text upto
 returns c =
     let put = c .before .before in
-    rw (put .before .before .before .if1 .taken) (put .put-text .ensures, omega (arith, put .put-text .ensures .place))
+    rw (put .before .before .before .if1 .taken) (put .put-text .ensures .fits (omega arith), omega (arith, put .put-text .ensures .bound))
 
 same-length-2 : tie.Need-same-length-2
 same-length-2 c = search needs
@@ -33,7 +33,7 @@ returns-2 : tie.Need-returns-2
 unfolding line text upto
 returns-2 c =
     let put = c .before .before in
-    rw (put .before .before .before .if1 .left) (put .put-text2 .ensures, omega (arith, put .put-text2 .ensures .place))
+    rw (put .before .before .before .if1 .left) (put .put-text2 .ensures .fits (omega arith), omega (arith, put .put-text2 .ensures .bound))
 
 pub put-settled-spec : {M : Type 1} → statement M
 put-settled-spec =

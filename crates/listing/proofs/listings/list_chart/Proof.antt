@@ -1,4 +1,5 @@
 use borrow.Author.Needs.{needs}
+use native.Mathlib.Omega.{arith}
 use mathlib.Core.Path.{sym, ap, _∙_}
 use Rattle.model.specs.declared.ChartRead.{ChartRead}
 use Rattle.model.specs.Lists.{upto}
@@ -37,7 +38,7 @@ returns-2 c =
     let refused = put .before .before .before in
     let read = refused .before in
     let s = start read .args .bytes .now in
-    listed-as s _ (read .before .if1 .left) (listing-refused s (read .read .ensures) (refused .if2 .taken)) (written-whole (put .put-line .ensures .0))
+    listed-as s _ (read .before .if1 .left) (listing-refused s (read .read .ensures) (refused .if2 .taken)) (written-whole (put .put-line .ensures .fits (omega arith)))
 
 list-layout-requires : tie.Need-list-layout-requires
 list-layout-requires c κs =

@@ -5,7 +5,7 @@ use mathlib.Core.Path.{_≡_, sym}
 use lib.ListN.{length}
 use lib.Seq.{length-take-le}
 use Rattle.laws.specs.Layouts.Validity.{sound}
-use Rattle.listing.specs.Parts.{behind}
+use Rattle.text.specs.Parts.{behind}
 use Rattle.listing.specs.Text.{edges-halved, listing-written}
 use Rattle.listing.proofs.listings.list_layout.Statement.{statement}
 use Rattle.listing.proofs.listings.list_layout.Tie as tie
@@ -81,7 +81,7 @@ returns c =
     let held = counted .put-numbers .ensures in
     let told = written .put-settled .ensures in
     listing-written (s .args .l) (s .pre .0) (s .pre .1) (at .converge .ensures) (edges-halved (s .args .l) (s .pre .0) (linked .edge-count .ensures))
-    (behind (behind (held .0) (told .0) (omega (arith, room, held .1))) (end .put-order-line .ensures .0) (omega (arith, room, held .1, told .1)))
+    (behind (behind (held .0) (told .0) (omega (arith, room, held .1))) (end .put-order-line .ensures) (omega (arith, room, held .1, told .1)))
 
 pub list-layout-spec : {M : Type 1} → statement M
 list-layout-spec =
