@@ -1,4 +1,7 @@
+pub mod Passed
+pub mod Callee
 pub mod Lent
+pub mod LentCall
 pub mod Lent0
 pub mod Lent1
 pub mod Lent2
