@@ -79,6 +79,10 @@ bytes = record {
   twice = λ 𝓤 H A W κs s. shr-slice-copy 𝓤 H A W (named 1) (κs .1 .0) u8 .twice s _;
 }
 
+abbrev pub numbers : List Width → List (Passed 0)
+numbers [] = []
+numbers (w ∷ ws) = number w ∷ numbers ws
+
 -- ---- a list of them
 module _ {m : ℕ} where
   abbrev pub outers : List (Passed m) → List (Slot (suc m))
