@@ -37,7 +37,7 @@ use denote.Triple.Walked.{says, Stays, stay-none-ref, gave-slice, walkOf, AllGo,
 use Rattle.model.specs.declared.Layout.{Layout}
 use Rattle.model.proofs.Layout as L
 use Rattle.model.proofs.Layout.Laws as L′
-use Rattle.in_place.proofs.Lent.{mach}
+use Rattle.in_place.proofs.Callee.{mach}
 use Rattle.in_place.proofs.Looked.{Result}
 
 module _ {N : RattleType} (Re : Result N) (F : Layout → List ℕ → N .Denot) (G : Layout → List ℕ → List ℕ) where

@@ -1,4 +1,5 @@
 -- `rl_first_crossing` meets its contract: it is `Looked`'s function, over `crossing_report`.
+use mathlib.Core.List.{[]}
 use denote.Struct.Laws as LL
 use Rattle.model.proofs.CrossingReport as N
 use Rattle.model.proofs.CrossingReport.Laws as N′
@@ -6,6 +7,7 @@ use Rattle.model.specs.Reports.{crossingReportOf}
 use Rattle.in_place.proofs.reports.crossing_report as g
 use Rattle.in_place.proofs.reports.crossing_report.Symbol.{name as #g}
 use Rattle.in_place.proofs.reports.crossing_report.Met as g-thm
+use Rattle.in_place.proofs.Passed.{numbers}
 use Rattle.in_place.proofs.OneCall.{calling}
 use Rattle.in_place.proofs.Looked.{Result, meets}
 use Rattle.in_place.proofs.reading.rl_first_crossing.Key.{name as #f}
@@ -21,4 +23,4 @@ unfolding code.routine
 rl-first-crossing-spec 𝓤 H 𝓜 𝓖 𝓡 =
     calling 𝓤 H 𝓜 𝓖 𝓡 code.env #f code.function f.signature (f.spec 𝓤 H) (code.unfolded 𝓤 H 𝓜 𝓡)
     #g g.signature (g.spec 𝓤 H) code.calls-in-place·reports·crossing-report (g-thm.met 𝓤 H 𝓜 𝓖 𝓡)
-    (λ W 𝓣. meets result crossingReportOf 𝓤 H (𝓖 .A) W 𝓣 #g)
+    (λ W 𝓣. meets result (numbers []) (λ l _ _. crossingReportOf l) 𝓤 H (𝓖 .A) W 𝓣 #g)

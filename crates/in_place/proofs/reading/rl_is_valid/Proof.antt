@@ -1,4 +1,5 @@
 -- `rl_is_valid` meets its contract: it is `Looked`'s function, over `validity::is_valid`.
+use mathlib.Core.List.{[]}
 use mir.Syntax.{tyBool}
 use denote.Builtin.{bool}
 use denote.Plain.{bool-lawful}
@@ -6,6 +7,7 @@ use Rattle.model.specs.Layouts.{valid}
 use Rattle.validity.proofs.is_valid as g
 use Rattle.validity.proofs.is_valid.Symbol.{name as #g}
 use Rattle.validity.proofs.is_valid.Met as g-thm
+use Rattle.in_place.proofs.Passed.{numbers}
 use Rattle.in_place.proofs.OneCall.{calling}
 use Rattle.in_place.proofs.Looked.{Result, meets}
 use Rattle.in_place.proofs.reading.rl_is_valid.Key.{name as #f}
@@ -21,4 +23,4 @@ unfolding code.routine
 rl-is-valid-spec 𝓤 H 𝓜 𝓖 𝓡 =
     calling 𝓤 H 𝓜 𝓖 𝓡 code.env #f code.function f.signature (f.spec 𝓤 H) (code.unfolded 𝓤 H 𝓜 𝓡)
     #g g.signature (g.spec 𝓤 H) code.calls-validity·is-valid (g-thm.met 𝓤 H 𝓜 𝓖 𝓡)
-    (λ W 𝓣. meets result valid 𝓤 H (𝓖 .A) W 𝓣 #g)
+    (λ W 𝓣. meets result (numbers []) (λ l _ _. valid l) 𝓤 H (𝓖 .A) W 𝓣 #g)
