@@ -33,23 +33,16 @@ use denote.Triple.Call.{calls-from}
 use Rattle.model.specs.declared.Layout.{Layout}
 use Rattle.model.proofs.Layout as L
 use Rattle.model.proofs.Layout.Laws as L′
+use Rattle.in_place.proofs.Passed.{from-at}
+pub use Rattle.in_place.proofs.Callee.{mach}
 
 -- ---- the layout and the answer, as the code has them
 abbrev pub layout-ref : Ty
 layout-ref = tyRef (named 0) mut (pointee (L.the-row .written))
 
--- a layout's machine value
-abbrev pub mach : Layout → Val
-mach d = LL.val L.the-type L′.the-laws d
-
 -- a refusal, a layout, and further fields
 abbrev pub answer-ty : Sym → Tys → Ty
 answer-ty ν τs = tyStruct ν (tcons (tyInt w8) (tcons L′.mir τs))
-
-module _ {M : Type 1} {𝓤 : URA M} {H : Heap 𝓤} {A : Atoms 𝓤} {K : Type 0} {W : Given 𝓤 H A} {Γ : List (Item 𝓤)} {E : Env 𝓤 H} where
-  -- a local whose place in the environment is known
-  pub from-at : K → {i : ℕ} {st : List PStep} {sp₀ sp : Spot 𝓤 H} → spotOf 𝓤 H E i ≡ sp₀ → Walks K W Γ E sp₀ st sp → Finds K W Γ E (place i st) sp
-  from-at k {i} {st} {sp₀} {sp} e ws = from k (subst (λ (s : Spot 𝓤 H). Walks K W Γ E s st sp) (sym e) ws)
 
 module _ {M : Type 1} {𝓤 : URA M} {H : Heap 𝓤} {A : Atoms 𝓤} {K : Type 0} {W : Given 𝓤 H A} {Γ : List (Item 𝓤)} where
   -- field i of a struct that lies at entry n of the context

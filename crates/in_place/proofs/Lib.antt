@@ -1,8 +1,8 @@
+pub mod OneCall
+pub mod Passed
+pub mod Callee
 pub mod Lent
-pub mod Lent0
-pub mod Lent1
-pub mod Lent2
-pub mod LentSlice
+pub mod LentCall
 pub mod Looked
 pub mod LookedSlice
 pub mod Answers
