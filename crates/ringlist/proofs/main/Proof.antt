@@ -14,10 +14,11 @@ use Rattle.ringlist.proofs.list.Reads as list-reads
 use Rattle.ringlist.proofs.read_input.Reads as read-input-reads
 
 -- what was read lies within the buffer
-within : (c : tie.After-known-told) → c .before .got .given .0 .0 ≤ length (c .before .before .before .before .read-input .last .0)
+within : (c : tie.After-known-told) → let read = c .before .before .before .before .read-input in c .before .got .given .0 .0 ≤ length (read .last .0)
 within c =
-    let read = c .before .before .before .before .read-input in
-    subst (λ (i : Input). Within i (length (read .last .0))) (c .before .got .given .1) (read .ensures)
+    let known = c .before in
+    let read = known .before .before .before .read-input in
+    subst (λ (i : Input). Within i (length (read .last .0))) (known .got .given .1) (read .ensures)
 
 -- src/main.rt:20:39
 slice-aggregate-read-input : tie.Need-slice-aggregate-read-input
