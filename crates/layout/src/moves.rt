@@ -1,15 +1,11 @@
 // Moving a vertex directly behind another (document 01: move).
 ghost use mathlib.Core.Path.{_≡_};
-ghost use mathlib.Core.Bool.{cond, _&&_};
-ghost use Prim.Native.Nat.{_<_};
-ghost use lib.Dec.{ltb};
-ghost use Rattle.model.specs.Lists.{place};
 ghost use Rattle.model.specs.Edits.{moveOf};
-ghost use Rattle.laws.specs.Orders.Moves.{movedFrom};
-ghost use Rattle.layout.specs.MovedPlaces.{shifted};
 use counting::recounted;
 use model::Changed;
 use model::Layout;
+use places::moved;
+use places::place_of;
 use validity::pair_refusal;
 
 pub fn move_after(l: Layout, a: usize, b: usize) -> Changed
@@ -28,65 +24,5 @@ pub fn move_after(l: Layout, a: usize, b: usize) -> Changed
     Changed {
         refusal: 0,
         layout: recounted(l, n, order, adjacency),
-    }
-}
-
-// The place of a vertex in an order, or the order's length where it has none.
-pub fn place_of(order: &[u8], v: usize) -> usize
-    ensures { λ r. ⌜ r ≡ place (now (order .entry)) v ⌝ }
-{
-    let mut i = 0;
-    while i < order.len() {
-        if order[i] as usize == v {
-            return i;
-        }
-        i += 1;
-    }
-    i
-}
-
-// The entries after the one at place p was taken out and put directly behind the one at place q.
-// A place of 64 or above changes nothing.
-pub fn moved(order: [u8; 64], p: usize, q: usize) -> [u8; 64]
-    ensures { λ r. ⌜ r ≡ cond (ltb p 64 && ltb q 64) (shifted order p q) order ⌝ }
-{
-    if 64 <= p {
-        return order;
-    }
-    if 64 <= q {
-        return order;
-    }
-    let mut next = order;
-    let mut i = 0;
-    while i < 64 {
-        next[i] = order[moved_from(p, q, i)];
-        i += 1;
-    }
-    next
-}
-
-// The place before the move of the entry that stands at place i after it.
-fn moved_from(p: usize, q: usize, i: usize) -> usize
-    requires { ⌜ (p < 64) × (q < 64) × (i < 64) ⌝ }
-    ensures { λ r. ⌜ (r ≡ movedFrom p q i) × (r < 64) ⌝ }
-{
-    if q < p {
-        if i <= q {
-            i
-        } else if i == q + 1 {
-            p
-        } else if i <= p {
-            i - 1
-        } else {
-            i
-        }
-    } else if i < p {
-        i
-    } else if i < q {
-        i + 1
-    } else if i == q {
-        p
-    } else {
-        i
     }
 }

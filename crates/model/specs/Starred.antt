@@ -134,5 +134,10 @@ holds l (settling limit rounds settled count o) =
 
 -- every claim of the table holds, by computation
 pub starred-holds : T (every (λ row. every (holds (layoutOf (row .ring))) (row .claims)) starred)
-unfolding starred first complete _to_ layoutOf sameEdges gives holds one upto every any keep firstWith sumOver sumPairs noRepeats member occurrences place bit linked edges between alternate crosses crossings vertexOrder crossingsOf eachOnce zeroFrom symmetric loopless bitsBelow valid carried changed reordered refusal byRefusal checked isValid isVertex differ limitFits changedOr insertAfter movedAfter moveChecks moveOf pairWith orElse firstPair firstCrossingOf unplaced degreeIn preferred bestOf nextVertex closing open′ frontCrossings backCrossings placeVertex placeMore placeAll layChecks layOf clockwiseFrom candidates least leastCrossings improves siftedOrder sifted reduction siftChecks siftOf moves siftAll siftRound roundOf afterRound stopped roundsUpTo settleChecks settleOf sameList sameEdge joins wordIn flatMap xor
+unfolding starred first complete _to_ layoutOf sameEdges gives holds one upto every any keep firstWith sumOver sumPairs noRepeats member occurrences
+    place bit linked edges between alternate crosses crossings vertexOrder crossingsOf eachOnce zeroFrom symmetric loopless bitsBelow valid carried
+    changed reordered refusal byRefusal checked isValid isVertex differ limitFits changedOr insertAfter movedAfter moveChecks moveOf pairWith orElse
+    firstPair firstCrossingOf unplaced degreeIn preferred bestOf nextVertex closing open′ frontCrossings backCrossings placeVertex placeMore placeAll
+    layChecks layOf clockwiseFrom candidates least leastCrossings improves siftedOrder sifted reduction siftChecks siftOf moves siftAll siftRound
+    roundOf afterRound stopped roundsUpTo settleChecks settleOf sameList sameEdge joins wordIn flatMap xor
 starred-holds = tt

@@ -18,7 +18,7 @@ use Rattle.laws.specs.Sums.Indicators.{less, same, more, order}
 use Rattle.laws.specs.Orders.Permutations.{at, Permutation, at-lt, place-below, place-of-at}
 use Rattle.laws.specs.Layouts.Recount.{Drawn, counted, counted-crossings}
 use Rattle.laws.specs.Orders.Moves.{moved-permutation}
-use Rattle.layout.specs.MovedPlaces.{shifted, shifted-moved}
+use Rattle.places.specs.MovedPlaces.{shifted, shifted-moved}
 use Rattle.laws.specs.Sifting.LocalSearch.{least-default, least-some}
 use Rattle.laws.specs.Sifting.Candidates.{clockwise-length, clockwise-behind, clockwise-before}
 

@@ -8,8 +8,8 @@ ghost use Rattle.model.specs.Sifting.{leastCrossings, siftedOrder};
 ghost use Rattle.laws.specs.Layouts.Recount.{Drawn};
 ghost use Rattle.sifting.specs.Walk.{turned as turnedPlace};
 use counting::count_crossings;
-use layout::moved;
-use layout::place_of;
+use places::moved;
+use places::place_of;
 
 // The order after a sift, and the crossings before and after it.
 pub struct Walk {

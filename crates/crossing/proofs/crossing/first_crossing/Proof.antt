@@ -16,7 +16,7 @@ accepted c = subst T (sym (test-held (c .before .is-valid .ensures) (c .if1 .lef
 
 -- from where the edges are listed to where the check was passed
 abbrev past-check : tie.After-highs → tie.Else1
-past-check c = c .before .before .before .before .before
+past-check c = let copied = c .before .before in copied .before .before .before
 
 is-valid-requires : tie.Need-is-valid-requires
 is-valid-requires c κs = search needs
@@ -39,7 +39,7 @@ list-edges-requires c κs = (sound _ (accepted (past-check c)) .small, search ne
 
 -- from where they are searched to where they were listed
 abbrev listing : tie.After-highs3 → tie.After-list-edges
-listing c = c .before .before .before .before .before
+listing c = let lent = c .before .before in lent .before .before .before
 
 slice-aggregate-first-pair : tie.Need-slice-aggregate-first-pair
 slice-aggregate-first-pair c = search needs

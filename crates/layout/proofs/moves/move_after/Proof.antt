@@ -10,7 +10,7 @@ use Rattle.model.specs.Layouts.{vertexOrder}
 use Rattle.laws.specs.Layouts.Validity.{sound}
 use Rattle.laws.specs.Layouts.Refusals.{Pair, pair-passed, changed-refused, changed-accepted}
 use Rattle.laws.specs.Layouts.Reordering.{movedLayout}
-use Rattle.layout.specs.MovedPlaces.{moved-array, move-recounted}
+use Rattle.places.specs.MovedPlaces.{moved-array, move-recounted}
 use Rattle.layout.proofs.moves.move_after.Statement.{statement}
 use Rattle.layout.proofs.moves.move_after.Tie as tie
 

@@ -38,7 +38,8 @@ returns-2 c =
     let refused = put .before .before .before in
     let read = refused .before in
     let s = start read .args .bytes .now in
-    listed-as s _ (read .before .if1 .left) (listing-refused s (read .read .ensures) (refused .if2 .taken)) (written-whole (put .put-line .ensures .fits (omega arith)))
+    listed-as s _ (read .before .if1 .left) (listing-refused s (read .read .ensures) (refused .if2 .taken))
+    (written-whole (put .put-line .ensures .fits (omega arith)))
 
 list-layout-requires : tie.Need-list-layout-requires
 list-layout-requires c κs =

@@ -52,7 +52,8 @@ loop-again c =
     let old = turn .before in (
       omega (arith, turn .loop-test .taken),
       omega (arith, old .loop .inv .1, put .bound),
-      rw (flatMap-next spaced (start old .args .bytes .now) (old .loop .i) (turn .loop-test .taken)) (behind (old .loop .inv .2) (put .fits (room turn)) (fits old)),
+      rw (flatMap-next spaced (start old .args .bytes .now) (old .loop .i) (turn .loop-test .taken))
+          (behind (old .loop .inv .2) (put .fits (room turn)) (fits old)),
     )
 
 same-length : tie.Need-same-length Inv-loop μ-loop

@@ -22,8 +22,10 @@ returns : tie.Need-returns
 unfolding text upto
 returns c =
     let end = c .before .before in
-    let number = end .before .before .before .before in
-    let named = number .before .before .before .before .copy-text .ensures in
+    let end-from = end .before .before in
+    let number = end-from .before .before in
+    let number-from = number .before .before in
+    let named = number-from .before .before .copy-text .ensures in
     let numbered = number .put-number .ensures .fits (omega (arith, named .place)) in
     (behind (behind named numbered (omega arith)) (end .put-byte .ensures) (omega arith), omega (arith, end .put-byte .ensures .place))
 

@@ -7,8 +7,8 @@ use mathlib.Core.Bool.{false}
 use lib.Dec.{eqb}
 use borrow.Author.Tests.{lt-ltb, le-ltb, le-leb, lt-leb, eq-eqb, ne-eqb}
 use Rattle.laws.specs.Orders.Moves.{movedFrom}
-use Rattle.layout.proofs.moves.moved_from.Statement.{statement}
-use Rattle.layout.proofs.moves.moved_from.Tie as tie
+use Rattle.places.proofs.moved_from.Statement.{statement}
+use Rattle.places.proofs.moved_from.Tie as tie
 
 add-if3 : tie.Need-add-if3
 add-if3 c = search needs

@@ -4,9 +4,9 @@ use native.Mathlib.Omega.{arith}
 use mathlib.Core.Path.{ap}
 use lib.ListN.{getD}
 use borrow.Author.Tests.{lt-ltb, le-ltb}
-use Rattle.layout.specs.MovedPlaces.{ShiftedUpTo, shifted-start, shifted-next, shifted-end}
-use Rattle.layout.proofs.moves.moved.Statement.{statement}
-use Rattle.layout.proofs.moves.moved.Tie as tie
+use Rattle.places.specs.MovedPlaces.{ShiftedUpTo, shifted-start, shifted-next, shifted-end}
+use Rattle.places.proofs.moved.Statement.{statement}
+use Rattle.places.proofs.moved.Tie as tie
 
 abbrev Inv-loop : tie.InvT-loop
 Inv-loop p q order next₀ i₀ next i = ShiftedUpTo order p q next i

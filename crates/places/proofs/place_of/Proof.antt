@@ -3,9 +3,9 @@ use native.Mathlib.Omega.{arith}
 use mathlib.Core.Path.{_≡_}
 use lib.ListN.{length, getD}
 use borrow.Author.Count.{below-more}
-use Rattle.layout.specs.MovedPlaces.{NotBefore, place-found, place-missing}
-use Rattle.layout.proofs.moves.place_of.Statement.{statement}
-use Rattle.layout.proofs.moves.place_of.Tie as tie
+use Rattle.places.specs.MovedPlaces.{NotBefore, place-found, place-missing}
+use Rattle.places.proofs.place_of.Statement.{statement}
+use Rattle.places.proofs.place_of.Tie as tie
 
 abbrev Inv-loop : tie.InvT-loop
 Inv-loop order v i₀ i = NotBefore v order i
