@@ -1,15 +1,23 @@
--- The answers of the calls, as `Lent` asks for them: where the layout and the numbers stand in each, and what is returned of it.
-use mathlib.Core.Path.{ap, refl}
+-- The answers of the calls, as `Lent` and `Looked` ask for them.
+--     code, truth, struct T    what is returned: a refusal code, a truth value, a struct
+--     code-only T, reports T T′    an answer of the type T of which the refusal code is returned, or the fields but the layout, as the type T′.        Each takes what the answer has behind
+--                              the layout, and that T has these fields and nothing else: refl
+use mathlib.Core.Path.{_≡_, refl, ap, subst, _∙_, sym}
 use mathlib.Core.List.{List, [], _∷_, map}
 use Prim.Native.Nat.{ℕ}
-use mir.Syntax.{w8, w32, w64, tyInt, tyBool, tcons, tnil, Rv as RValue, rvOpd, aggregate, copy, place, field}
-use mir.Val.{vint, vbool, vcons, vnil}
-use types.Run.{of-opd, and-then, no-more}
+use mir.Syntax.{w8, w32, w64, Tys, tyInt, tyBool, tcons, tnil, rvOpd, aggregate, copy, place, field}
+use mir.Val.{Val, Vals, vint, vbool, vstruct, vcons, vnil, ofList}
+use mir.Fields.{getV}
+use types.Run.{Rv, of-opd}
 use types.Part.{agg}
-use denote.Builtin.{u8}
-use denote.Plain.{uint-lawful, uint-makes}
+use denote.Builtin.{u8, bool}
+use denote.Laws.{Typed, Is, valss}
+use denote.Plain.{uint-lawful, uint-makes, bool-lawful}
 use denote.Steps.{only}
+use denote.Struct.Struct.{layout as struct-ty, Plains, AreAll}
+use denote.Struct.Declared.{Declared, fields, shape, row}
 use denote.Struct.Laws as LL
+use Rattle.model.specs.declared.Layout.{Layout}
 use Rattle.model.specs.declared.Added.{Added}
 use Rattle.model.specs.declared.Appended.{Appended}
 use Rattle.model.specs.declared.Sifted.{Sifted}
@@ -20,6 +28,8 @@ use Rattle.model.specs.declared.AppendReport.{AppendReport}
 use Rattle.model.specs.declared.SiftReport.{SiftReport}
 use Rattle.model.specs.declared.RoundReport.{RoundReport}
 use Rattle.model.specs.declared.ConvergeReport.{ConvergeReport}
+use Rattle.model.proofs.Layout as L
+use Rattle.model.proofs.Layout.Laws as L′
 use Rattle.model.proofs.Changed as Changed
 use Rattle.model.proofs.Changed.Laws as Changed′
 use Rattle.model.proofs.ChartRead as ChartRead
@@ -44,152 +54,102 @@ use Rattle.model.proofs.Converged as Converged′
 use Rattle.model.proofs.Converged.Laws as Converged″
 use Rattle.model.proofs.ConvergeReport as ConvergeReport′
 use Rattle.model.proofs.ConvergeReport.Laws as ConvergeReport″
-use Rattle.in_place.proofs.Lent.{Answer, taken}
+use Rattle.in_place.proofs.Callee.{mach}
+use Rattle.in_place.proofs.Lent.{answer-ty, gathered, Found, gathers, Result, Answer, taken}
 
--- the fields is of local a, as a struct
-abbrev gathered : List ℕ → ℕ → RValue
-gathered is a = aggregate (map (λ i. copy (place a (field i ∷ []))) is)
+-- ---- what is returned
+abbrev pub code : Result u8
+code = record { returned = tyInt w8; typed = λ 𝓤 H A W r v is. uint-lawful 𝓤 H A W w8 .typed r _ is .0 }
+
+abbrev pub truth : Result bool
+truth = record { returned = tyBool; typed = λ 𝓤 H A W r v is. bool-lawful 𝓤 H A W .typed r _ is .0 }
+
+abbrev pub struct : (T : Declared) → LL.Laws T → Result (row T)
+struct T laws = record { returned = struct-ty (shape T); typed = λ 𝓤 H A W r v is. LL.lawful T laws 𝓤 H A W .typed r _ is .0 }
+
+-- ---- the answers. What is known of each field of a struct's value
+abbrev Known : (T : Declared) → LL.Laws T → T .D → Type 0
+Known T laws r = AreAll (fields T) (T .to r) (valss (fields T) (LL.spells (T .parts) laws) (T .to r))
+
+module _ (T : Declared) (laws : LL.Laws T) (others : Tys) (refusal : T .D → ℕ) (layout : T .D → Layout) (numbers : T .D → Vals) where
+  abbrev values : T .D → Vals
+  values r = vcons (vint w8 (refusal r)) (vcons (mach (layout r)) (numbers r))
+
+  module _ (mir-is : struct-ty (shape T) ≡ answer-ty (T .name) others) (val-is : (r : T .D) → LL.val T laws r ≡ vstruct (values r)) where
+    abbrev known-as : (r : T .D) (v : Val) → Is (row T) r (v ∷ []) → v ≡ vstruct (values r)
+    known-as r v is = ap only (LL.tells T laws r (v ∷ []) is) ∙ val-is r
+
+    abbrev pub code-only : ((r : T .D) → Known T laws r → Is L.the-row (layout r) (mach (layout r) ∷ []) × Is u8 (refusal r) (vint w8 (refusal r) ∷ [])) → Answer (row T) u8
+    code-only known = record {
+      name = T .name;
+      others = others;
+      refusal = refusal;
+      layout = layout;
+      numbers = numbers;
+      result = code;
+      report = refusal;
+      value = vint w8;
+      made = λ a. rvOpd (copy (place a (field 0 ∷ [])));
+      knows = λ r v is. let all = known r (LL.owed T laws r (v ∷ []) is) in (known-as r v is, all .0, all .1);
+      typed = λ 𝓤 H A W r v is. subst (λ τ. Typed (τ ∷ []) (v ∷ [])) mir-is (LL.lawful T laws 𝓤 H A W .typed r _ is) .0;
+      makes = λ 𝓤 H A W. uint-makes 𝓤 H A W w8;
+      makes-it = λ k r a l n here at. of-opd k (taken k n here at 0 refl);
+    }
+
+    abbrev pub reports : (T′ : Declared) (laws′ : LL.Laws T′) → Plains (fields T′) → (report : T .D → T′ .D)
+        → ((r : T .D) → Known T laws r → Is L.the-row (layout r) (mach (layout r) ∷ []) × Known T′ laws′ (report r))
+        → (is : List ℕ) → Found (tcons (tyInt w8) (tcons L′.mir others)) is → ((r : T .D) → vstruct (ofList (map (getV (values r)) is)) ≡ LL.val T′ laws′ (report r))
+        → Answer (row T) (row T′)
+    reports T′ laws′ plain report known is there same = record {
+      name = T .name;
+      others = others;
+      refusal = refusal;
+      layout = layout;
+      numbers = numbers;
+      result = struct T′ laws′;
+      report = report;
+      value = LL.val T′ laws′;
+      made = gathered is;
+      knows = λ r v is′. let all = known r (LL.owed T laws r (v ∷ []) is′) in (known-as r v is′, all .0, LL.owes T′ laws′ (report r) (all .1));
+      typed = λ 𝓤 H A W r v is′. subst (λ τ. Typed (τ ∷ []) (v ∷ [])) mir-is (LL.lawful T laws 𝓤 H A W .typed r _ is′) .0;
+      makes = λ 𝓤 H A W. LL.makes T′ plain 𝓤 H A;
+      makes-it = λ k r a l n here at. gathers k n a here at is there (same r);
+    }
 
 -- ---- the refusal code alone
-
 abbrev pub changed : Answer Changed.the-row u8
-changed = record {
-  name = Changed.struct .name;
-  others = tnil;
-  refusal = λ r. r .refusal;
-  layout = λ r. r .layout;
-  numbers = λ r. vnil;
-  returned = tyInt w8;
-  report = λ r. r .refusal;
-  value = vint w8;
-  made = λ a. rvOpd (copy (place a (field 0 ∷ [])));
-  knows = λ r v is.
-      let all = LL.owed Changed.the-type Changed′.the-laws r (v ∷ []) is in
-      (ap only (LL.tells Changed.the-type Changed′.the-laws r (v ∷ []) is), all .1 .0, all .0);
-  typed = λ 𝓤 H A W r v is. LL.lawful Changed.the-type Changed′.the-laws 𝓤 H A W .typed r _ is .0;
-  typed-report = λ 𝓤 H A W p is. uint-lawful 𝓤 H A W w8 .typed p _ is .0;
-  makes = λ 𝓤 H A W. uint-makes 𝓤 H A W w8;
-  makes-it = λ k r a l n here at. of-opd k (taken k n here at 0 refl);
-}
+changed = code-only Changed.the-type Changed′.the-laws tnil (λ r. r .refusal) (λ r. r .layout) (λ r. vnil) refl (λ r. refl) (λ r all. (all .1 .0, all .0))
 
 abbrev pub chart-read : Answer ChartRead.the-row u8
-chart-read = record {
-  name = ChartRead.struct .name;
-  others = tnil;
-  refusal = λ r. r .refusal;
-  layout = λ r. r .layout;
-  numbers = λ r. vnil;
-  returned = tyInt w8;
-  report = λ r. r .refusal;
-  value = vint w8;
-  made = λ a. rvOpd (copy (place a (field 0 ∷ [])));
-  knows = λ r v is.
-      let all = LL.owed ChartRead.the-type ChartRead′.the-laws r (v ∷ []) is in
-      (ap only (LL.tells ChartRead.the-type ChartRead′.the-laws r (v ∷ []) is), all .1 .0, all .0);
-  typed = λ 𝓤 H A W r v is. LL.lawful ChartRead.the-type ChartRead′.the-laws 𝓤 H A W .typed r _ is .0;
-  typed-report = λ 𝓤 H A W p is. uint-lawful 𝓤 H A W w8 .typed p _ is .0;
-  makes = λ 𝓤 H A W. uint-makes 𝓤 H A W w8;
-  makes-it = λ k r a l n here at. of-opd k (taken k n here at 0 refl);
-}
+chart-read = code-only ChartRead.the-type ChartRead′.the-laws tnil (λ r. r .refusal) (λ r. r .layout) (λ r. vnil) refl (λ r. refl) (λ r all. (all .1 .0, all .0))
 
 -- ---- the refusal code and numbers
-
 abbrev pub added : Answer Added′.the-row AddReport′.the-row
-added = record {
-  name = Added′.struct .name;
-  others = tcons (tyInt w64) tnil;
-  refusal = λ r. r .refusal;
-  layout = λ r. r .layout;
-  numbers = λ r. vcons (vint w64 (r .vertex)) vnil;
-  returned = AddReport″.mir;
-  report = λ r. record { refusal = r .refusal; vertex = r .vertex };
-  value = LL.val AddReport′.the-type AddReport″.the-laws;
-  made = gathered (0 ∷ 2 ∷ []);
-  knows = λ r v is.
-      let all = LL.owed Added′.the-type Added″.the-laws r (v ∷ []) is in
-      (ap only (LL.tells Added′.the-type Added″.the-laws r (v ∷ []) is), all .1 .0, LL.owes AddReport′.the-type AddReport″.the-laws _ (all .0, all .1 .1));
-  typed = λ 𝓤 H A W r v is. LL.lawful Added′.the-type Added″.the-laws 𝓤 H A W .typed r _ is .0;
-  typed-report = λ 𝓤 H A W p is. LL.lawful AddReport′.the-type AddReport″.the-laws 𝓤 H A W .typed p _ is .0;
-  makes = λ 𝓤 H A W. LL.makes AddReport′.the-type AddReport″.the-plain 𝓤 H A;
-  makes-it = λ k r a l n here at. agg k (and-then k (taken k n here at 0 refl) (and-then k (taken k n here at 2 refl) (no-more k)));
-}
+added = reports Added′.the-type Added″.the-laws (tcons (tyInt w64) tnil) (λ r. r .refusal) (λ r. r .layout)
+    (λ r. vcons (vint w64 (r .vertex)) vnil) refl (λ r. refl)
+    AddReport′.the-type AddReport″.the-laws AddReport″.the-plain (λ r. record { refusal = r .refusal; vertex = r .vertex }) (λ r all. (all .1 .0, (all .0, all .1 .1)))
+    (0 ∷ 2 ∷ []) ((_, refl), ((_, refl), tt)) (λ r. refl)
 
 abbrev pub appended : Answer Appended′.the-row AppendReport′.the-row
-appended = record {
-  name = Appended′.struct .name;
-  others = tcons (tyInt w32) tnil;
-  refusal = λ r. r .refusal;
-  layout = λ r. r .layout;
-  numbers = λ r. vcons (vint w32 (r .tally)) vnil;
-  returned = AppendReport″.mir;
-  report = λ r. record { refusal = r .refusal; tally = r .tally };
-  value = LL.val AppendReport′.the-type AppendReport″.the-laws;
-  made = gathered (0 ∷ 2 ∷ []);
-  knows = λ r v is.
-      let all = LL.owed Appended′.the-type Appended″.the-laws r (v ∷ []) is in
-      (ap only (LL.tells Appended′.the-type Appended″.the-laws r (v ∷ []) is), all .1 .0, LL.owes AppendReport′.the-type AppendReport″.the-laws _ (all .0, all .1 .1));
-  typed = λ 𝓤 H A W r v is. LL.lawful Appended′.the-type Appended″.the-laws 𝓤 H A W .typed r _ is .0;
-  typed-report = λ 𝓤 H A W p is. LL.lawful AppendReport′.the-type AppendReport″.the-laws 𝓤 H A W .typed p _ is .0;
-  makes = λ 𝓤 H A W. LL.makes AppendReport′.the-type AppendReport″.the-plain 𝓤 H A;
-  makes-it = λ k r a l n here at. agg k (and-then k (taken k n here at 0 refl) (and-then k (taken k n here at 2 refl) (no-more k)));
-}
+appended = reports Appended′.the-type Appended″.the-laws (tcons (tyInt w32) tnil) (λ r. r .refusal) (λ r. r .layout)
+    (λ r. vcons (vint w32 (r .tally)) vnil) refl (λ r. refl)
+    AppendReport′.the-type AppendReport″.the-laws AppendReport″.the-plain (λ r. record { refusal = r .refusal; tally = r .tally }) (λ r all. (all .1 .0, (all .0, all .1 .1)))
+    (0 ∷ 2 ∷ []) ((_, refl), ((_, refl), tt)) (λ r. refl)
 
 abbrev pub sifted : Answer Sifted′.the-row SiftReport′.the-row
-sifted = record {
-  name = Sifted′.struct .name;
-  others = tcons (tyInt w32) tnil;
-  refusal = λ r. r .refusal;
-  layout = λ r. r .layout;
-  numbers = λ r. vcons (vint w32 (r .reduction)) vnil;
-  returned = SiftReport″.mir;
-  report = λ r. record { refusal = r .refusal; reduction = r .reduction };
-  value = LL.val SiftReport′.the-type SiftReport″.the-laws;
-  made = gathered (0 ∷ 2 ∷ []);
-  knows = λ r v is.
-      let all = LL.owed Sifted′.the-type Sifted″.the-laws r (v ∷ []) is in
-      (ap only (LL.tells Sifted′.the-type Sifted″.the-laws r (v ∷ []) is), all .1 .0, LL.owes SiftReport′.the-type SiftReport″.the-laws _ (all .0, all .1 .1));
-  typed = λ 𝓤 H A W r v is. LL.lawful Sifted′.the-type Sifted″.the-laws 𝓤 H A W .typed r _ is .0;
-  typed-report = λ 𝓤 H A W p is. LL.lawful SiftReport′.the-type SiftReport″.the-laws 𝓤 H A W .typed p _ is .0;
-  makes = λ 𝓤 H A W. LL.makes SiftReport′.the-type SiftReport″.the-plain 𝓤 H A;
-  makes-it = λ k r a l n here at. agg k (and-then k (taken k n here at 0 refl) (and-then k (taken k n here at 2 refl) (no-more k)));
-}
+sifted = reports Sifted′.the-type Sifted″.the-laws (tcons (tyInt w32) tnil) (λ r. r .refusal) (λ r. r .layout)
+    (λ r. vcons (vint w32 (r .reduction)) vnil) refl (λ r. refl)
+    SiftReport′.the-type SiftReport″.the-laws SiftReport″.the-plain (λ r. record { refusal = r .refusal; reduction = r .reduction }) (λ r all. (all .1 .0, (all .0, all .1 .1)))
+    (0 ∷ 2 ∷ []) ((_, refl), ((_, refl), tt)) (λ r. refl)
 
 abbrev pub rounded : Answer Rounded′.the-row RoundReport′.the-row
-rounded = record {
-  name = Rounded′.struct .name;
-  others = tcons (tyInt w32) (tcons (tyInt w32) tnil);
-  refusal = λ r. r .refusal;
-  layout = λ r. r .layout;
-  numbers = λ r. vcons (vint w32 (r .reduction)) (vcons (vint w32 (r .moved)) vnil);
-  returned = RoundReport″.mir;
-  report = λ r. record { refusal = r .refusal; reduction = r .reduction; moved = r .moved };
-  value = LL.val RoundReport′.the-type RoundReport″.the-laws;
-  made = gathered (0 ∷ 2 ∷ 3 ∷ []);
-  knows = λ r v is.
-      let all = LL.owed Rounded′.the-type Rounded″.the-laws r (v ∷ []) is in
-      (ap only (LL.tells Rounded′.the-type Rounded″.the-laws r (v ∷ []) is), all .1 .0, LL.owes RoundReport′.the-type RoundReport″.the-laws _ (all .0, all .1 .1));
-  typed = λ 𝓤 H A W r v is. LL.lawful Rounded′.the-type Rounded″.the-laws 𝓤 H A W .typed r _ is .0;
-  typed-report = λ 𝓤 H A W p is. LL.lawful RoundReport′.the-type RoundReport″.the-laws 𝓤 H A W .typed p _ is .0;
-  makes = λ 𝓤 H A W. LL.makes RoundReport′.the-type RoundReport″.the-plain 𝓤 H A;
-  makes-it = λ k r a l n here at. agg k (and-then k (taken k n here at 0 refl) (and-then k (taken k n here at 2 refl) (and-then k (taken k n here at 3 refl) (no-more k))));
-}
+rounded = reports Rounded′.the-type Rounded″.the-laws (tcons (tyInt w32) (tcons (tyInt w32) tnil)) (λ r. r .refusal) (λ r. r .layout)
+    (λ r. vcons (vint w32 (r .reduction)) (vcons (vint w32 (r .moved)) vnil)) refl (λ r. refl)
+    RoundReport′.the-type RoundReport″.the-laws RoundReport″.the-plain (λ r. record { refusal = r .refusal; reduction = r .reduction; moved = r .moved }) (λ r all. (all .1 .0, (all .0, all .1 .1)))
+    (0 ∷ 2 ∷ 3 ∷ []) ((_, refl), ((_, refl), ((_, refl), tt))) (λ r. refl)
 
 abbrev pub converged : Answer Converged′.the-row ConvergeReport′.the-row
-converged = record {
-  name = Converged′.struct .name;
-  others = tcons (tyInt w32) (tcons (tyInt w32) (tcons tyBool tnil));
-  refusal = λ r. r .refusal;
-  layout = λ r. r .layout;
-  numbers = λ r. vcons (vint w32 (r .reduction)) (vcons (vint w32 (r .rounds)) (vcons (vbool (r .converged)) vnil));
-  returned = ConvergeReport″.mir;
-  report = λ r. record { refusal = r .refusal; reduction = r .reduction; rounds = r .rounds; converged = r .converged };
-  value = LL.val ConvergeReport′.the-type ConvergeReport″.the-laws;
-  made = gathered (0 ∷ 2 ∷ 3 ∷ 4 ∷ []);
-  knows = λ r v is.
-      let all = LL.owed Converged′.the-type Converged″.the-laws r (v ∷ []) is in
-      (ap only (LL.tells Converged′.the-type Converged″.the-laws r (v ∷ []) is), all .1 .0, LL.owes ConvergeReport′.the-type ConvergeReport″.the-laws _ (all .0, all .1 .1));
-  typed = λ 𝓤 H A W r v is. LL.lawful Converged′.the-type Converged″.the-laws 𝓤 H A W .typed r _ is .0;
-  typed-report = λ 𝓤 H A W p is. LL.lawful ConvergeReport′.the-type ConvergeReport″.the-laws 𝓤 H A W .typed p _ is .0;
-  makes = λ 𝓤 H A W. LL.makes ConvergeReport′.the-type ConvergeReport″.the-plain 𝓤 H A;
-  makes-it = λ k r a l n here at. agg k (and-then k (taken k n here at 0 refl) (and-then k (taken k n here at 2 refl) (and-then k (taken k n here at 3 refl) (and-then k (taken k n here at 4 refl) (no-more k)))));
-}
+converged = reports Converged′.the-type Converged″.the-laws (tcons (tyInt w32) (tcons (tyInt w32) (tcons tyBool tnil))) (λ r. r .refusal) (λ r. r .layout)
+    (λ r. vcons (vint w32 (r .reduction)) (vcons (vint w32 (r .rounds)) (vcons (vbool (r .converged)) vnil))) refl (λ r. refl)
+    ConvergeReport′.the-type ConvergeReport″.the-laws ConvergeReport″.the-plain (λ r. record { refusal = r .refusal; reduction = r .reduction; rounds = r .rounds; converged = r .converged }) (λ r all. (all .1 .0, (all .0, all .1 .1)))
+    (0 ∷ 2 ∷ 3 ∷ 4 ∷ []) ((_, refl), ((_, refl), ((_, refl), ((_, refl), tt)))) (λ r. refl)

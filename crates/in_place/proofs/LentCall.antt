@@ -61,7 +61,7 @@ module _ {R N : RattleType} (An : Answer R N) {m : ℕ} (ps : List (Passed m)) (
     lifetimes = suc m;
     outlives = [];
     params = suc (past ps 0);
-    locals = local (An .returned) valueLocal ∷ local layout-ref valueLocal ∷ locals ps (local (answer-ty (An .name) (An .others)) valueLocal ∷ local L′.mir valueLocal ∷ []);
+    locals = local (An .result .returned) valueLocal ∷ local layout-ref valueLocal ∷ locals ps (local (answer-ty (An .name) (An .others)) valueLocal ∷ local L′.mir valueLocal ∷ []);
     body = body answer (suc (suc (past ps 1))) (An .made answer) g (copies (λ n. suc (suc n)) ps) return;
   }
 

@@ -36,7 +36,8 @@ use Rattle.model.specs.declared.Layout.{Layout}
 use Rattle.model.proofs.Layout as L
 use Rattle.model.proofs.Layout.Laws as L′
 use Rattle.in_place.proofs.Callee.{mach}
-use Rattle.in_place.proofs.Looked.{Result, look-ref, looked, lent, copied}
+use Rattle.in_place.proofs.Lent.{Result}
+use Rattle.in_place.proofs.Looked.{look-ref, looked, lent, copied}
 
 module _ {N : RattleType} (Re : Result N) (F : Layout → List ℕ → N .Denot) (G : Layout → List ℕ → List ℕ) where
   -- ---- the callee
