@@ -37,6 +37,8 @@ use Rattle.in_place.proofs.Passed
 use Rattle.in_place.proofs.Passed.{Passed, Values, Fit, outers, inners, stays, locals, past, copies, spells, tellss, machine, overs, within, lasts, fits, handed, had, goes, lends, beyond, alloc-all, pass-all, free-all, with-head, read-all}
 use Rattle.in_place.proofs.Callee.{Callee, to-g, told, asks, answers}
 use Rattle.in_place.proofs.Lent.{layout-ref, answer-ty, Answer, body, core}
+pub use Rattle.in_place.proofs.Passed.{numbers, bytes}
+pub use Rattle.in_place.proofs.OneCall.{calling}
 
 module _ {R N : RattleType} (An : Answer R N) {m : ℕ} (ps : List (Passed m)) (F : Layout → (κs : Lfts m) → Denots (typesAt (inners ps) κs) → R .Denot) where
   abbrev ended : Ended
@@ -115,9 +117,9 @@ module _ {R N : RattleType} (An : Answer R N) {m : ℕ} (ps : List (Passed m)) (
         move ! (6 ∷ 13 ∷ []) $ free1 ! $ move ! (3 ∷ 11 ∷ []) $ free1 ! $ move ! (7 ∷ []) $ free-all ! ps bs κs a $ move ! (4 ∷ 8 ∷ []) $ free1 ! $ move ! (3 ∷ 6 ∷ []) $ free1 ! $ free0 ! $
         by ! (exits r e is)))))))
 
-  module _ {M : Type 1} (𝓤 : URA M) (H : Heap 𝓤) (A : Atoms 𝓤) (W : Given 𝓤 H A) where
-    pub meets : (𝓣 : Tables 𝓤 H) (g : Name) → Triple 𝓤 (𝓣 .C g) (Callee ps R F 𝓤 H A) → Meets 𝓤 H A (ended .signature) (WpFn 𝓤 H (𝓣 .C) (𝓣 .Λ) (function g)) (closing 𝓤 H A ended (clauses 𝓤))
-    meets 𝓣 g known =
+  module _ (g : Name) {M : Type 1} (𝓤 : URA M) (H : Heap 𝓤) (A : Atoms 𝓤) (W : Given 𝓤 H A) where
+    pub meets : (𝓣 : Tables 𝓤 H) → Triple 𝓤 (𝓣 .C g) (Callee ps R F 𝓤 H A) → Meets 𝓤 H A (ended .signature) (WpFn 𝓤 H (𝓣 .C) (𝓣 .Λ) (function g)) (closing 𝓤 H A ended (clauses 𝓤))
+    meets 𝓣 known =
         walk-meets 𝓤 H A ended stayed W (goes-ref 𝓤 H A W (suc m) 0 tt (plain (λ _. L.the-row)), goes 𝓤 H A W ps) (clauses 𝓤) (WpFn 𝓤 H (𝓣 .C) (𝓣 .Λ) (function g)) (WpFn-mono 𝓤 H (W .laws) 𝓣 (function g))
         (walked 𝓤 H A ended stayed (clauses 𝓤) (WpFn 𝓤 H (𝓣 .C) (𝓣 .Λ) (function g)) (λ κs. (ptr-vals, spells κs ps)) (λ κs. (mut-tells (named 0) (κs .0) L.the-row, tellss κs ps))
         (λ κs qs bounds a _ are. via 𝓤 _ (fst∗ 𝓤 _ (emp 𝓤))

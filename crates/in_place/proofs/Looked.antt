@@ -40,6 +40,8 @@ use Rattle.model.proofs.Layout.Laws as L′
 use Rattle.in_place.proofs.Passed.{Passed, Values, Fit, outers, inners, stays, locals, past, copies, spells, tellss, machine, overs, within, lasts, fits, handed, had, goes, lends, beyond, from-at, alloc-all, pass-all, free-all, with-head, read-all}
 use Rattle.in_place.proofs.Callee.{mach, Callee, to-g, told, asks, answers}
 use Rattle.in_place.proofs.Lent.{Result}
+pub use Rattle.in_place.proofs.Passed.{numbers, bytes}
+pub use Rattle.in_place.proofs.OneCall.{calling}
 
 abbrev pub look-ref : Ty
 look-ref = tyRef (named 0) imm (pointee (L.the-row .written))
@@ -142,9 +144,9 @@ module _ {N : RattleType} (Re : Result N) {m : ℕ} (ps : List (Passed m)) (F : 
         returns ! (look ! 11 refl) $ forget ! 7 refl $ forget ! 9 refl $ forget ! 11 refl $ move ! (11 ∷ 12 ∷ []) $ free1 ! $ move ! (9 ∷ 10 ∷ []) $ free1 ! $
         move ! (6 ∷ []) $ free-all ! ps bs κs a $ move ! (6 ∷ 7 ∷ []) $ free1 ! $ free0 ! $ keep ! (2 ∷ 1 ∷ 5 ∷ 3 ∷ 4 ∷ 0 ∷ []) $ by ! (exits r v e))))))))))
 
-  module _ {M : Type 1} (𝓤 : URA M) (H : Heap 𝓤) (A : Atoms 𝓤) (W : Given 𝓤 H A) where
-    pub meets : (𝓣 : Tables 𝓤 H) (g : Name) → Triple 𝓤 (𝓣 .C g) (Callee ps N F 𝓤 H A) → Meets 𝓤 H A (ended .signature) (WpFn 𝓤 H (𝓣 .C) (𝓣 .Λ) (function g)) (closing 𝓤 H A ended (clauses 𝓤))
-    meets 𝓣 g known =
+  module _ (g : Name) {M : Type 1} (𝓤 : URA M) (H : Heap 𝓤) (A : Atoms 𝓤) (W : Given 𝓤 H A) where
+    pub meets : (𝓣 : Tables 𝓤 H) → Triple 𝓤 (𝓣 .C g) (Callee ps N F 𝓤 H A) → Meets 𝓤 H A (ended .signature) (WpFn 𝓤 H (𝓣 .C) (𝓣 .Λ) (function g)) (closing 𝓤 H A ended (clauses 𝓤))
+    meets 𝓣 known =
         walk-meets 𝓤 H A ended stayed W (goes-none-ref 𝓤 H A W (suc m) (0 ∷ []) tt (plain (λ _. L.the-row)) yes, goes 𝓤 H A W ps) (clauses 𝓤)
         (WpFn 𝓤 H (𝓣 .C) (𝓣 .Λ) (function g)) (WpFn-mono 𝓤 H (W .laws) 𝓣 (function g))
         (walked 𝓤 H A ended stayed (clauses 𝓤) (WpFn 𝓤 H (𝓣 .C) (𝓣 .Λ) (function g)) (λ κs. (ptr-vals, spells κs ps)) (λ κs. (shr-tells (named 0) (κs .0) L.the-row, tellss κs ps))

@@ -38,6 +38,7 @@ use Rattle.model.proofs.Layout.Laws as L′
 use Rattle.in_place.proofs.Callee.{mach}
 use Rattle.in_place.proofs.Lent.{Result}
 use Rattle.in_place.proofs.Looked.{look-ref, looked, lent, copied}
+pub use Rattle.in_place.proofs.OneCall.{calling}
 
 module _ {N : RattleType} (Re : Result N) (F : Layout → List ℕ → N .Denot) (G : Layout → List ℕ → List ℕ) where
   -- ---- the callee
@@ -157,9 +158,9 @@ module _ {N : RattleType} (Re : Result N) (F : Layout → List ℕ → N .Denot)
           move ! (19 ∷ 20 ∷ []) $ free1 ! $ move ! (17 ∷ 18 ∷ []) $ free1 ! $ move ! (15 ∷ 16 ∷ []) $ free1 ! $ move ! (13 ∷ 14 ∷ []) $ free1 ! $ move ! (11 ∷ 12 ∷ []) $ free1 ! $ move ! (9 ∷ 10 ∷ []) $ free1 ! $ free0 ! $
           keep ! (5 ∷ 1 ∷ 8 ∷ 6 ∷ 2 ∷ 0 ∷ []) $ by ! (exits r v (zs .1 .0) e e′ l)))))))))))))))
 
-  module _ {M : Type 1} (𝓤 : URA M) (H : Heap 𝓤) (A : Atoms 𝓤) (W : Given 𝓤 H A) where
-    pub meets : (𝓣 : Tables 𝓤 H) (g : Name) → Triple 𝓤 (𝓣 .C g) (Callee 𝓤 H A) → Meets 𝓤 H A (ended .signature) (WpFn 𝓤 H (𝓣 .C) (𝓣 .Λ) (function g)) (closing 𝓤 H A ended (clauses 𝓤))
-    meets 𝓣 g known =
+  module _ (g : Name) {M : Type 1} (𝓤 : URA M) (H : Heap 𝓤) (A : Atoms 𝓤) (W : Given 𝓤 H A) where
+    pub meets : (𝓣 : Tables 𝓤 H) → Triple 𝓤 (𝓣 .C g) (Callee 𝓤 H A) → Meets 𝓤 H A (ended .signature) (WpFn 𝓤 H (𝓣 .C) (𝓣 .Λ) (function g)) (closing 𝓤 H A ended (clauses 𝓤))
+    meets 𝓣 known =
         walk-meets 𝓤 H A ended stayed W
         (goes-none-ref 𝓤 H A W 2 (0 ∷ []) tt (plain (λ _. L.the-row)) yes, (goes-gave-slice 𝓤 H A W 2 1 tt (plain (λ _. u8)), tt)) (clauses 𝓤)
         (WpFn 𝓤 H (𝓣 .C) (𝓣 .Λ) (function g)) (WpFn-mono 𝓤 H (W .laws) 𝓣 (function g))
