@@ -1,8 +1,7 @@
 pub mod OneCall
 pub mod Passed
 pub mod Callee
+pub mod Answers
 pub mod Lent
-pub mod LentCall
 pub mod Looked
 pub mod LookedSlice
-pub mod Answers

@@ -38,8 +38,8 @@ use Rattle.model.specs.declared.Layout.{Layout}
 use Rattle.model.proofs.Layout as L
 use Rattle.model.proofs.Layout.Laws as L′
 use Rattle.in_place.proofs.Passed.{Passed, Values, Fit, outers, inners, stays, locals, past, copies, spells, tellss, machine, overs, within, lasts, fits, handed, had, goes, lends, beyond, from-at, alloc-all, pass-all, free-all, with-head, read-all}
-use Rattle.in_place.proofs.Callee.{mach, Callee, to-g, told, asks, answers}
-use Rattle.in_place.proofs.Lent.{Result}
+use Rattle.in_place.proofs.Callee.{mach, Callee, to-g, told, asks, Answered, answers}
+use Rattle.in_place.proofs.Answers.{Result}
 pub use Rattle.in_place.proofs.Passed.{numbers, bytes}
 pub use Rattle.in_place.proofs.OneCall.{calling}
 
@@ -108,41 +108,43 @@ module _ {N : RattleType} (Re : Result N) {m : ℕ} (ps : List (Passed m)) (F : 
     abbrev tokens : Item 𝓤
     tokens = raw (toks 𝓤 A m (κs .1) (qs .1))
 
-    abbrev to : N .Denot
-    to = told ps N F 𝓤 H A W κs (qs .1) h a
-
     -- at exit: [the layout's token; the parameters' tokens; res; the borrow; what the parameters own; what is returned]
     abbrev held : N .Denot → Val → List (Item 𝓤)
     held r v = ‵ (flft (κs .0) (qs .0)) ∷ tokens ∷ ‵ (fres γ (L.the-row .coded .code h)) ∷ ‵ (lent (κs .0) h b o) ∷ ‵ (had κs ps a) ∷ ‵ (N .own r (v ∷ [])) ∷ []
 
-    exits : (r : N .Denot) (v : Val) → r ≡ to → ent 𝓤 (⋆ 𝓤 H A (held r v)) (Post v)
+    exits : (r : N .Denot) (v : Val) → r ≡ told ps N F κs h a → ent 𝓤 (⋆ 𝓤 H A (held r v)) (Post v)
     exits r v e =
         qed W (held r v) ∵ suffices ! _ (ends-at 𝓤 H A ended stayed (clauses 𝓤) W bound v r (tt, lasts κs ps a) (tt, fits κs ps a)) $ says ! e $
         join ! $ frame ! $ feqI ! (List Val) (vptr b o ∷ []) (vptr b o ∷ []) refl $ fjoin3 ! $ fjoin ! $ frame ! $ done !
 
-    walk : (C : Calls 𝓤 H) (Λ : Loops 𝓤 H) → FmC 𝓤 H (W .laws) C → (g : Name) → Triple 𝓤 (C g) (Callee ps N F 𝓤 H A) → Fit κs ps a
-        → ent 𝓤 (onEntry 𝓤 H A (ended .signature) κs qs x (vptr b o ∷ [], machine κs ps a))
-        (WpFn 𝓤 H C Λ (function g) (vptr b o ∷ flat (typesAt (outers ps) κs) (machine κs ps a)) Post)
-    walk C Λ fm g known are =
-        qed W ((‵ (flft (κs .0) (qs .0)) ⊛ tokens) ∷ ‵ (owns (ShrRef (named 0) (κs .0) L.the-row ∷ typesAt (outers ps) κs) x (vptr b o ∷ [], machine κs ps a)) ∷ []) ∵
-        enter ! C Λ (function g) (vptr b o ∷ flat (typesAt (outers ps) κs) (machine κs ps a)) _ $
-        alloc1 ! (λ l₀. alloc1 ! (λ l₁. alloc-all ! ps (λ bs. alloc1 ! (λ l₂. alloc0 ! $ params1 ! $ pass1 ! (init ! 3 refl (tt, tt)) $
-        move ! (2 ∷ []) $ pass-all ! ps bs κs a are ((L′.mir, l₂) ∷ []) $
-        -- [the parameters' locals; _t; …; _1; …; _0; …; the tokens; what the layout's reference and the parameters own]
-        move ! (8 ∷ []) $ fsplit ! $ fsplit3 ! $ drop ! $ move ! (2 ∷ []) $ use1 W (‵ (handed κs ps a) ⊛ ‵ (had κs ps a)) (lends 𝓤 H A W ps κs a) $ split ! $
-        move ! (11 ∷ []) $ split ! $ move ! (1 ∷ 2 ∷ []) $ join ! $ move ! (4 ∷ 1 ∷ []) $
-        -- [the borrow; the layout's token; what the callee gets; what the parameters own; res; their locals; _t; …; _1; …; _0; …]
-        copied ! (κs .0) (qs .0) h b o 6 4 passed refl (beyond 𝓤 H ps bs _ 0) refl refl (λ was.
-        move ! (2 ∷ []) $ use1 W (raw (Callee ps N F 𝓤 H A .pre (to-g ps N F 𝓤 H A W κs (qs .1) h a))) (asks ps N F 𝓤 H A W κs (qs .1) h a was) $
-        calls-from ! fm (raw (Callee ps N F 𝓤 H A .pre (to-g ps N F 𝓤 H A W κs (qs .1) h a))) (mach h ∷ flat (typesAt (inners ps) (κs .1)) (within κs ps a))
-        (Callee ps N F 𝓤 H A .post (to-g ps N F 𝓤 H A W κs (qs .1) h a)) (known (to-g ps N F 𝓤 H A W κs (qs .1) h a))
-        (and-then ! (load ! (from-at ! (beyond 𝓤 H ps bs _ 0) (stop !)) (look ! 6 refl)) (with-head ! 5 (read-all ! ps bs κs a (λ n. suc (suc n)) _ (λ n. refl)))) (λ v.
-        use1 W (later (some (λ (r : N .Denot). given (r ≡ to) (tokens ⊛ ‵ (N .own r (v ∷ [])))))) (answers ps N F 𝓤 H A W κs (qs .1) h a v) $ await ! tt $ pick ! (λ r. learn ! (λ e.
-        split ! $ move ! (1 ∷ []) $ peeks ! N (Is N) (shows 𝓤 H A N) r (v ∷ []) (λ is.
-        -- [what is returned; the parameters' tokens; the layout's; the borrow; what the parameters own; res; their locals; _t; …; _1; …; _0; …]
-        land ! (from ! (stop !)) (init ! 11 refl (Re .typed 𝓤 H A W r v is)) $
-        returns ! (look ! 11 refl) $ forget ! 7 refl $ forget ! 9 refl $ forget ! 11 refl $ move ! (11 ∷ 12 ∷ []) $ free1 ! $ move ! (9 ∷ 10 ∷ []) $ free1 ! $
-        move ! (6 ∷ []) $ free-all ! ps bs κs a $ move ! (6 ∷ 7 ∷ []) $ free1 ! $ free0 ! $ keep ! (2 ∷ 1 ∷ 5 ∷ 3 ∷ 4 ∷ 0 ∷ []) $ by ! (exits r v e))))))))))
+    module _ (C : Calls 𝓤 H) (Λ : Loops 𝓤 H) (fm : FmC 𝓤 H (W .laws) C) (g : Name) (known : Triple 𝓤 (C g) (Callee ps N F 𝓤 H A)) (are : Fit κs ps a) where
+      abbrev y : Callee ps N F 𝓤 H A .Ghost
+      y = to-g ps N F κs h a 𝓤 H A W (qs .1)
+
+      walk : ent 𝓤 (onEntry 𝓤 H A (ended .signature) κs qs x (vptr b o ∷ [], machine κs ps a))
+          (WpFn 𝓤 H C Λ (function g) (vptr b o ∷ flat (typesAt (outers ps) κs) (machine κs ps a)) Post)
+      walk =
+          qed W ((‵ (flft (κs .0) (qs .0)) ⊛ tokens)
+          ∷ ‵ (owns (ShrRef (named 0) (κs .0) L.the-row ∷ typesAt (outers ps) κs) x (vptr b o ∷ [], machine κs ps a)) ∷ []) ∵
+          enter ! C Λ (function g) (vptr b o ∷ flat (typesAt (outers ps) κs) (machine κs ps a)) _ $
+          alloc1 ! (λ l₀. alloc1 ! (λ l₁. alloc-all ! ps (λ bs. alloc1 ! (λ l₂. alloc0 ! $ params1 ! $ pass1 ! (init ! 3 refl (tt, tt)) $
+          move ! (2 ∷ []) $ pass-all ! ps bs κs a are ((L′.mir, l₂) ∷ []) $
+          -- [the parameters' locals; passed; …; _1; …; _0; …; the tokens; what the layout's reference and the parameters own]
+          move ! (8 ∷ []) $ fsplit ! $ fsplit3 ! $ drop ! $
+          move ! (2 ∷ []) $ use1 W (‵ (handed κs ps a) ⊛ ‵ (had κs ps a)) (lends 𝓤 H A W ps κs a) $ split ! $
+          move ! (11 ∷ []) $ split ! $ move ! (1 ∷ 2 ∷ []) $ join ! $ move ! (4 ∷ 1 ∷ []) $
+          -- [the borrow; the layout's token; what the callee gets; what the parameters own; res; their locals; passed; …; _1; …; _0; …]
+          copied ! (κs .0) (qs .0) h b o 6 4 passed refl (beyond 𝓤 H ps bs _ 0) refl refl (λ was.
+          move ! (2 ∷ []) $ use1 W (raw (Callee ps N F 𝓤 H A .pre y)) (asks ps N F κs h a 𝓤 H A W (qs .1) was) $
+          calls-from ! fm (raw (Callee ps N F 𝓤 H A .pre y)) (mach h ∷ flat (typesAt (inners ps) (κs .1)) (within κs ps a)) (Callee ps N F 𝓤 H A .post y) (known y)
+          (and-then ! (load ! (from-at ! (beyond 𝓤 H ps bs _ 0) (stop !)) (look ! 6 refl))
+          (with-head ! 5 (read-all ! ps bs κs a (λ n. suc (suc n)) _ (λ n. refl)))) (λ v.
+          use1 W (Answered ps N F κs h a 𝓤 H A W (qs .1) v) (answers ps N F κs h a 𝓤 H A W (qs .1) v) $ await ! tt $ pick ! (λ r. learn ! (λ e.
+          split ! $ move ! (1 ∷ []) $ peeks ! N (Is N) (shows 𝓤 H A N) r (v ∷ []) (λ is.
+          -- [what is returned; the parameters' tokens; the layout's; the borrow; what the parameters own; res; their locals; passed; …; _1; …; _0; …]
+          land ! (from ! (stop !)) (init ! 11 refl (Re .typed 𝓤 H A W r v is)) $ returns ! (look ! 11 refl) $ forget ! 7 refl $ forget ! 9 refl $ forget ! 11 refl $
+          move ! (11 ∷ 12 ∷ []) $ free1 ! $ move ! (9 ∷ 10 ∷ []) $ free1 ! $ move ! (6 ∷ []) $ free-all ! ps bs κs a $ move ! (6 ∷ 7 ∷ []) $ free1 ! $ free0 ! $
+          keep ! (2 ∷ 1 ∷ 5 ∷ 3 ∷ 4 ∷ 0 ∷ []) $ by ! (exits r v e))))))))))
 
   module _ (g : Name) {M : Type 1} (𝓤 : URA M) (H : Heap 𝓤) (A : Atoms 𝓤) (W : Given 𝓤 H A) where
     pub meets : (𝓣 : Tables 𝓤 H) → Triple 𝓤 (𝓣 .C g) (Callee ps N F 𝓤 H A) → Meets 𝓤 H A (ended .signature) (WpFn 𝓤 H (𝓣 .C) (𝓣 .Λ) (function g)) (closing 𝓤 H A ended (clauses 𝓤))

@@ -36,7 +36,7 @@ use Rattle.model.specs.declared.Layout.{Layout}
 use Rattle.model.proofs.Layout as L
 use Rattle.model.proofs.Layout.Laws as L′
 use Rattle.in_place.proofs.Callee.{mach}
-use Rattle.in_place.proofs.Lent.{Result}
+use Rattle.in_place.proofs.Answers.{Result}
 use Rattle.in_place.proofs.Looked.{look-ref, looked, lent, copied}
 pub use Rattle.in_place.proofs.OneCall.{calling}
 

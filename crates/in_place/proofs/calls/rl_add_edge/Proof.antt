@@ -1,10 +1,10 @@
--- `rl_add_edge` meets its contract: it is `LentCall`'s function, over `layout::add_edge`.
+-- `rl_add_edge` meets its contract: it is `Lent`'s function, over `layout::add_edge`.
 use mathlib.Core.List.{[], _∷_}
 use mir.Syntax.{w64}
 use Rattle.model.specs.Edits.{linkOf}
 use Rattle.layout.proofs.add_edge as g
 use Rattle.in_place.proofs.Answers.{changed}
-use Rattle.in_place.proofs.LentCall.{numbers, calling, meets}
+use Rattle.in_place.proofs.Lent.{numbers, calling, meets}
 use Rattle.in_place.proofs.calls.rl_add_edge as f
 
 pub rl-add-edge-spec : {M : Type 1} → f.Statement.statement M

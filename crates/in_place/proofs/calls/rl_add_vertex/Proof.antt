@@ -1,10 +1,10 @@
--- `rl_add_vertex` meets its contract: it is `LentCall`'s function, over `layout::add_vertex`.
+-- `rl_add_vertex` meets its contract: it is `Lent`'s function, over `layout::add_vertex`.
 use mathlib.Core.List.{[]}
 use Rattle.model.specs.Edits.{addOf}
 use Rattle.model.specs.Reports.{addReport}
 use Rattle.layout.proofs.add_vertex as g
 use Rattle.in_place.proofs.Answers.{added}
-use Rattle.in_place.proofs.LentCall.{numbers, calling, meets}
+use Rattle.in_place.proofs.Lent.{numbers, calling, meets}
 use Rattle.in_place.proofs.calls.rl_add_vertex as f
 
 pub rl-add-vertex-spec : {M : Type 1} → f.Statement.statement M

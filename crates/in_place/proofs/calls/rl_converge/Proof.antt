@@ -1,11 +1,11 @@
--- `rl_converge` meets its contract: it is `LentCall`'s function, over `sifting::converge`.
+-- `rl_converge` meets its contract: it is `Lent`'s function, over `sifting::converge`.
 use mathlib.Core.List.{[], _∷_}
 use mir.Syntax.{w32}
 use Rattle.model.specs.Sifting.{settleOf}
 use Rattle.model.specs.Reports.{convergeReport}
 use Rattle.sifting.proofs.converge as g
 use Rattle.in_place.proofs.Answers.{converged}
-use Rattle.in_place.proofs.LentCall.{numbers, calling, meets}
+use Rattle.in_place.proofs.Lent.{numbers, calling, meets}
 use Rattle.in_place.proofs.calls.rl_converge as f
 
 pub rl-converge-spec : {M : Type 1} → f.Statement.statement M

@@ -1,11 +1,11 @@
--- `rl_greedy_append` meets its contract: it is `LentCall`'s function, over `append::greedy_append`.
+-- `rl_greedy_append` meets its contract: it is `Lent`'s function, over `append::greedy_append`.
 use mathlib.Core.List.{[], _∷_}
 use mir.Syntax.{w64}
 use Rattle.model.specs.GreedyAppend.{layOf}
 use Rattle.model.specs.Reports.{appendReport}
 use Rattle.append.proofs.greedy_append as g
 use Rattle.in_place.proofs.Answers.{appended}
-use Rattle.in_place.proofs.LentCall.{numbers, calling, meets}
+use Rattle.in_place.proofs.Lent.{numbers, calling, meets}
 use Rattle.in_place.proofs.calls.rl_greedy_append as f
 
 pub rl-greedy-append-spec : {M : Type 1} → f.Statement.statement M

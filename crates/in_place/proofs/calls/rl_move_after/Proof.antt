@@ -1,10 +1,10 @@
--- `rl_move_after` meets its contract: it is `LentCall`'s function, over `layout::move_after`.
+-- `rl_move_after` meets its contract: it is `Lent`'s function, over `layout::move_after`.
 use mathlib.Core.List.{[], _∷_}
 use mir.Syntax.{w64}
 use Rattle.model.specs.Edits.{moveOf}
 use Rattle.layout.proofs.move_after as g
 use Rattle.in_place.proofs.Answers.{changed}
-use Rattle.in_place.proofs.LentCall.{numbers, calling, meets}
+use Rattle.in_place.proofs.Lent.{numbers, calling, meets}
 use Rattle.in_place.proofs.calls.rl_move_after as f
 
 pub rl-move-after-spec : {M : Type 1} → f.Statement.statement M

@@ -1,11 +1,11 @@
--- `rl_sift` meets its contract: it is `LentCall`'s function, over `sifting::sift`.
+-- `rl_sift` meets its contract: it is `Lent`'s function, over `sifting::sift`.
 use mathlib.Core.List.{[], _∷_}
 use mir.Syntax.{w64}
 use Rattle.model.specs.Sifting.{siftOf}
 use Rattle.model.specs.Reports.{siftReport}
 use Rattle.sifting.proofs.sift as g
 use Rattle.in_place.proofs.Answers.{sifted}
-use Rattle.in_place.proofs.LentCall.{numbers, calling, meets}
+use Rattle.in_place.proofs.Lent.{numbers, calling, meets}
 use Rattle.in_place.proofs.calls.rl_sift as f
 
 pub rl-sift-spec : {M : Type 1} → f.Statement.statement M

@@ -1,10 +1,10 @@
--- `rl_sifting_round` meets its contract: it is `LentCall`'s function, over `sifting::sifting_round`.
+-- `rl_sifting_round` meets its contract: it is `Lent`'s function, over `sifting::sifting_round`.
 use mathlib.Core.List.{[]}
 use Rattle.model.specs.Sifting.{roundOf}
 use Rattle.model.specs.Reports.{roundReport}
 use Rattle.sifting.proofs.sifting_round as g
 use Rattle.in_place.proofs.Answers.{rounded}
-use Rattle.in_place.proofs.LentCall.{numbers, calling, meets}
+use Rattle.in_place.proofs.Lent.{numbers, calling, meets}
 use Rattle.in_place.proofs.calls.rl_sifting_round as f
 
 pub rl-sifting-round-spec : {M : Type 1} → f.Statement.statement M

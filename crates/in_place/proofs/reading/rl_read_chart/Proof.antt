@@ -1,9 +1,9 @@
--- `rl_read_chart` meets its contract: it is `LentCall`'s function, over `read_over`.
+-- `rl_read_chart` meets its contract: it is `Lent`'s function, over `read_over`.
 use mathlib.Core.List.{[], _∷_}
 use Rattle.model.specs.Reports.{readOver}
 use Rattle.in_place.proofs.reports.read_over as g
 use Rattle.in_place.proofs.Answers.{chart-read}
-use Rattle.in_place.proofs.LentCall.{bytes, calling, meets}
+use Rattle.in_place.proofs.Lent.{bytes, calling, meets}
 use Rattle.in_place.proofs.reading.rl_read_chart as f
 
 pub rl-read-chart-spec : {M : Type 1} → f.Statement.statement M
