@@ -1,6 +1,6 @@
--- A function `f(l: &mut Layout, ..) -> N` over a call by value `g(l: Layout, ..) -> R` with the contract r ≡ F l ..: the lent layout is loaded, g is called with it
--- and with the parameters passed on, the layout of its answer is stored back, and the rest of the answer is returned. So the layout at exit and what is returned
--- are those of F at the layout at entry. The parameters behind the layout are any list of `Passed`, and what is returned is as an `Answer` says.
+-- A function `f(l: &mut Layout, ..) -> N` over a call by value `g(l: Layout, ..) -> R` with the contract r ≡ F l ..: the lent layout is loaded, g is called
+-- with it and with the parameters passed on, the layout of its answer is stored back, and the rest of the answer is returned. So the layout at exit and what
+-- is returned are those of F at the layout at entry. The parameters behind the layout are any list of `Passed`; what is returned is as an `Answer` says.
 use mathlib.Core.Path.{_≡_, refl, ap}
 use Prim.Native.Nat.{ℕ, suc}
 use mathlib.Core.List.{[], _∷_, List}
@@ -146,7 +146,8 @@ module _ {R N : RattleType} (An : Answer R N) {m : ℕ} (ps : List (Passed m))
           assigns ! (of-opd ! (load ! (from ! (hop ! (look ! 5 refl) (stop !))) (look-raw ! 0 refl))) (from-at ! (beyond 𝓤 H ps bs _ 1) (stop !))
           (init ! 6 refl (LL.lawful L.the-type L′.the-laws 𝓤 H A W .typed h _ was .0)) $
           move ! (1 ∷ []) $ drop ! $ move ! (8 ∷ []) $ use1 W (raw (Callee ps R F 𝓤 H A .pre y)) (asks ps R F κs h a 𝓤 H A W (qs .1) was) $
-          calls-from ! fm (raw (Callee ps R F 𝓤 H A .pre y)) (mach h ∷ flat (typesAt (inners ps) (κs .1)) (within κs ps a)) (Callee ps R F 𝓤 H A .post y) (known y)
+          calls-from ! fm (raw (Callee ps R F 𝓤 H A .pre y)) (mach h ∷ flat (typesAt (inners ps) (κs .1)) (within κs ps a))
+          (Callee ps R F 𝓤 H A .post y) (known y)
           (and-then ! (load ! (from-at ! (beyond 𝓤 H ps bs _ 1) (stop !)) (look ! 6 refl))
           (with-head ! 10 (read-all ! ps bs κs a (λ n. suc (suc n)) _ (λ n. refl)))) (λ v.
           use1 W (Answered ps R F κs h a 𝓤 H A W (qs .1) v) (answers ps R F κs h a 𝓤 H A W (qs .1) v) $ await ! tt $ pick ! (λ r. learn ! (λ e.

@@ -1,5 +1,5 @@
--- A function `f(l: &Layout, ..) -> N` with the body `g(*l, ..)`, over a callee `g(l: Layout, ..) -> N` with the contract r ≡ F l ..: what is returned is that of F
--- at the layout lent. The parameters behind the layout are any list of `Passed`.
+-- A function `f(l: &Layout, ..) -> N` with the body `g(*l, ..)`, over a call by value `g(l: Layout, ..) -> N` with the contract r ≡ F l ..: what is returned is
+-- that of F at the layout lent. The parameters behind the layout are any list of `Passed`.
 --     looked           the code that copies the layout to a local;      copied      its walk, in any function that has it
 use mathlib.Core.Path.{_≡_, refl}
 use Prim.Native.Nat.{ℕ, suc, zero}
@@ -14,8 +14,10 @@ use prog.Wp.{Heap, Env, Calls, Loops, WpFn, Tables, spotOf}
 use ghost.Atoms.{Atoms}
 use contract.Monad.{fact}
 use contract.Lifetimes.{Lfts, Shares, toks}
-use types.Kit.{Given, Item, Post as Ends, Seq, ‵, raw, _⊛_, ⋆, nth, put, runs, some, given, later, _$_, _∵_, !, qed, by, move, keep, drop, use1, split, join, pick, learn, fsplit, fsplit3, fjoin, fjoin3, feqI, suffices, frame, await, done}
-use types.Run.{look, look-raw, init, forget, stop, hop, from, load, of-opd, assigns, and-then, land, returns, enter, alloc1, alloc0, params1, pass1, free1, free0}
+use types.Kit.{Given, Item, Post as Ends, Seq, ‵, raw, _⊛_, ⋆, nth, put, runs, _$_, _∵_, !, qed, by, move, keep, drop, use1, split, join, pick, learn}
+use types.Kit.{fsplit, fsplit3, fjoin, fjoin3, feqI, suffices, frame, await, done}
+use types.Run.{look, look-raw, init, forget, stop, hop, from, load, of-opd, assigns, and-then, land}
+use types.Run.{returns, enter, alloc1, alloc0, params1, pass1, free1, free0}
 use sound.WpLaws.{FmC, fmOf, WpFn-mono}
 use denote.RattleType.{RattleType, Denots, flat, owns}
 use denote.Laws.{Is, shows}
@@ -37,7 +39,8 @@ use denote.Triple.Walked.{says, Stays, stay-none-ref, walkOf, goes-none-ref, end
 use Rattle.model.specs.declared.Layout.{Layout}
 use Rattle.model.proofs.Layout as L
 use Rattle.model.proofs.Layout.Laws as L′
-use Rattle.in_place.proofs.Passed.{Passed, Values, Fit, outers, inners, stays, locals, past, copies, spells, tellss, machine, overs, within, lasts, fits, handed, had, goes, lends, beyond, from-at, alloc-all, pass-all, free-all, with-head, read-all}
+use Rattle.in_place.proofs.Passed.{Passed, Values, Fit, outers, inners, stays, locals, past, copies, spells, tellss, machine, overs, within}
+use Rattle.in_place.proofs.Passed.{lasts, fits, handed, had, goes, lends, beyond, from-at, alloc-all, pass-all, free-all, with-head, read-all}
 use Rattle.in_place.proofs.Callee.{mach, Callee, to-g, told, asks, Answered, answers}
 use Rattle.in_place.proofs.Answers.{Result}
 pub use Rattle.in_place.proofs.Passed.{numbers, bytes}
@@ -53,15 +56,18 @@ looked t rest = seq (assign (place t []) (rvOpd (copy (place 1 (deref L′.mir �
 abbrev pub lent : Lft → Layout → ℕ → ℕ → Fml
 lent κ h b o = fshr-bor κ (λ s. partAt L.the-row s h b o)
 
-module _ {M : Type 1} {𝓤 : URA M} {H : Heap 𝓤} {A : Atoms 𝓤} {K : Type 0} {W : Given 𝓤 H A} {C : Calls 𝓤 H} {Λ : Loops 𝓤 H} {E : Env 𝓤 H} {post : Ends 𝓤 H} {Γ : List (Item 𝓤)} where
+module _ {M : Type 1} {𝓤 : URA M} {H : Heap 𝓤} {A : Atoms 𝓤} {K : Type 0} {W : Given 𝓤 H A} {C : Calls 𝓤 H} {Λ : Loops 𝓤 H} {E : Env 𝓤 H}
+    {post : Ends 𝓤 H} {Γ : List (Item 𝓤)} where
   -- entries i and j of the rest of the context are the reference and room for the layout
   pub copied : K → (κ : Lft) (q : Share) (h : Layout) (b o i j t : ℕ) {l₁ l₂ : ℕ} {rest : Code}
       → spotOf 𝓤 H E 1 ≡ (look-ref, l₁, zero) → spotOf 𝓤 H E t ≡ (L′.mir, l₂, zero)
       → nth 𝓤 H A i Γ ≡ ‵ (fat fullShare look-ref l₁ 0 (vptr b o)) → nth 𝓤 H A j Γ ≡ ‵ (froom L′.mir l₂ 0)
-      → (Is L.the-row h (mach h ∷ []) → Seq K W (‵ (flft κ q) ∷ ‵ (lent κ h b o) ∷ put 𝓤 H A j (‵ (fat fullShare L′.mir l₂ 0 (mach h))) Γ) (runs C Λ E rest post))
+      → (Is L.the-row h (mach h ∷ [])
+      → Seq K W (‵ (flft κ q) ∷ ‵ (lent κ h b o) ∷ put 𝓤 H A j (‵ (fat fullShare L′.mir l₂ 0 (mach h))) Γ) (runs C Λ E rest post))
       → Seq K W (‵ (lent κ h b o) ∷ ‵ (flft κ q) ∷ Γ) (runs C Λ E (looked t rest) post)
   copied k κ q h b o i j t e₁ eₜ at-i at-j go =
-      looks k tt L.the-row (Is L.the-row) (shows 𝓤 H A L.the-row) (LL.vals L.the-type L′.the-laws) (LL.tells L.the-type L′.the-laws) (LL.copy L.the-type L′.the-copy 𝓤 H A W) h b o (λ q′ vs.
+      looks k tt L.the-row (Is L.the-row) (shows 𝓤 H A L.the-row) (LL.vals L.the-type L′.the-laws) (LL.tells L.the-type L′.the-laws)
+      (LL.copy L.the-type L′.the-copy 𝓤 H A W) h b o (λ q′ vs.
       spelt k L.the-row (Is L.the-row) (shows 𝓤 H A L.the-row) (LL.vals L.the-type L′.the-laws) (LL.tells L.the-type L′.the-laws) q′ h vs b o $
       move k (1 ∷ []) $ peeks k L.the-row (Is L.the-row) (shows 𝓤 H A L.the-row) h (mach h ∷ []) (λ was. move k (1 ∷ 0 ∷ []) $
       -- [a share of the layout's cell; what a layout owns; what shuts it; the borrow; …]
@@ -95,7 +101,8 @@ module _ {N : RattleType} (Re : Result N) {m : ℕ} (ps : List (Passed m)) (F : 
   abbrev stayed : Stays (ended .signature .params) (ended .kept)
   stayed = (stay-none-ref (0 ∷ []) tt (plain (λ _. L.the-row)) yes, stays ps)
 
-  module _ {M : Type 1} (𝓤 : URA M) (H : Heap 𝓤) (A : Atoms 𝓤) (W : Given 𝓤 H A) (κs : Lfts (suc m)) (qs : Shares (suc m)) (b o : ℕ) (γ : GName) (h : Layout) (a : Values κs ps) where
+  module _ {M : Type 1} (𝓤 : URA M) (H : Heap 𝓤) (A : Atoms 𝓤) (W : Given 𝓤 H A) (κs : Lfts (suc m)) (qs : Shares (suc m))
+      (b o : ℕ) (γ : GName) (h : Layout) (a : Values κs ps) where
     abbrev x : RefT Layout × Values κs ps
     x = (record { ptr = (b, o); name = γ; now = h }, a)
 
@@ -136,21 +143,23 @@ module _ {N : RattleType} (Re : Result N) {m : ℕ} (ps : List (Passed m)) (F : 
           -- [the borrow; the layout's token; what the callee gets; what the parameters own; res; their locals; passed; …; _1; …; _0; …]
           copied ! (κs .0) (qs .0) h b o 6 4 passed refl (beyond 𝓤 H ps bs _ 0) refl refl (λ was.
           move ! (2 ∷ []) $ use1 W (raw (Callee ps N F 𝓤 H A .pre y)) (asks ps N F κs h a 𝓤 H A W (qs .1) was) $
-          calls-from ! fm (raw (Callee ps N F 𝓤 H A .pre y)) (mach h ∷ flat (typesAt (inners ps) (κs .1)) (within κs ps a)) (Callee ps N F 𝓤 H A .post y) (known y)
+          calls-from ! fm (raw (Callee ps N F 𝓤 H A .pre y)) (mach h ∷ flat (typesAt (inners ps) (κs .1)) (within κs ps a))
+          (Callee ps N F 𝓤 H A .post y) (known y)
           (and-then ! (load ! (from-at ! (beyond 𝓤 H ps bs _ 0) (stop !)) (look ! 6 refl))
           (with-head ! 5 (read-all ! ps bs κs a (λ n. suc (suc n)) _ (λ n. refl)))) (λ v.
           use1 W (Answered ps N F κs h a 𝓤 H A W (qs .1) v) (answers ps N F κs h a 𝓤 H A W (qs .1) v) $ await ! tt $ pick ! (λ r. learn ! (λ e.
           split ! $ move ! (1 ∷ []) $ peeks ! N (Is N) (shows 𝓤 H A N) r (v ∷ []) (λ is.
           -- [what is returned; the parameters' tokens; the layout's; the borrow; what the parameters own; res; their locals; passed; …; _1; …; _0; …]
-          land ! (from ! (stop !)) (init ! 11 refl (Re .typed 𝓤 H A W r v is)) $ returns ! (look ! 11 refl) $ forget ! 7 refl $ forget ! 9 refl $ forget ! 11 refl $
-          move ! (11 ∷ 12 ∷ []) $ free1 ! $ move ! (9 ∷ 10 ∷ []) $ free1 ! $ move ! (6 ∷ []) $ free-all ! ps bs κs a $ move ! (6 ∷ 7 ∷ []) $ free1 ! $ free0 ! $
-          keep ! (2 ∷ 1 ∷ 5 ∷ 3 ∷ 4 ∷ 0 ∷ []) $ by ! (exits r v e))))))))))
+          land ! (from ! (stop !)) (init ! 11 refl (Re .typed 𝓤 H A W r v is)) $ returns ! (look ! 11 refl) $
+          forget ! 7 refl $ forget ! 9 refl $ forget ! 11 refl $ move ! (11 ∷ 12 ∷ []) $ free1 ! $ move ! (9 ∷ 10 ∷ []) $ free1 ! $
+          move ! (6 ∷ []) $ free-all ! ps bs κs a $ move ! (6 ∷ 7 ∷ []) $ free1 ! $ free0 ! $ keep ! (2 ∷ 1 ∷ 5 ∷ 3 ∷ 4 ∷ 0 ∷ []) $
+          by ! (exits r v e))))))))))
 
-  module _ (g : Name) {M : Type 1} (𝓤 : URA M) (H : Heap 𝓤) (A : Atoms 𝓤) (W : Given 𝓤 H A) where
-    pub meets : (𝓣 : Tables 𝓤 H) → Triple 𝓤 (𝓣 .C g) (Callee ps N F 𝓤 H A) → Meets 𝓤 H A (ended .signature) (WpFn 𝓤 H (𝓣 .C) (𝓣 .Λ) (function g)) (closing 𝓤 H A ended (clauses 𝓤))
-    meets 𝓣 known =
+  module _ (g : Name) {M : Type 1} (𝓤 : URA M) (H : Heap 𝓤) (A : Atoms 𝓤) (W : Given 𝓤 H A) (𝓣 : Tables 𝓤 H) where
+    pub meets : Triple 𝓤 (𝓣 .C g) (Callee ps N F 𝓤 H A) → Meets 𝓤 H A (ended .signature) (WpFn 𝓤 H (𝓣 .C) (𝓣 .Λ) (function g)) (closing 𝓤 H A ended (clauses 𝓤))
+    meets known =
         walk-meets 𝓤 H A ended stayed W (goes-none-ref 𝓤 H A W (suc m) (0 ∷ []) tt (plain (λ _. L.the-row)) yes, goes 𝓤 H A W ps) (clauses 𝓤)
         (WpFn 𝓤 H (𝓣 .C) (𝓣 .Λ) (function g)) (WpFn-mono 𝓤 H (W .laws) 𝓣 (function g))
-        (walked 𝓤 H A ended stayed (clauses 𝓤) (WpFn 𝓤 H (𝓣 .C) (𝓣 .Λ) (function g)) (λ κs. (ptr-vals, spells κs ps)) (λ κs. (shr-tells (named 0) (κs .0) L.the-row, tellss κs ps))
-        (λ κs qs bounds a _ are. via 𝓤 _ (fst∗ 𝓤 _ (emp 𝓤))
+        (walked 𝓤 H A ended stayed (clauses 𝓤) (WpFn 𝓤 H (𝓣 .C) (𝓣 .Λ) (function g)) (λ κs. (ptr-vals, spells κs ps))
+        (λ κs. (shr-tells (named 0) (κs .0) L.the-row, tellss κs ps)) (λ κs qs bounds a _ are. via 𝓤 _ (fst∗ 𝓤 _ (emp 𝓤))
         (walk 𝓤 H A W κs qs (a .0 .ptr .0) (a .0 .ptr .1) (a .0 .name) (a .0 .now) (a .1) (𝓣 .C) (𝓣 .Λ) (fmOf 𝓤 H (W .laws) 𝓣) g known (are .1))))

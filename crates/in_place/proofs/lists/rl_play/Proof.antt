@@ -3,10 +3,6 @@ use lib.ListN.{length}
 use borrow.Author.Needs.{needs}
 use Rattle.in_place.proofs.lists.rl_play.Statement.{statement}
 use Rattle.in_place.proofs.lists.rl_play.Tie as tie
-use Rattle.in_place.proofs.lists.rl_play.Reads as reads
-use Rattle.in_place.proofs.lists.rl_play.Lts as lts
-use Rattle.history.proofs.play.Reads as play-reads
-use Rattle.in_place.proofs.lists.origin_of.Reads as origin-of-reads
 use Rattle.model.specs.Playing.{playOf, tableOf}
 
 -- src/lists.rt:34:9

@@ -6,10 +6,6 @@ use Rattle.model.specs.Reading.{shown, firstCrossingOf}
 use Rattle.model.specs.Reports.{crossingReport, crossingReportOf, pairReport}
 use Rattle.in_place.proofs.reports.crossing_report.Statement.{statement}
 use Rattle.in_place.proofs.reports.crossing_report.Tie as tie
-use Rattle.in_place.proofs.reports.crossing_report.Reads as reads
-use Rattle.in_place.proofs.reports.crossing_report.Lts as lts
-use Rattle.crossing.proofs.first_crossing.Reads as first-crossing-reads
-use Rattle.in_place.proofs.reports.no_pair.Reads as no-pair-reads
 
 -- src/reports.rt:27:11
 first-crossing-requires : tie.Need-first-crossing-requires

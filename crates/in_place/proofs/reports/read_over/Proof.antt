@@ -1,9 +1,6 @@
 use borrow.Author.Needs.{needs}
 use Rattle.in_place.proofs.reports.read_over.Statement.{statement}
 use Rattle.in_place.proofs.reports.read_over.Tie as tie
-use Rattle.in_place.proofs.reports.read_over.Reads as reads
-use Rattle.in_place.proofs.reports.read_over.Lts as lts
-use Rattle.chart.proofs.read.Reads as read-reads
 use Rattle.in_place.specs.ReadOver.{over-refused, over-accepted}
 
 -- src/reports.rt:16:9
