@@ -3,7 +3,6 @@ use Rattle.model.specs.Reports.{pairReport, noEdge}
 use Rattle.in_place.proofs.reports.no_pair.Statement.{statement}
 use Rattle.in_place.proofs.reports.no_pair.Tie as tie
 
--- src/reports.rt:39:1
 returns : tie.Need-returns
 unfolding pairReport noEdge
 returns c = refl

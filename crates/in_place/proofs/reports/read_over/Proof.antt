@@ -3,17 +3,14 @@ use Rattle.in_place.proofs.reports.read_over.Statement.{statement}
 use Rattle.in_place.proofs.reports.read_over.Tie as tie
 use Rattle.in_place.specs.ReadOver.{over-refused, over-accepted}
 
--- src/reports.rt:16:9
 read-requires : tie.Need-read-requires
 read-requires c κs = search needs
 
--- src/reports.rt:19:9
 returns : tie.Need-returns
 returns c =
     let s = c .before .before .before .args in
     over-refused (s .l) (s .chart .now) (c .before .read .ensures) (c .if1 .taken)
 
--- src/reports.rt:13:1
 returns-2 : tie.Need-returns-2
 returns-2 c =
     let s = c .before .before .before .args in
