@@ -33,13 +33,13 @@ abbrev pub mach : Layout → Val
 mach d = LL.val L.the-type L′.the-laws d
 
 module _ {m : ℕ} (ps : List (Passed m)) (R : RattleType) (F : Layout → (κs : Lfts m) → Denots (typesAt (inners ps) κs) → R .Denot) where
-  abbrev callee : Ended
+  abbrev pub callee : Ended
   callee = record {
     signature = record { lifetimes = m; outlives = []; params = plain (λ _. L.the-row) ∷ inners ps; result = plain (λ _. R) };
     kept = (yes, all yes (inners ps));
   }
 
-  abbrev callee-clauses : {M : Type 1} (𝓤 : URA M) → Clauses 𝓤 callee
+  abbrev pub callee-clauses : {M : Type 1} (𝓤 : URA M) → Clauses 𝓤 callee
   callee-clauses 𝓤 κs a = record { ghost = Unit {0}; requires = λ _. emp 𝓤; ensures = λ _ r _. fact 𝓤 (r ≡ F (a .0) κs (a .1)) }
 
   abbrev pub Callee : {M : Type 1} (𝓤 : URA M) (H : Heap 𝓤) (A : Atoms 𝓤) → Contract 𝓤

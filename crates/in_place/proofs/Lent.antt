@@ -33,7 +33,6 @@ use denote.Struct.Laws as LL
 use denote.Triple.Call.{calls-from}
 use denote.Triple.Statement.{Triple}
 use denote.Triple.Entry.{onEntry}
-use denote.Triple.Spec.{Meets}
 use denote.Triple.End.{all}
 use denote.Triple.Clauses.{Ended, Clauses, closing}
 use denote.Triple.Walked.{says, Stays, stay-ref, walkOf, goes-ref, ends-at, walked, walk-meets}
@@ -42,9 +41,10 @@ use Rattle.model.proofs.Layout as L
 use Rattle.model.proofs.Layout.Laws as L′
 use Rattle.in_place.proofs.Passed.{Passed, Values, Fit, outers, inners, stays, locals, past, copies, spells, tellss, machine, overs, within}
 use Rattle.in_place.proofs.Passed.{lasts, fits, handed, had, goes, lends, beyond, from-at, alloc-all, pass-all, free-all, with-head, read-all}
-use Rattle.in_place.proofs.Callee.{mach, Callee, to-g, told, asks, Answered, answers}
+use Rattle.in_place.proofs.Callee.{mach, callee, callee-clauses, Callee, to-g, told, asks, Answered, answers}
 use Rattle.in_place.proofs.Answers.{answer-ty, field-in, Answer}
 pub use Rattle.in_place.proofs.Passed.{numbers, bytes}
+use Rattle.in_place.proofs.OneCall.{Walk}
 pub use Rattle.in_place.proofs.OneCall.{calling}
 
 module _ {R N : RattleType} (An : Answer R N) {m : ℕ} (ps : List (Passed m))
@@ -126,7 +126,7 @@ module _ {R N : RattleType} (An : Answer R N) {m : ℕ} (ps : List (Passed m))
       abbrev y : Callee ps R F 𝓤 H A .Ghost
       y = to-g ps R F κs h a 𝓤 H A W (qs .1)
 
-      walk : ent 𝓤 (onEntry 𝓤 H A (ended .signature) κs qs x (vptr b o ∷ [], machine κs ps a))
+      pub walk : ent 𝓤 (onEntry 𝓤 H A (ended .signature) κs qs x (vptr b o ∷ [], machine κs ps a))
           (WpFn 𝓤 H C Λ (function g) (vptr b o ∷ flat (typesAt (outers ps) κs) (machine κs ps a)) Post)
       walk =
           qed W ((‵ (flft (κs .0) (qs .0)) ⊛ tokens)
@@ -168,11 +168,17 @@ module _ {R N : RattleType} (An : Answer R N) {m : ℕ} (ps : List (Passed m))
           move ! (3 ∷ 11 ∷ []) $ free1 ! $ move ! (7 ∷ []) $ free-all ! ps bs κs a $ move ! (4 ∷ 8 ∷ []) $ free1 ! $ move ! (3 ∷ 6 ∷ []) $ free1 ! $ free0 ! $
           by ! (exits r e (An .knows r v is .2)))))))))))))
 
-  module _ (g : Name) {M : Type 1} (𝓤 : URA M) (H : Heap 𝓤) (A : Atoms 𝓤) (W : Given 𝓤 H A) (𝓣 : Tables 𝓤 H) where
-    pub meets : Triple 𝓤 (𝓣 .C g) (Callee ps R F 𝓤 H A) → Meets 𝓤 H A (ended .signature) (WpFn 𝓤 H (𝓣 .C) (𝓣 .Λ) (function g)) (closing 𝓤 H A ended (clauses 𝓤))
-    meets known =
+  abbrev pub walks : (g : Name) {M : Type 1} (𝓤 : URA M) (H : Heap 𝓤) (A : Atoms 𝓤) → Walk g 𝓤 H A
+  walks g 𝓤 H A = record {
+    signature = ended .signature;
+    promise = closing 𝓤 H A ended (clauses 𝓤);
+    asked = callee ps R F .signature;
+    demand = closing 𝓤 H A (callee ps R F) (callee-clauses ps R F 𝓤);
+    code = function g;
+    meets = λ W 𝓣 known.
         walk-meets 𝓤 H A ended stayed W (goes-ref 𝓤 H A W (suc m) 0 tt (plain (λ _. L.the-row)), goes 𝓤 H A W ps) (clauses 𝓤)
         (WpFn 𝓤 H (𝓣 .C) (𝓣 .Λ) (function g)) (WpFn-mono 𝓤 H (W .laws) 𝓣 (function g))
         (walked 𝓤 H A ended stayed (clauses 𝓤) (WpFn 𝓤 H (𝓣 .C) (𝓣 .Λ) (function g)) (λ κs. (ptr-vals, spells κs ps))
         (λ κs. (mut-tells (named 0) (κs .0) L.the-row, tellss κs ps)) (λ κs qs bounds a _ are. via 𝓤 _ (fst∗ 𝓤 _ (emp 𝓤))
-        (walk 𝓤 H A W κs qs (a .0 .ptr .0) (a .0 .ptr .1) (a .0 .name) (a .0 .now) (a .1) (𝓣 .C) (𝓣 .Λ) (fmOf 𝓤 H (W .laws) 𝓣) g known (are .1))))
+        (walk 𝓤 H A W κs qs (a .0 .ptr .0) (a .0 .ptr .1) (a .0 .name) (a .0 .now) (a .1) (𝓣 .C) (𝓣 .Λ) (fmOf 𝓤 H (W .laws) 𝓣) g known (are .1))));
+  }

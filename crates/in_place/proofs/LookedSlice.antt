@@ -32,7 +32,7 @@ use denote.Struct.Laws as LL
 use denote.Triple.Statement.{Contract, Triple}
 use denote.Triple.Call.{calls-at}
 use denote.Triple.Entry.{onEntry}
-use denote.Triple.Spec.{Meets, tripleOf}
+use denote.Triple.Spec.{tripleOf}
 use denote.Triple.Clauses.{Ended, Clauses, closing, ensured, lasts}
 use denote.Triple.Walked.{says, Stays, stay-none-ref, gave-slice, walkOf, goes-none-ref, goes-gave-slice, ends-at, walked, walk-meets}
 use Rattle.model.specs.declared.Layout.{Layout}
@@ -41,6 +41,7 @@ use Rattle.model.proofs.Layout.Laws as L′
 use Rattle.in_place.proofs.Callee.{mach}
 use Rattle.in_place.proofs.Answers.{Result}
 use Rattle.in_place.proofs.Looked.{look-ref, looked, lent, copied}
+use Rattle.in_place.proofs.OneCall.{Walk}
 pub use Rattle.in_place.proofs.OneCall.{calling}
 
 module _ {N : RattleType} (Re : Result N) (F : Layout → List ℕ → N .Denot) (G : Layout → List ℕ → List ℕ) where
@@ -63,7 +64,7 @@ module _ {N : RattleType} (Re : Result N) (F : Layout → List ℕ → N .Denot)
     ensures = λ _ r e. sep 𝓤 (fact 𝓤 (r ≡ F (a .0) (a .1 .0 .now))) (fact 𝓤 (e .1 .0 .now ≡ G (a .0) (a .1 .0 .now)));
   }
 
-  abbrev pub Callee : {M : Type 1} (𝓤 : URA M) (H : Heap 𝓤) (A : Atoms 𝓤) → Contract 𝓤
+  abbrev Callee : {M : Type 1} (𝓤 : URA M) (H : Heap 𝓤) (A : Atoms 𝓤) → Contract 𝓤
   Callee 𝓤 H A = tripleOf 𝓤 H A (callee .signature) (closing 𝓤 H A callee (callee-clauses 𝓤))
 
   -- ---- the function
@@ -78,14 +79,14 @@ module _ {N : RattleType} (Re : Result N) (F : Layout → List ℕ → N .Denot)
     kept = (yes, (yes, tt));
   }
 
-  abbrev pub clauses : {M : Type 1} (𝓤 : URA M) → Clauses 𝓤 ended
+  abbrev clauses : {M : Type 1} (𝓤 : URA M) → Clauses 𝓤 ended
   clauses 𝓤 κs a = record {
     ghost = Unit {0};
     requires = λ _. emp 𝓤;
     ensures = λ _ r e. fact 𝓤 ((r ≡ F (a .0 .now) (a .1 .0 .now)) × (e .1 .0 .now ≡ G (a .0 .now) (a .1 .0 .now)));
   }
 
-  abbrev pub function : Name → Fn
+  abbrev function : Name → Fn
   function g = record {
     lifetimes = 2;
     outlives = [];
@@ -147,7 +148,7 @@ module _ {N : RattleType} (Re : Result N) (F : Layout → List ℕ → N .Denot)
         owned ! L.the-row (Is L.the-row) (LL.makes L.the-type L′.the-plain 𝓤 H A) h _ is $ join ! $ move ! (1 ∷ 0 ∷ []) $ join ! $ frame ! $ done !
 
     module _ (C : Calls 𝓤 H) (Λ : Loops 𝓤 H) (fm : FmC 𝓤 H (W .laws) C) (g : Name) (known : Triple 𝓤 (C g) (Callee 𝓤 H A)) where
-      walk : T (hasTy (sliceTy (tyRef (named 1) mut (tyInt w8))) slice) × WT slice → Room u8 (length (s .now))
+      pub walk : T (hasTy (sliceTy (tyRef (named 1) mut (tyInt w8))) slice) × WT slice → Room u8 (length (s .now))
           → ent 𝓤 (onEntry 𝓤 H A (ended .signature) (κ, (κ′, tt)) (q, (q′, tt)) x at) (WpFn 𝓤 H C Λ (function g) (vptr b o ∷ slice ∷ []) Post)
       walk typed room =
           qed W ((‵ (flft κ q) ⊛ token) ∷ ‵ (owns (ShrRef (named 0) κ L.the-row ∷ MutSlice (named 1) κ′ u8 ∷ []) x at) ∷ []) ∵
@@ -180,9 +181,14 @@ module _ {N : RattleType} (Re : Result N) (F : Layout → List ℕ → N .Denot)
           move ! (13 ∷ 14 ∷ []) $ free1 ! $ move ! (11 ∷ 12 ∷ []) $ free1 ! $ move ! (9 ∷ 10 ∷ []) $ free1 ! $ free0 ! $
           keep ! (5 ∷ 1 ∷ 8 ∷ 6 ∷ 2 ∷ 0 ∷ []) $ by ! (exits r v (zs .1 .0) e e′ l)))))))))))))))
 
-  module _ (g : Name) {M : Type 1} (𝓤 : URA M) (H : Heap 𝓤) (A : Atoms 𝓤) (W : Given 𝓤 H A) (𝓣 : Tables 𝓤 H) where
-    pub meets : Triple 𝓤 (𝓣 .C g) (Callee 𝓤 H A) → Meets 𝓤 H A (ended .signature) (WpFn 𝓤 H (𝓣 .C) (𝓣 .Λ) (function g)) (closing 𝓤 H A ended (clauses 𝓤))
-    meets known =
+  abbrev pub walks : (g : Name) {M : Type 1} (𝓤 : URA M) (H : Heap 𝓤) (A : Atoms 𝓤) → Walk g 𝓤 H A
+  walks g 𝓤 H A = record {
+    signature = ended .signature;
+    promise = closing 𝓤 H A ended (clauses 𝓤);
+    asked = callee .signature;
+    demand = closing 𝓤 H A callee (callee-clauses 𝓤);
+    code = function g;
+    meets = λ W 𝓣 known.
         walk-meets 𝓤 H A ended stayed W
         (goes-none-ref 𝓤 H A W 2 (0 ∷ []) tt (plain (λ _. L.the-row)) yes, (goes-gave-slice 𝓤 H A W 2 1 tt (plain (λ _. u8)), tt)) (clauses 𝓤)
         (WpFn 𝓤 H (𝓣 .C) (𝓣 .Λ) (function g)) (WpFn-mono 𝓤 H (W .laws) 𝓣 (function g))
@@ -190,4 +196,5 @@ module _ {N : RattleType} (Re : Result N) (F : Layout → List ℕ → N .Denot)
         (λ κs. (shr-tells (named 0) (κs .0) L.the-row, (mut-slice-tells (named 1) (κs .1 .0) u8, tt)))
         (λ κs qs bounds a _ are. via 𝓤 _ (fst∗ 𝓤 _ (emp 𝓤))
         (walk 𝓤 H A W (κs .0) (κs .1 .0) (qs .0) (qs .1 .0) (a .0 .ptr .0) (a .0 .ptr .1) (a .0 .name) (a .0 .now) (a .1 .0)
-        (𝓣 .C) (𝓣 .Λ) (fmOf 𝓤 H (W .laws) 𝓣) g known (mut-slice-lawful 𝓤 H A W (named 1) (κs .1 .0) u8 .typed (a .1 .0) _ (are .1 .0) .0) (are .1 .0 .0 .1))))
+        (𝓣 .C) (𝓣 .Λ) (fmOf 𝓤 H (W .laws) 𝓣) g known (mut-slice-lawful 𝓤 H A W (named 1) (κs .1 .0) u8 .typed (a .1 .0) _ (are .1 .0) .0) (are .1 .0 .0 .1))));
+  }
