@@ -7,14 +7,10 @@ read-requires : tie.Need-read-requires
 read-requires c κs = search needs
 
 returns : tie.Need-returns
-returns c =
-    let s = c .before .before .before .args in
-    over-refused (s .l) (s .chart .now) (c .before .read .ensures) (c .if1 .taken)
+returns c = over-refused _ _ (c .before .read .ensures) (c .if1 .taken)
 
 returns-2 : tie.Need-returns-2
-returns-2 c =
-    let s = c .before .before .before .args in
-    over-accepted (s .l) (s .chart .now) (c .before .read .ensures) (c .if1 .left)
+returns-2 c = over-accepted _ _ (c .before .read .ensures) (c .if1 .left)
 
 pub read-over-spec : {M : Type 1} → statement M
 read-over-spec = tie.close (tie.spec read-requires returns returns-2)
