@@ -45,13 +45,4 @@ returns-3 c = c .no-pair2 .ensures ∙ reported _ _ (c .before .before .code .gi
 pub crossing-report-spec : {M : Type 1} → statement M
 crossing-report-spec =
     tie.close
-    (tie.spec
-    first-crossing-requires
-    enum-known-e
-    enum-told
-    no-pair-requires
-    enum-known-code
-    no-pair-requires-2
-    returns
-    returns-2
-    returns-3)
+    (tie.spec first-crossing-requires enum-known-e enum-told no-pair-requires enum-known-code no-pair-requires-2 returns returns-2 returns-3)
