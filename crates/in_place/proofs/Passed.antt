@@ -1,12 +1,13 @@
 -- Parameters behind a layout that a function passes on as they came: numbers, and slices that it only reads.
 --     Passed m             one such parameter, of a function with one lifetime more than the callee's m
---     number w, bytes      a number; a slice of bytes, at the callee's one lifetime
+--     number w, bytes      a number; a slice of bytes, at the callee's one lifetime.        numbers ws      a list of numbers
 -- and for a list ps of them, by recursion, so that at a list that is written out all of it computes:
 --     outers, inners       their places in the function's signature and in the callee's
 --     overs, within        their values and their machine values as the callee gets them
+--     handed, had, lends   what they own for the callee, and at exit; both come of what they own at entry
 --     locals, env, past    their locals, where these lie, and the number of a local behind them.        copies      the operands that pass them on
 --     rooms, cells         what their locals own, as one entry of the context
---     lends                what they own, once for the callee and once for the exit
+--     alloc-all, pass-all, read-all, free-all      the steps of a walk for all of them
 use mathlib.Core.Path.{_≡_, refl, sym, subst}
 use Prim.Native.Nat.{ℕ, suc}
 use mathlib.Core.List.{[], _∷_, List}
