@@ -1,2 +1,3 @@
 -- What the proofs of this crate's own functions cite.
 pub mod ReadOver
+pub mod PlayedFrom

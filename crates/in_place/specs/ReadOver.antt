@@ -20,7 +20,9 @@ accepted s = record { refusal = 0; layout = chartLayout s }
 module _ (l : Layout) (s : List ℕ) {r : ChartRead} (read : r ≡ readOf s) where
   number : r .refusal ≡ refusal (chartChecks s)
   unfolding readOf
-  number = ap (λ (a : ChartRead). a .refusal) read ∙ checked-number (chartChecks s) (accepted s) (refusedWith emptyLayout) (λ (a : ChartRead). a .refusal) refl (λ c. refl)
+  number =
+      ap (λ (a : ChartRead). a .refusal) read
+      ∙ checked-number (chartChecks s) (accepted s) (refusedWith emptyLayout) (λ (a : ChartRead). a .refusal) refl (λ c. refl)
 
   pub over-refused : (r .refusal ≡ 0 → ⊥) → refusedWith l (r .refusal) ≡ readOver l s
   unfolding readOver
@@ -30,4 +32,5 @@ module _ (l : Layout) (s : List ℕ) {r : ChartRead} (read : r ≡ readOf s) whe
   unfolding readOf readOver
   over-accepted is =
       let passed : refusal (chartChecks s) ≡ 0 = sym number ∙ is in
-      read ∙ when-accepted (chartChecks s) (accepted s) (refusedWith emptyLayout) passed ∙ sym (when-accepted (chartChecks s) (accepted s) (refusedWith l) passed)
+      read ∙ when-accepted (chartChecks s) (accepted s) (refusedWith emptyLayout) passed
+      ∙ sym (when-accepted (chartChecks s) (accepted s) (refusedWith l) passed)

@@ -5,7 +5,8 @@ ghost use lib.ListN.{length};
 ghost use Rattle.model.specs.declared.Origin.the-variants.{Empty, Chart};
 ghost use Rattle.model.specs.Layouts.{emptyLayout};
 ghost use Rattle.model.specs.Listing.{listedLength, listedBytes};
-ghost use Rattle.model.specs.Playing.{playOf, tableOf};
+ghost use Rattle.model.specs.Playing.{startOf, playedCalls, playOf, tableOf};
+ghost use Rattle.history.specs.Demand3.{Demand3};
 use model::Layout;
 use model::Origin;
 use model::Played;
@@ -35,6 +36,8 @@ pub extern "C" fn rl_play(
 ) -> Played
     ensures { λ r. ⌜ r ≡ playOf (cond «from_chart» Chart Empty) (now (chart .entry)) (now (calls .entry)) (length (now (answers .entry))) ⌝ }
     ensures { λ r. ⌜ now (answers .exit) ≡ tableOf (cond «from_chart» Chart Empty) (now (chart .entry)) (now (calls .entry)) (now (answers .entry)) ⌝ }
+    ensures claim { λ r. ⌜ Demand3 (startOf (cond «from_chart» Chart Empty) (now (chart .entry)) .layout)
+        (playedCalls (cond «from_chart» Chart Empty) (now (chart .entry)) (now (calls .entry)) (length (now (answers .entry)))) ⌝ }
 {
     let origin = origin_of(from_chart);
     history::play(origin, chart, calls, answers)

@@ -1,26 +1,16 @@
 -- `rl_first_crossing` meets its contract: it is `Looked`'s function, over `crossing_report`.
+use mathlib.Core.Path.{refl}
 use mathlib.Core.List.{[]}
-use denote.Struct.Laws as LL
-use Rattle.model.proofs.CrossingReport as N
-use Rattle.model.proofs.CrossingReport.Laws as N′
 use Rattle.model.specs.Reports.{crossingReportOf}
+use Rattle.model.proofs.CrossingReport as CrossingReport
 use Rattle.in_place.proofs.reports.crossing_report as g
-use Rattle.in_place.proofs.reports.crossing_report.Symbol.{name as #g}
-use Rattle.in_place.proofs.reports.crossing_report.Met as g-thm
-use Rattle.in_place.proofs.Passed.{numbers}
-use Rattle.in_place.proofs.OneCall.{calling}
-use Rattle.in_place.proofs.Looked.{Result, meets}
-use Rattle.in_place.proofs.reading.rl_first_crossing.Key.{name as #f}
+use Rattle.in_place.proofs.Answers.{struct}
+use Rattle.in_place.proofs.Looked.{numbers, calling, walks}
 use Rattle.in_place.proofs.reading.rl_first_crossing as f
-use Rattle.in_place.proofs.reading.rl_first_crossing.Statement as stated
-use Rattle.in_place.proofs.reading.rl_first_crossing.Code as code
 
-abbrev result : Result N.the-row
-result = record { returned = N′.mir; typed = λ 𝓤 H A W r v is. LL.lawful N.the-type N′.the-laws 𝓤 H A W .typed r _ is .0 }
-
-pub rl-first-crossing-spec : {M : Type 1} → stated.statement M
-unfolding code.routine
+pub rl-first-crossing-spec : {M : Type 1} → f.Statement.statement M
+unfolding f.Code.routine
 rl-first-crossing-spec 𝓤 H 𝓜 𝓖 𝓡 =
-    calling 𝓤 H 𝓜 𝓖 𝓡 code.env #f code.function f.signature (f.spec 𝓤 H) (code.unfolded 𝓤 H 𝓜 𝓡)
-    #g g.signature (g.spec 𝓤 H) code.calls-in-place·reports·crossing-report (g-thm.met 𝓤 H 𝓜 𝓖 𝓡)
-    (λ W 𝓣. meets result (numbers []) (λ l _ _. crossingReportOf l) 𝓤 H (𝓖 .A) W 𝓣 #g)
+    calling 𝓤 H 𝓜 𝓖 𝓡 f.Code.env f.Key.name
+    (walks (struct CrossingReport.the-type CrossingReport.Laws.the-laws) (numbers []) (λ l _ _. crossingReportOf l) g.Symbol.name 𝓤 H (𝓖 .A))
+    (f.spec 𝓤 H) refl (f.Code.unfolded 𝓤 H 𝓜 𝓡) (g.spec 𝓤 H) refl f.Code.calls-in-place·reports·crossing-report (g.Met.met 𝓤 H 𝓜 𝓖 𝓡)

@@ -1,26 +1,14 @@
 -- `rl_is_valid` meets its contract: it is `Looked`'s function, over `validity::is_valid`.
+use mathlib.Core.Path.{refl}
 use mathlib.Core.List.{[]}
-use mir.Syntax.{tyBool}
-use denote.Builtin.{bool}
-use denote.Plain.{bool-lawful}
 use Rattle.model.specs.Layouts.{valid}
 use Rattle.validity.proofs.is_valid as g
-use Rattle.validity.proofs.is_valid.Symbol.{name as #g}
-use Rattle.validity.proofs.is_valid.Met as g-thm
-use Rattle.in_place.proofs.Passed.{numbers}
-use Rattle.in_place.proofs.OneCall.{calling}
-use Rattle.in_place.proofs.Looked.{Result, meets}
-use Rattle.in_place.proofs.reading.rl_is_valid.Key.{name as #f}
+use Rattle.in_place.proofs.Answers.{truth}
+use Rattle.in_place.proofs.Looked.{numbers, calling, walks}
 use Rattle.in_place.proofs.reading.rl_is_valid as f
-use Rattle.in_place.proofs.reading.rl_is_valid.Statement as stated
-use Rattle.in_place.proofs.reading.rl_is_valid.Code as code
 
-abbrev result : Result bool
-result = record { returned = tyBool; typed = λ 𝓤 H A W r v is. bool-lawful 𝓤 H A W .typed r _ is .0 }
-
-pub rl-is-valid-spec : {M : Type 1} → stated.statement M
-unfolding code.routine
+pub rl-is-valid-spec : {M : Type 1} → f.Statement.statement M
+unfolding f.Code.routine
 rl-is-valid-spec 𝓤 H 𝓜 𝓖 𝓡 =
-    calling 𝓤 H 𝓜 𝓖 𝓡 code.env #f code.function f.signature (f.spec 𝓤 H) (code.unfolded 𝓤 H 𝓜 𝓡)
-    #g g.signature (g.spec 𝓤 H) code.calls-validity·is-valid (g-thm.met 𝓤 H 𝓜 𝓖 𝓡)
-    (λ W 𝓣. meets result (numbers []) (λ l _ _. valid l) 𝓤 H (𝓖 .A) W 𝓣 #g)
+    calling 𝓤 H 𝓜 𝓖 𝓡 f.Code.env f.Key.name (walks truth (numbers []) (λ l _ _. valid l) g.Symbol.name 𝓤 H (𝓖 .A))
+    (f.spec 𝓤 H) refl (f.Code.unfolded 𝓤 H 𝓜 𝓡) (g.spec 𝓤 H) refl f.Code.calls-validity·is-valid (g.Met.met 𝓤 H 𝓜 𝓖 𝓡)

@@ -6,32 +6,22 @@ use Rattle.model.specs.Reading.{shown, firstCrossingOf}
 use Rattle.model.specs.Reports.{crossingReport, crossingReportOf, pairReport}
 use Rattle.in_place.proofs.reports.crossing_report.Statement.{statement}
 use Rattle.in_place.proofs.reports.crossing_report.Tie as tie
-use Rattle.in_place.proofs.reports.crossing_report.Reads as reads
-use Rattle.in_place.proofs.reports.crossing_report.Lts as lts
-use Rattle.crossing.proofs.first_crossing.Reads as first-crossing-reads
-use Rattle.in_place.proofs.reports.no_pair.Reads as no-pair-reads
 
--- src/reports.rt:27:11
 first-crossing-requires : tie.Need-first-crossing-requires
 first-crossing-requires c κs = search needs
 
--- src/reports.rt:28:29
 enum-known-e : tie.Need-enum-known-e
 enum-known-e c = search needs
 
--- src/reports.rt:34:35
 enum-told : tie.Need-enum-told
 enum-told c = search needs
 
--- src/reports.rt:34:35
 no-pair-requires : tie.Need-no-pair-requires
 no-pair-requires c κs = search needs
 
--- src/reports.rt:35:32
 enum-known-code : tie.Need-enum-known-code
 enum-known-code c = search needs
 
--- src/reports.rt:35:41
 no-pair-requires-2 : tie.Need-no-pair-requires-2
 no-pair-requires-2 c κs = search needs
 
@@ -40,17 +30,14 @@ reported : (l : Layout) {r : FirstCrossing} (case : FirstCrossing) → r ≡ cas
 unfolding crossingReportOf
 reported l case is met = ap (λ x. crossingReport (shown x)) (sym is) ∙ ap crossingReport met
 
--- src/reports.rt:24:1
 returns : tie.Need-returns
 unfolding crossingReport shown pairReport
 returns c = reported _ _ (c .before .e .given .1) (c .before .before .before .first-crossing .ensures)
 
--- src/reports.rt:24:1
 returns-2 : tie.Need-returns-2
 unfolding crossingReport shown
 returns-2 c = c .no-pair .ensures ∙ reported _ _ (c .before .enum-told .given .1) (c .before .before .before .first-crossing .ensures)
 
--- src/reports.rt:24:1
 returns-3 : tie.Need-returns-3
 unfolding crossingReport shown
 returns-3 c = c .no-pair2 .ensures ∙ reported _ _ (c .before .before .code .given .1) (c .before .before .before .before .first-crossing .ensures)
@@ -58,13 +45,4 @@ returns-3 c = c .no-pair2 .ensures ∙ reported _ _ (c .before .before .code .gi
 pub crossing-report-spec : {M : Type 1} → statement M
 crossing-report-spec =
     tie.close
-    (tie.spec
-    first-crossing-requires
-    enum-known-e
-    enum-told
-    no-pair-requires
-    enum-known-code
-    no-pair-requires-2
-    returns
-    returns-2
-    returns-3)
+    (tie.spec first-crossing-requires enum-known-e enum-told no-pair-requires enum-known-code no-pair-requires-2 returns returns-2 returns-3)

@@ -2,10 +2,7 @@ use mathlib.Core.Path.{refl}
 use Rattle.model.specs.Reports.{pairReport, noEdge}
 use Rattle.in_place.proofs.reports.no_pair.Statement.{statement}
 use Rattle.in_place.proofs.reports.no_pair.Tie as tie
-use Rattle.in_place.proofs.reports.no_pair.Reads as reads
-use Rattle.in_place.proofs.reports.no_pair.Lts as lts
 
--- src/reports.rt:39:1
 returns : tie.Need-returns
 unfolding pairReport noEdge
 returns c = refl

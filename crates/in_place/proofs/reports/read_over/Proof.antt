@@ -1,26 +1,16 @@
 use borrow.Author.Needs.{needs}
 use Rattle.in_place.proofs.reports.read_over.Statement.{statement}
 use Rattle.in_place.proofs.reports.read_over.Tie as tie
-use Rattle.in_place.proofs.reports.read_over.Reads as reads
-use Rattle.in_place.proofs.reports.read_over.Lts as lts
-use Rattle.chart.proofs.read.Reads as read-reads
 use Rattle.in_place.specs.ReadOver.{over-refused, over-accepted}
 
--- src/reports.rt:16:9
 read-requires : tie.Need-read-requires
 read-requires c κs = search needs
 
--- src/reports.rt:19:9
 returns : tie.Need-returns
-returns c =
-    let s = c .before .before .before .args in
-    over-refused (s .l) (s .chart .now) (c .before .read .ensures) (c .if1 .taken)
+returns c = over-refused _ _ (c .before .read .ensures) (c .if1 .taken)
 
--- src/reports.rt:13:1
 returns-2 : tie.Need-returns-2
-returns-2 c =
-    let s = c .before .before .before .args in
-    over-accepted (s .l) (s .chart .now) (c .before .read .ensures) (c .if1 .left)
+returns-2 c = over-accepted _ _ (c .before .read .ensures) (c .if1 .left)
 
 pub read-over-spec : {M : Type 1} → statement M
 read-over-spec = tie.close (tie.spec read-requires returns returns-2)

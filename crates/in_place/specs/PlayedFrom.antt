@@ -1,0 +1,19 @@
+-- What playing a list of calls promises, of one origin and of another that it is.
+use mathlib.Core.Path.{_≡_, subst}
+use mathlib.Core.List.{List}
+use Prim.Native.Nat.{ℕ}
+use lib.ListN.{length}
+use Rattle.model.specs.declared.Origin.{Origin}
+use Rattle.model.specs.declared.Played.{Played}
+use Rattle.model.specs.Playing.{startOf, playedCalls, playOf, tableOf}
+use Rattle.history.specs.Demand3.{Demand3}
+
+-- what is returned, the table at exit, and the claim over the calls played
+abbrev Promised : (chart calls table : List ℕ) → Played → List ℕ → Origin → Type 0
+Promised chart calls table r after from =
+    (r ≡ playOf from chart calls (length table))
+    × ((after ≡ tableOf from chart calls table) × Demand3 (startOf from chart .layout) (playedCalls from chart calls (length table)))
+
+pub played-from : (chart calls table : List ℕ) {r : Played} {after : List ℕ} {from to : Origin}
+    → from ≡ to → Promised chart calls table r after from → Promised chart calls table r after to
+played-from chart calls table {r} {after} = subst (Promised chart calls table r after)
