@@ -1,3 +1,2 @@
 -- What the proofs of this crate's own functions cite.
-pub mod ReadOver
 pub mod PlayedFrom

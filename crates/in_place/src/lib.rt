@@ -3,4 +3,3 @@
 mod calls;
 mod lists;
 mod reading;
-mod reports;

@@ -3,11 +3,11 @@ ghost use mathlib.Core.Path.{_≡_};
 ghost use Rattle.model.specs.Layouts.{valid};
 ghost use Rattle.model.specs.Reading.{countOf, orderRefusal, orderBytes};
 ghost use Rattle.model.specs.Reports.{readOver, crossingReportOf};
-use super::reports::crossing_report;
-use super::reports::read_over;
 use model::Counted;
 use model::CrossingReport;
 use model::Layout;
+use reports::crossing_report;
+use reports::read_over;
 
 #[no_mangle]
 pub extern "C" fn rl_read_chart(l: &mut Layout, chart: &[u8]) -> u8

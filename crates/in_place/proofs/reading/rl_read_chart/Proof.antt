@@ -2,7 +2,7 @@
 use mathlib.Core.Path.{refl}
 use mathlib.Core.List.{[], _∷_}
 use Rattle.model.specs.Reports.{readOver}
-use Rattle.in_place.proofs.reports.read_over as g
+use Rattle.reports.proofs.read_over as g
 use Rattle.in_place.proofs.Answers.{chart-read}
 use Rattle.in_place.proofs.Lent.{bytes, calling, walks}
 use Rattle.in_place.proofs.reading.rl_read_chart as f
@@ -11,4 +11,4 @@ pub rl-read-chart-spec : {M : Type 1} → f.Statement.statement M
 unfolding f.Code.routine
 rl-read-chart-spec 𝓤 H 𝓜 𝓖 𝓡 =
     calling 𝓤 H 𝓜 𝓖 𝓡 f.Code.env f.Key.name (walks chart-read (bytes ∷ []) (λ l _ x. readOver l (x .0 .now)) g.Symbol.name 𝓤 H (𝓖 .A))
-    (f.spec 𝓤 H) refl (f.Code.unfolded 𝓤 H 𝓜 𝓡) (g.spec 𝓤 H) refl f.Code.calls-in-place·reports·read-over (g.Met.met 𝓤 H 𝓜 𝓖 𝓡)
+    (f.spec 𝓤 H) refl (f.Code.unfolded 𝓤 H 𝓜 𝓡) (g.spec 𝓤 H) refl f.Code.calls-reports·read-over (g.Met.met 𝓤 H 𝓜 𝓖 𝓡)

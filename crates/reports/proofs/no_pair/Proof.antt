@@ -1,7 +1,7 @@
 use mathlib.Core.Path.{refl}
 use Rattle.model.specs.Reports.{pairReport, noEdge}
-use Rattle.in_place.proofs.reports.no_pair.Statement.{statement}
-use Rattle.in_place.proofs.reports.no_pair.Tie as tie
+use Rattle.reports.proofs.no_pair.Statement.{statement}
+use Rattle.reports.proofs.no_pair.Tie as tie
 
 returns : tie.Need-returns
 unfolding pairReport noEdge

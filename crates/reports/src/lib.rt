@@ -1,4 +1,4 @@
-// By value: what the calls by value do not answer in the form that a host gets.
+// By value, what a host gets of a chart read over a layout, and of the search for a crossing pair.
 ghost use mathlib.Core.Path.{_≡_};
 ghost use mathlib.Core.List.{[]};
 ghost use Rattle.model.specs.Reports.{readOver, crossingReportOf, pairReport};
@@ -10,7 +10,7 @@ use model::FirstCrossing;
 use model::Layout;
 
 // The chart's layout, or the one handed in where the chart is refused.
-pub(crate) fn read_over(l: Layout, chart: &[u8]) -> ChartRead
+pub fn read_over(l: Layout, chart: &[u8]) -> ChartRead
     ensures { λ r. ⌜ r ≡ readOver l (now (chart .entry)) ⌝ }
 {
     let read = chart::read(chart);
@@ -21,7 +21,7 @@ pub(crate) fn read_over(l: Layout, chart: &[u8]) -> ChartRead
     read
 }
 
-pub(crate) fn crossing_report(l: Layout) -> CrossingReport
+pub fn crossing_report(l: Layout) -> CrossingReport
     ensures { λ r. ⌜ r ≡ crossingReportOf l ⌝ }
 {
     match first_crossing(l) {

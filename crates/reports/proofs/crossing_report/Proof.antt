@@ -4,8 +4,8 @@ use Rattle.model.specs.declared.Layout.{Layout}
 use Rattle.model.specs.declared.FirstCrossing.{FirstCrossing}
 use Rattle.model.specs.Reading.{shown, firstCrossingOf}
 use Rattle.model.specs.Reports.{crossingReport, crossingReportOf, pairReport}
-use Rattle.in_place.proofs.reports.crossing_report.Statement.{statement}
-use Rattle.in_place.proofs.reports.crossing_report.Tie as tie
+use Rattle.reports.proofs.crossing_report.Statement.{statement}
+use Rattle.reports.proofs.crossing_report.Tie as tie
 
 first-crossing-requires : tie.Need-first-crossing-requires
 first-crossing-requires c κs = search needs

@@ -1,7 +1,7 @@
 use borrow.Author.Needs.{needs}
-use Rattle.in_place.proofs.reports.read_over.Statement.{statement}
-use Rattle.in_place.proofs.reports.read_over.Tie as tie
-use Rattle.in_place.specs.ReadOver.{over-refused, over-accepted}
+use Rattle.reports.proofs.read_over.Statement.{statement}
+use Rattle.reports.proofs.read_over.Tie as tie
+use Rattle.reports.specs.ReadOver.{over-refused, over-accepted}
 
 read-requires : tie.Need-read-requires
 read-requires c κs = search needs
