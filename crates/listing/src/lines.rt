@@ -22,7 +22,7 @@ pub(crate) fn put_numbers(out: &mut [u8], x: Numbers) -> usize
     requires { ⌜ 1024 ≤ length (now out) ⌝ }
     ensures { λ r. ⌜ Written (now (out .entry)) 0
         (line "devices" (spaced (x .vertices)) ++ line "links" (spaced (x .edges)) ++ line "before" (spaced (x .before))
-            ++ line "after" (spaced (x .after)) ++ line "rounds" (spaced (x .rounds)))
+        ++ line "after" (spaced (x .after)) ++ line "rounds" (spaced (x .rounds)))
         (now (out .exit)) r × (r ≤ 150) ⌝ }
 {
     let links = put_line(out, 0, b"devices", x.vertices);
