@@ -40,7 +40,7 @@ pub extern "C" fn rl_play(
         (playedCalls (cond «from_chart» Chart Empty) (now (chart .entry)) (now (calls .entry)) (length (now (answers .entry)))) ⌝ }
 {
     let origin = origin_of(from_chart);
-    history::play(origin, chart, calls, answers)
+    playing::play(origin, chart, calls, answers)
 }
 
 fn origin_of(from_chart: bool) -> Origin

@@ -1,4 +1,4 @@
-// The calls that change a layout, each through history::step: what is compared is what the theorem
+// The calls that change a layout, each through steps::step: what is compared is what the theorem
 // over lists of calls speaks of.
 ghost use Prim.Native.Nat.{_+_, _≤_};
 use answers::Played;
@@ -14,7 +14,7 @@ use text::put_text;
 pub(crate) fn play_call(l: Layout, c: Call, line: &mut [u8]) -> Played
     ensures { λ r. ⌜ r .written ≤ 4096 ⌝ }
 {
-    let answer = history::step(l, c);
+    let answer = steps::step(l, c);
     let after = answer.layout;
     let at = put_answer(line, c, answer);
     told(line, at, l, after)

@@ -55,7 +55,7 @@ fn play_op(l: Layout, op: u64, a: u64, b: u64, line: &mut [u8]) -> Played
         24 => reads::count(l, line),
         25 => reads::order(l, a, b, line),
         26 => reads::pair(l, line),
-        _ => play_decoded(l, history::call_of(op, a as usize, b as usize), line),
+        _ => play_decoded(l, steps::call_of(op, a as usize, b as usize), line),
     }
 }
 

@@ -4,9 +4,9 @@ use native.Mathlib.Omega.{arith}
 use mathlib.Core.Path.{sym, _∙_}
 use lib.ListN.{length}
 use Rattle.model.specs.Playing.{callsOf}
-use Rattle.history.specs.CallLists.{calls-fit, counted-next, counted-end}
-use Rattle.history.proofs.calls.count_calls.Statement.{statement}
-use Rattle.history.proofs.calls.count_calls.Tie as tie
+use Rattle.playing.specs.CallLists.{calls-fit, counted-next, counted-end}
+use Rattle.playing.proofs.calls.count_calls.Statement.{statement}
+use Rattle.playing.proofs.calls.count_calls.Tie as tie
 
 abbrev Inv-loop : tie.InvT-loop
 Inv-loop calls most i₀ i = i ≤ length (callsOf calls)

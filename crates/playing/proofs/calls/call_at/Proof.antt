@@ -1,9 +1,9 @@
 use Prim.Native.Nat.{_*_}
 use mathlib.Core.Path.{_∙_}
-use Rattle.history.specs.CallLists.{call-from}
+use Rattle.playing.specs.CallLists.{call-from}
 use borrow.Author.Needs.{needs}
-use Rattle.history.proofs.calls.call_at.Statement.{statement}
-use Rattle.history.proofs.calls.call_at.Tie as tie
+use Rattle.playing.proofs.calls.call_at.Statement.{statement}
+use Rattle.playing.proofs.calls.call_at.Tie as tie
 
 mul-at : tie.Need-mul-at
 mul-at c = search needs

@@ -1,8 +1,8 @@
 use borrow.Author.Needs.{needs}
 use mathlib.Core.Path.{sym, _∙_}
-use Rattle.history.specs.PlayLoops.{there-played, there-ended}
-use Rattle.history.proofs.playing.play_next.Statement.{statement}
-use Rattle.history.proofs.playing.play_next.Tie as tie
+use Rattle.playing.specs.PlayLoops.{there-played, there-ended}
+use Rattle.playing.proofs.playing.play_next.Statement.{statement}
+use Rattle.playing.proofs.playing.play_next.Tie as tie
 
 call-at-requires : tie.Need-call-at-requires
 call-at-requires c κs = search needs

@@ -3,10 +3,10 @@ use native.Mathlib.Omega.{arith}
 use mathlib.Core.Path.{_≡_}
 use lib.ListN.{length}
 use Rattle.laws.specs.Buffers.Writing.{written-size}
-use Rattle.history.specs.CallLists.{calls-fit}
-use Rattle.history.specs.PlayLoops.{PlayedUpTo, played-start, played-next, played-all}
-use Rattle.history.proofs.playing.play_all.Statement.{statement}
-use Rattle.history.proofs.playing.play_all.Tie as tie
+use Rattle.playing.specs.CallLists.{calls-fit}
+use Rattle.playing.specs.PlayLoops.{PlayedUpTo, played-start, played-next, played-all}
+use Rattle.playing.proofs.playing.play_all.Statement.{statement}
+use Rattle.playing.proofs.playing.play_all.Tie as tie
 
 abbrev Inv-loop : tie.InvT-loop
 Inv-loop calls count answers₀ layout₀ i₀ answers layout i = PlayedUpTo layout₀ calls answers₀ i layout answers

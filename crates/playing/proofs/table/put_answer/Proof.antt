@@ -1,9 +1,9 @@
 use native.Mathlib.Omega.{arith}
 use lib.ListN.{length-set}
-use Rattle.history.specs.PlayLoops.{answer-written}
+use Rattle.playing.specs.PlayLoops.{answer-written}
 use borrow.Author.Needs.{needs}
-use Rattle.history.proofs.table.put_answer.Statement.{statement}
-use Rattle.history.proofs.table.put_answer.Tie as tie
+use Rattle.playing.proofs.table.put_answer.Statement.{statement}
+use Rattle.playing.proofs.table.put_answer.Tie as tie
 
 cast-table : tie.Need-cast-table
 cast-table c = search needs

@@ -3,8 +3,8 @@ use Rattle.model.specs.declared.Layout.{Layout}
 use Rattle.model.specs.declared.Origin.{Origin}
 use Rattle.model.specs.Playing.{startOf}
 use borrow.Author.Needs.{needs}
-use Rattle.history.proofs.playing.start_of.Statement.{statement}
-use Rattle.history.proofs.playing.start_of.Tie as tie
+use Rattle.playing.proofs.playing.start_of.Statement.{statement}
+use Rattle.playing.proofs.playing.start_of.Tie as tie
 
 enum-told : tie.Need-enum-told
 enum-told c = search needs

@@ -7,10 +7,10 @@ use lib.ListN.{length}
 use Rattle.model.specs.declared.Origin.{Origin}
 use Rattle.model.specs.declared.Played.{Played}
 use Rattle.model.specs.Playing.{startOf, playedCalls, playOf, tableOf}
 use Rattle.history.specs.Demand3.{Demand3}
-use Rattle.history.specs.PlayAnswers.{Answered, play-unstarted, play-short, play-done, play-claim}
-use Rattle.history.proofs.playing.play.Statement.{statement}
-use Rattle.history.proofs.playing.play.Tie as tie
+use Rattle.playing.specs.PlayAnswers.{Answered, play-unstarted, play-short, play-done, play-claim}
+use Rattle.playing.proofs.playing.play.Statement.{statement}
+use Rattle.playing.proofs.playing.play.Tie as tie
 
 -- the clauses of the contract
 told : {from : Origin} {chart numbers table : List ℕ} {r : Played} {after : List ℕ} → Answered from chart numbers table r after

@@ -12,7 +12,7 @@ use Rattle.model.specs.declared.Decoded.the-variants as decoded
 use Rattle.model.specs.Histories.{answerOf, steps, played}
 use Rattle.model.specs.Playing.{firstCall, callsOf, answerNumbers, answersOf}
 use Rattle.laws.specs.Buffers.Writing.{written, Written, written-none, written-nothing, written-byte, written-step, written-size, written-whole}
-use Rattle.history.specs.CallLists.{callThere, there-next, there-end, next-call, there-size}
+use Rattle.playing.specs.CallLists.{callThere, there-next, there-end, next-call, there-size}
 
 -- ---- one answer
 
