@@ -1,4 +1,4 @@
--- The next vertex, found by going through all vertices with counts under the set of the placed ones and under its complement.
+-- The vertex that the code chooses is the next one of the definition.
 use Prim.Native.Nat.{ℕ, zero, suc, _+_, _≤_, _<_}
 use native.Mathlib.Nat.{le-antisymm, le-refl, le-of-lt, le-of-eq, le-trans}
 use native.Mathlib.Numerals.{add-one}
@@ -15,52 +15,10 @@ use Rattle.model.specs.GreedyAppend.{unplaced, degreeIn, preferred, bestOf, nex
 use Rattle.laws.specs.Sums.Lists.{keep-append}
 use Rattle.laws.specs.Sums.Bits.{maskedOnes, maskedOnes-le}
 use Rattle.laws.specs.Append.Order.{Placed}
-use Rattle.append.specs.declared.choice.Choice.{Choice}
-use Rattle.append.specs.Masks.{complement, Held, Words, placed-test, inside-count, outside-count}
-
--- a comes before b
-unfoldable pub comesBefore : Choice → Choice → Bool
-comesBefore a b = ltb (b .placed) (a .placed) || eqb (a .placed) (b .placed) && ltb (a .unplaced) (b .unplaced)
-
-unfoldable pub preferredOf : Choice → Choice → Choice
-preferredOf best other = cond (comesBefore other best) other best
-
-unfoldable pub candidate : ℕ → ℕ → ℕ → Choice
-candidate v word placed = record { vertex = v; placed = maskedOnes word placed; unplaced = maskedOnes word (complement placed) }
-
-unfoldable pub consideredOf : Choice → ℕ → ℕ → ℕ → Choice
-consideredOf best v word placed = cond (eqb (bit placed v) 1) best (preferredOf best (candidate v word placed))
-
--- every candidate is preferred to none
-unfoldable pub noChoice : Choice
-noChoice = record { vertex = 0; placed = 0; unplaced = 65 }
-
--- the best of the vertices below k
-unfoldable pub bestBelow : List ℕ → ℕ → ℕ → Choice
-bestBelow adj placed zero = noChoice
-bestBelow adj placed (suc k) = consideredOf (bestBelow adj placed k) k (getD adj k 0) placed
-
--- ---- the loop over the vertices
-
-pub record BestUpTo (n : ℕ) (adj : List ℕ) (placed : ℕ) (best : Choice) (k : ℕ) : Type 0 where
-  pub inside : k ≤ n
-  pub found : best ≡ bestBelow adj placed k
-
-module _ {n : ℕ} {adj : List ℕ} {placed : ℕ} where
-  pub best-start : BestUpTo n adj placed (record { vertex = 0; placed = 0; unplaced = 65 }) 0
-  unfolding bestBelow noChoice
-  best-start = record { inside = omega arith; found = refl }
-
-  pub best-more : {best next : Choice} {k : ℕ} → BestUpTo n adj placed best k → k < n → next ≡ consideredOf best k (getD adj k 0) placed
-      → BestUpTo n adj placed next (k + 1)
-  unfolding bestBelow
-  best-more {best} {next} {k} b h e =
-      rw (add-one k) (record { inside = h; found = e ∙ ap (λ (c : Choice). consideredOf c k (getD adj k 0) placed) (b .found) })
-
-  pub best-end : {best : Choice} {k : ℕ} → BestUpTo n adj placed best k → n ≤ k → best ≡ bestBelow adj placed n
-  best-end {best} {k} b h = b .found ∙ ap (bestBelow adj placed) (le-antisymm (b .inside) h)
-
--- ---- the next vertex
+use Rattle.choice.specs.declared.Choice.{Choice}
+use Rattle.choice.specs.Choices.{comesBefore, preferredOf, candidate, consideredOf, noChoice, bestBelow}
+use Rattle.choice.specs.Choices.{complement}
+use Rattle.append.specs.Masks.{Held, Words, placed-test, inside-count, outside-count}
 
 module _ (n : ℕ) (adj xs : List ℕ) where
   -- a vertex with the counts of the definition

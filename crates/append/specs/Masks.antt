@@ -20,12 +20,7 @@ use Rattle.laws.specs.Orders.Permutations.{occurrences-nil, occurrences-cons, o
 use Rattle.laws.specs.Sums.Bits.{bit-beyond, bit-complement, maskedOnes, set-same, set-other}
 use Rattle.laws.specs.Crossings.Masks.{Holds, masked-sum, weight-bit}
 use Rattle.laws.specs.Append.Order.{Placed, sumOver-unplaced}
-
--- ---- the complement of a word
-
--- the bits that a word of 64 bits does not have
-unfoldable pub complement : ℕ → ℕ
-complement m = 2 ^ 64 - 1 - m
+use Rattle.choice.specs.Choices.{complement}
 
 -- ---- a set of vertices as a word
 

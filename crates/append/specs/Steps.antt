@@ -22,9 +22,10 @@ use Rattle.append.specs.declared.ends.Ends.{Ends}
 use Rattle.append.specs.declared.steps.Partial.{Partial}
 use Rattle.append.specs.Lines.{entries, Centred, entries-length, aloneAt, alone-centred, alone-entries, atFront, front-centred, front-entries, atBack}
 use Rattle.append.specs.Lines.{back-centred, back-entries}
-use Rattle.append.specs.Masks.{complement, Held, held-none, held-front, held-back, Words, outside-count}
+use Rattle.append.specs.Masks.{Held, held-none, held-front, held-back, Words, outside-count}
 use Rattle.append.specs.Ends.{openFrom, endsOf, ends-small}
-use Rattle.append.specs.Choices.{bestBelow, best-next}
+use Rattle.append.specs.Choices.{best-next}
+use Rattle.choice.specs.Choices.{complement, bestBelow}
 
 -- ---- what a step is
 

@@ -1,6 +1,5 @@
 // Greedy append (document 01: lay). One file for each subject.
 mod appending;
-mod choice;
 mod ends;
 mod line;
 mod steps;

@@ -3,13 +3,13 @@ ghost use mathlib.Core.Path.{_≡_};
 ghost use Prim.Native.Nat.{_<_};
 ghost use Rattle.append.specs.Masks.{Words};
 ghost use Rattle.append.specs.Steps.{Underway, Stepped, Fitting, putOf, Finished};
-use super::choice::next_vertex;
 use super::ends::Ends;
 use super::ends::end_crossings;
 use super::line::Line;
 use super::line::alone;
 use super::line::put_back;
 use super::line::put_front;
+use choice::next_vertex;
 
 // The vertices placed so far, as a list and as bits, and the tally.
 pub struct Partial {

@@ -23,7 +23,7 @@ pub(crate) fn join_edges(links: &[u8], adjacency: &mut [u64; 64]) -> Asked
         if words::is_set(adjacency[a], b) {
             return Asked::Refused(7);
         }
-        words::join(adjacency, a, b);
+        ends::join(adjacency, a, b);
         i += 2;
     }
     Asked::Passed

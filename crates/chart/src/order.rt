@@ -15,7 +15,7 @@ pub(crate) fn ask_order(n: usize, body: &[u8]) -> Asked
     if body.len() != n {
         return Asked::Refused(8);
     }
-    if validity::is_order(n, body) {
+    if orders::is_order(n, body) {
         Asked::Passed
     } else {
         Asked::Refused(8)

@@ -27,7 +27,7 @@ pub extern "C" fn rl_add_vertex(l: &mut Layout) -> AddReport
 pub extern "C" fn rl_add_edge(l: &mut Layout, a: usize, b: usize) -> u8
     ensures { λ r. ⌜ (r ≡ linkOf (now (l .entry)) a b .refusal) × (now (l .exit) ≡ linkOf (now (l .entry)) a b .layout) ⌝ }
 {
-    let answer = layout::add_edge(*l, a, b);
+    let answer = edges::add_edge(*l, a, b);
     *l = answer.layout;
     answer.refusal
 }
@@ -36,7 +36,7 @@ pub extern "C" fn rl_add_edge(l: &mut Layout, a: usize, b: usize) -> u8
 pub extern "C" fn rl_remove_edge(l: &mut Layout, a: usize, b: usize) -> u8
     ensures { λ r. ⌜ (r ≡ unlinkOf (now (l .entry)) a b .refusal) × (now (l .exit) ≡ unlinkOf (now (l .entry)) a b .layout) ⌝ }
 {
-    let answer = layout::remove_edge(*l, a, b);
+    let answer = edges::remove_edge(*l, a, b);
     *l = answer.layout;
     answer.refusal
 }

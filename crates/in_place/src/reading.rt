@@ -23,7 +23,7 @@ pub extern "C" fn rl_read_chart(l: &mut Layout, chart: &[u8]) -> u8
 pub extern "C" fn rl_count(l: &Layout) -> Counted
     ensures { λ r. ⌜ r ≡ countOf (now (l .entry)) ⌝ }
 {
-    layout::count(*l)
+    reads::count(*l)
 }
 
 #[no_mangle]
@@ -46,5 +46,5 @@ pub extern "C" fn rl_order(l: &Layout, buffer: &mut [u8]) -> u8
     ensures { λ r. ⌜ (r ≡ orderRefusal (now (l .entry)) (now (buffer .entry)))
         × (now (buffer .exit) ≡ orderBytes (now (l .entry)) (now (buffer .entry))) ⌝ }
 {
-    layout::order(*l, buffer)
+    reads::order(*l, buffer)
 }

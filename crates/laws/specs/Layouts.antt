@@ -2,6 +2,7 @@
 -- layout valid and a right count right. Others cite sound and sound-valid, crossings-bound, checked-either, recounted-changed, Keeps with add-keeps,
 -- link-keeps, unlink-keeps and move-keeps, and Sized.
 pub mod Validity
+pub mod Zeros
 pub mod Complete
 pub mod Refusals
 pub mod Recount

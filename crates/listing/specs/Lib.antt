@@ -1,3 +1,2 @@
--- The listing's parts: how many edges, and the text.
-pub mod EdgeTotals
+-- The parts of a listing.
 pub mod Text

@@ -21,19 +21,10 @@ use Rattle.laws.specs.Sums.Ranges.{sum}
 use Rattle.laws.specs.Sums.Bits.{maskedOnes}
 use Rattle.laws.specs.Layouts.Refusals.{by-number}
 use Rattle.laws.specs.Layouts.Validity.{sound}
-use Rattle.listing.specs.EdgeTotals.{edges-twice}
 use Rattle.laws.specs.Layouts.Reordering.{CountRight}
 use Rattle.laws.specs.Buffers.Writing.{Written, written-whole}
 use Rattle.laws.specs.Sifting.Rounds.{settling}
 use Rattle.laws.specs.Sifting.Calls.{settle-accepted, settle-keeps}
-
--- the number of edges, from the ones of the words
-pub edges-halved : (l : Layout) → T (valid l) → {r : ℕ} → r ≡ sum (l .n) (λ v. maskedOnes (getD (l .adjacency) v 0) (2 ^ l .n - 1)) / 2
-    → r ≡ length (edges (l .n) (l .adjacency))
-edges-halved l t e =
-    e
-    ∙ ap (λ (x : ℕ). x / 2) (edges-twice (l .n) (l .adjacency) (sound l t .small) (sound l t .symmetry))
-    ∙ mul-div-cancel-left (length (edges (l .n) (l .adjacency))) (omega arith)
 
 -- the settled layout is valid, has the same vertices and the right count
 pub record Settled (l : Layout) (r : Converged) : Type 0 where

@@ -2,13 +2,11 @@
 // refused it.
 ghost use mathlib.Core.Path.{_≡_};
 ghost use mathlib.Core.List.{_++_};
-ghost use Prim.Native.Nat.{_-_, _/_, _^_, _≤_};
+ghost use Prim.Native.Nat.{_≤_};
 ghost use lib.Dec.{T};
-ghost use lib.ListN.{length, getD, drop};
+ghost use lib.ListN.{length, drop};
 ghost use Rattle.model.specs.Layouts.{valid};
 ghost use Rattle.model.specs.Listing.{listing, listedLength, listedBytes};
-ghost use Rattle.laws.specs.Sums.Ranges.{sum};
-ghost use Rattle.laws.specs.Sums.Bits.{maskedOnes};
 ghost use Rattle.laws.specs.Layouts.Reordering.{CountRight};
 use super::lines::Numbers;
 use super::lines::put_numbers;
@@ -46,7 +44,7 @@ fn list_layout(l: Layout, out: &mut [u8]) -> usize
     let after = settled.layout;
     let numbers = Numbers {
         vertices: n as u32,
-        edges: edge_count(n, &adjacency),
+        edges: graphs::edge_count(n, &adjacency),
         before: l.count,
         after: after.count,
         rounds: settled.rounds,
@@ -55,19 +53,4 @@ fn list_layout(l: Layout, out: &mut [u8]) -> usize
     let state = put_numbers(out, numbers);
     let order_line = put_settled(out, state, settled.converged);
     put_order_line(out, order_line, &order[..n])
-}
-
-// How many edges there are: each stands in the words of both its ends.
-fn edge_count(n: usize, adjacency: &[u64; 64]) -> u32
-    requires { ⌜ n ≤ 64 ⌝ }
-    ensures { λ r. ⌜ r ≡ sum n (λ v. maskedOnes (getD (now (adjacency .entry)) v 0) (2 ^ n - 1)) / 2 ⌝ }
-{
-    let all = words::low_bits(n);
-    let mut total: u32 = 0;
-    let mut v = 0;
-    while v < n {
-        total += words::count(adjacency[v], all);
-        v += 1;
-    }
-    total / 2
 }

@@ -2,8 +2,8 @@
 ghost use Prim.Native.Nat.{_≤_};
 ghost use Rattle.io.specs.Counts.{Counts};
 use crate::calls::play_call;
-use crate::reads;
 use crate::starts;
+use crate::views;
 use answers::Played;
 use answers::silent;
 use model::Decoded;
@@ -52,10 +52,10 @@ fn play_op(l: Layout, op: u64, a: u64, b: u64, line: &mut [u8]) -> Played
         3 => silent(records::with_place(l, a, b)),
         4 => silent(records::with_word(l, a, b)),
         5 => silent(records::with_count(l, a)),
-        24 => reads::count(l, line),
-        25 => reads::order(l, a, b, line),
-        26 => reads::pair(l, line),
-        _ => play_decoded(l, steps::call_of(op, a as usize, b as usize), line),
+        24 => views::count(l, line),
+        25 => views::order(l, a, b, line),
+        26 => views::pair(l, line),
+        _ => play_decoded(l, encoding::call_of(op, a as usize, b as usize), line),
     }
 }
 

@@ -5,8 +5,8 @@
 
 mod calls;
 mod dispatch;
-mod reads;
 mod starts;
+mod views;
 
 pub use answers::Played;
 pub use dispatch::play;

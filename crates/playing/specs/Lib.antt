@@ -1,4 +1,3 @@
--- What the proofs of the code cite: CallLists the calls read from numbers, PlayLoops and PlayAnswers a list of them played.
-pub mod CallLists
+-- What the proofs of the code cite: a list of calls played.
 pub mod PlayLoops
 pub mod PlayAnswers

@@ -3,36 +3,17 @@ use Prim.Native.Nat.{ℕ, _+_, _*_, _≤_, _<_}
 use native.Mathlib.Omega.{arith}
 use mathlib.Core.Path.{_≡_, refl, sym, ap, ap₂, _∙_, subst}
 use mathlib.Core.List.{List, [], _∷_, _++_, flatMap, append-assoc}
-use lib.ListN.{length, take, drop, set}
+use lib.ListN.{length, take, drop}
 use lib.Seq.{take-all}
 use Rattle.model.specs.declared.Layout.{Layout}
 use Rattle.model.specs.declared.Outcome.{Outcome}
 use Rattle.model.specs.declared.Call.{Call}
 use Rattle.model.specs.declared.Decoded.the-variants as decoded
 use Rattle.model.specs.Histories.{answerOf, steps, played}
-use Rattle.model.specs.Playing.{firstCall, callsOf, answerNumbers, answersOf}
-use Rattle.laws.specs.Buffers.Writing.{written, Written, written-none, written-nothing, written-byte, written-step, written-size, written-whole}
-use Rattle.playing.specs.CallLists.{callThere, there-next, there-end, next-call, there-size}
-
--- ---- one answer
-
--- one number more
-number-written : {start : List ℕ} {base : ℕ} {s bytes : List ℕ} {at : ℕ} → Written start base s bytes at → (x : ℕ) {place : ℕ} → place ≡ at → at < length start
-    → Written start base (s ++ (x ∷ [])) (set bytes place x) (place + 1)
-number-written {bytes} {at} w x {place} e h =
-    let size = written-size w (omega arith) in
-    written-step w (x ∷ []) (omega arith) (written-byte bytes place x (omega arith) ∙ ap (λ (k : ℕ). written bytes k (x ∷ [])) e) (omega arith)
-
--- the four of an answer
-pub answer-written : (a : Outcome) (table : List ℕ) (at : ℕ) → at + 4 ≤ length table
-    → set (set (set (set table at (a .refusal)) (at + 1) (a .first)) (at + 2) (a .second)) (at + 3) (a .third) ≡ written table at (answerNumbers a)
-unfolding answerNumbers
-answer-written a table at h =
-    let w₁ = number-written (written-none table at) (a .refusal) refl (omega arith) in
-    let w₂ = number-written w₁ (a .first) refl (omega arith) in
-    let w₃ = number-written w₂ (a .second) {place = at + 2} (omega arith) (omega arith) in
-    let w₄ = number-written w₃ (a .third) {place = at + 3} (omega arith) (omega arith) in
-    w₄ .held
+use Rattle.model.specs.Playing.{callsOf, answerNumbers, answersOf}
+use Rattle.laws.specs.Buffers.Writing.{written, Written, written-none, written-nothing, written-step, written-whole}
+use Rattle.encoding.specs.Answers.{withAnswer, has-room}
+use Rattle.encoding.specs.CallLists.{callAt, callThere, there-next, there-end, next-call, there-size}
 
 -- ---- calls behind calls
 
@@ -57,18 +38,21 @@ answers-length l (c ∷ cs) = let rest = answers-length (answerOf l c .layout) c
 
 module _ (s : List ℕ) (i : ℕ) (l : Layout) (table : List ℕ) where
   -- played, and its answer written
-  pub there-played : {c : Call} → firstCall (drop (3 * i) s) ≡ decoded.Next c → {a : Outcome} → a ≡ answerOf l c
-      → {after : List ℕ} → after ≡ written table (4 * i) (answerNumbers a)
+  pub there-played : {c : Call} → callAt s i ≡ decoded.Next c → {a : Outcome} → a ≡ answerOf l c
+      → 4 * i + 4 ≤ length table → {after : List ℕ} → after ≡ withAnswer a table (4 * i)
       → (a .layout ≡ played l (callThere s i)) × (after ≡ written table (4 * i) (answersOf l (callThere s i)))
   unfolding played answersOf steps flatMap answerNumbers
-  there-played {c} e {a} q w =
+  there-played {c} e {a} q room w =
       let one = there-next s i e in (
         ap (λ (x : Outcome). x .layout) q ∙ ap (played l) (sym one),
-        w ∙ ap (λ (x : Outcome). written table (4 * i) (answerNumbers x)) q ∙ ap (λ (cs : List Call). written table (4 * i) (answersOf l cs)) (sym one),
+        w
+            ∙ has-room a table (4 * i) room
+            ∙ ap (λ (x : Outcome). written table (4 * i) (answerNumbers x)) q
+            ∙ ap (λ (cs : List Call). written table (4 * i) (answersOf l cs)) (sym one),
       )
 
   -- none there
-  pub there-ended : firstCall (drop (3 * i) s) ≡ decoded.End
+  pub there-ended : callAt s i ≡ decoded.End
       → (l ≡ played l (callThere s i)) × (table ≡ written table (4 * i) (answersOf l (callThere s i)))
   unfolding played answersOf steps flatMap
   there-ended e =

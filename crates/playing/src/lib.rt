@@ -1,6 +1,4 @@
-// Lists of calls: three numbers for a call, and a list of them played. A single call stands in steps.
-mod calls;
+// Lists of calls played. A single call stands in steps, calls and answers as numbers in encoding.
 mod playing;
-mod table;
 
 pub use playing::play;

@@ -6,11 +6,11 @@ ghost use lib.ListN.{length, drop};
 ghost use Rattle.model.specs.Histories.{played};
 ghost use Rattle.model.specs.Playing.{callsOf, answersOf, startOf, playedCalls, playOf, tableOf};
 ghost use Rattle.laws.specs.Buffers.Writing.{written};
-ghost use Rattle.playing.specs.CallLists.{callThere};
+ghost use Rattle.encoding.specs.CallLists.{callThere};
 ghost use Rattle.history.specs.Demand3.{Demand3};
-use super::calls::call_at;
-use super::calls::count_calls;
-use super::table::put_answer;
+use encoding::call_at;
+use encoding::count_calls;
+use encoding::put_answer;
 use model::ChartRead;
 use model::Decoded;
 use model::Layout;
@@ -79,7 +79,7 @@ fn play_all(l: Layout, calls: &[u64], count: usize, answers: &mut [u64]) -> Layo
 
 // Call i, and its answer into the table.
 fn play_next(l: Layout, calls: &[u64], i: usize, answers: &mut [u64]) -> Layout
-    requires { ⌜ (3 * i + 3 ≤ length (now calls)) × (4 * i + 4 ≤ length (now answers)) ⌝ }
+    requires { ⌜ 4 * i + 4 ≤ length (now answers) ⌝ }
     ensures { λ r. ⌜ r ≡ played l (callThere (now (calls .entry)) i) ⌝ }
     ensures { λ r. ⌜ now (answers .exit) ≡ written (now (answers .entry)) (4 * i) (answersOf l (callThere (now (calls .entry)) i)) ⌝ }
 {

@@ -1,13 +1,12 @@
 // Sifting rounds until one moves no vertex, or the limit is reached (document 01: settle).
 ghost use mathlib.Core.Path.{_≡_};
 ghost use lib.Dec.{T};
-ghost use Rattle.model.specs.Checks.{refusal};
 ghost use Rattle.model.specs.Layouts.{valid};
-ghost use Rattle.model.specs.Sifting.{settleChecks, settleOf, roundsUpTo};
+ghost use Rattle.model.specs.Sifting.{settleOf, roundsUpTo};
 use super::rounds::sift_all;
 use model::Converged;
 use model::Layout;
-use validity::is_valid;
+use validity::limit_refusal;
 
 pub fn converge(l: Layout, limit: u32) -> Converged
     ensures { λ r. ⌜ r ≡ settleOf l limit ⌝ }
@@ -23,22 +22,6 @@ pub fn converge(l: Layout, limit: u32) -> Converged
         };
     }
     run_rounds(l, limit)
-}
-
-// Is the layout valid, and the limit from 1 to 1000? 0 if so.
-fn limit_refusal(l: Layout, limit: u32) -> u8
-    ensures { λ r. ⌜ r ≡ refusal (settleChecks l limit) ⌝ }
-{
-    if !is_valid(l) {
-        return 11;
-    }
-    if limit < 1 {
-        return 17;
-    }
-    if 1000 < limit {
-        return 17;
-    }
-    0
 }
 
 // Rounds, counted against the limit.

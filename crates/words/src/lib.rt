@@ -1,11 +1,11 @@
 // Bits of a 64-bit word. A place of 64 or above is none of its bits: it is never set, and setting
 // or clearing it changes nothing.
 ghost use mathlib.Core.Path.{_≡_};
-ghost use Prim.Native.Nat.{_-_, _%_, _^_, min};
+ghost use Prim.Native.Nat.{_-_, _^_, min};
 ghost use mathlib.Core.Bool.{cond};
 ghost use lib.Dec.{eqb, ltb};
 ghost use Rattle.model.specs.Crossings.{bit};
-ghost use Rattle.model.specs.Edits.{withBit, withoutBit, atBothEnds};
+ghost use Rattle.model.specs.Edits.{withBit, withoutBit};
 ghost use Rattle.laws.specs.Sums.Bits.{maskedOnes};
 
 pub fn is_set(word: u64, i: usize) -> bool
@@ -42,28 +42,4 @@ pub fn low_bits(n: usize) -> u64
     ensures { λ r. ⌜ r ≡ 2 ^ min n 64 - 1 ⌝ }
 {
     if n < 64 { (1u64 << n) - 1 } else { u64::MAX }
-}
-
-// The words with the edge a-b in them: a bit in the word of either end. A vertex is taken modulo 64.
-pub fn join(adjacency: &mut [u64; 64], a: usize, b: usize)
-    ensures { λ _. ⌜ now (adjacency .exit) ≡ atBothEnds withBit (now (adjacency .entry)) (a % 64) (b % 64) ⌝ }
-{
-    let u = a % 64;
-    let v = b % 64;
-    let at_u = set(adjacency[u], v);
-    let at_v = set(adjacency[v], u);
-    adjacency[u] = at_u;
-    adjacency[v] = at_v;
-}
-
-// The words without the edge a-b.
-pub fn part(adjacency: &mut [u64; 64], a: usize, b: usize)
-    ensures { λ _. ⌜ now (adjacency .exit) ≡ atBothEnds withoutBit (now (adjacency .entry)) (a % 64) (b % 64) ⌝ }
-{
-    let u = a % 64;
-    let v = b % 64;
-    let at_u = clear(adjacency[u], v);
-    let at_v = clear(adjacency[v], u);
-    adjacency[u] = at_u;
-    adjacency[v] = at_v;
 }

@@ -2,18 +2,26 @@ use borrow.Author.Needs.{needs}
 use Prim.Native.Nat.{_<_}
 use native.Mathlib.Nat.{lt-of-lt-of-le}
 use native.Mathlib.Omega.{arith}
+use mathlib.Core.Path.{_≡_}
+use borrow.Author.Tests.{le-leb}
 use Rattle.laws.specs.Sums.Lists.{all-mono}
 use Rattle.laws.specs.Sums.Bits.{set-within}
-use Rattle.append.specs.Masks.{complement}
+use Rattle.choice.specs.Choices.{complement, bestBelow}
 use Rattle.append.specs.Steps.{next-free, Found, put-fits, put-steps}
 use Rattle.append.proofs.steps.place_next.Statement.{statement}
 use Rattle.append.proofs.steps.place_next.Tie as tie
 
--- the vertex is one of the n
+-- the vertex that the choice gives
+chosen : (c : tie.After-next-vertex)
+    → let s = c .before .args in
+    c .next-vertex .result ≡ bestBelow (s .adjacency .now) (s .s .placed) (s .n) .vertex
+chosen c = rw (le-leb _ 64 (c .before .pre .0 .small)) at (c .next-vertex .ensures)
+
+-- it is one of the n
 vertex-below : (c : tie.After-next-vertex) → c .next-vertex .result < c .before .args .n
 vertex-below c =
     let start = c .before in
-    next-free (start .pre .0) (start .pre .1) (start .pre .2) (c .next-vertex .result) (c .next-vertex .ensures) .0
+    next-free (start .pre .0) (start .pre .1) (start .pre .2) (c .next-vertex .result) (chosen c) .0
 
 -- what has been found
 found : (c : tie.After-end-crossings)
@@ -24,11 +32,11 @@ found : (c : tie.After-end-crossings)
 unfolding complement
 found c =
     let marked = c .before .before in
-    let chosen = marked .before in
+    let found-vertex = marked .before in
     record {
-      vertex = chosen .next-vertex .ensures;
+      vertex = chosen found-vertex;
       fits = marked .set .ok;
-      set = set-within _ _ (omega (arith, vertex-below chosen, chosen .before .pre .0 .small)) (marked .set .ensures);
+      set = set-within _ _ (omega (arith, vertex-below found-vertex, found-vertex .before .pre .0 .small)) (marked .set .ensures);
       counted = c .end-crossings .ensures;
     }
 

@@ -6,7 +6,8 @@ use lib.ListN.{length}
 use lib.Seq.{length-take-le}
 use Rattle.laws.specs.Layouts.Validity.{sound}
 use Rattle.text.specs.Parts.{behind}
-use Rattle.listing.specs.Text.{edges-halved, listing-written}
+use Rattle.graphs.specs.EdgeTotals.{edges-halved}
+use Rattle.listing.specs.Text.{listing-written}
 use Rattle.listing.proofs.listings.list_layout.Statement.{statement}
 use Rattle.listing.proofs.listings.list_layout.Tie as tie
 
@@ -42,7 +43,7 @@ cast-t11 : tie.Need-cast-t11
 cast-t11 c = omega (arith, few (start (c .before)))
 
 edge-count-requires : tie.Need-edge-count-requires
-edge-count-requires c κs = few (start (c .before .before))
+edge-count-requires c κs = search needs
 
 put-numbers-requires : tie.Need-put-numbers-requires
 put-numbers-requires c κs = search needs
@@ -80,7 +81,8 @@ returns c =
     let room = s .pre .2 in
     let held = counted .put-numbers .ensures in
     let told = written .put-settled .ensures in
-    listing-written (s .args .l) (s .pre .0) (s .pre .1) (at .converge .ensures) (edges-halved (s .args .l) (s .pre .0) (linked .edge-count .ensures))
+    let links = edges-halved _ (few s) (sound (s .args .l) (s .pre .0) .symmetry) (linked .edge-count .ensures) in
+    listing-written (s .args .l) (s .pre .0) (s .pre .1) (at .converge .ensures) links
     (behind (behind (held .0) (told .0) (omega (arith, room, held .1))) (end .put-order-line .ensures) (omega (arith, room, held .1, told .1)))
 
 pub list-layout-spec : {M : Type 1} → statement M

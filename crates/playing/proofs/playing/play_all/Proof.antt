@@ -3,7 +3,6 @@ use native.Mathlib.Omega.{arith}
 use mathlib.Core.Path.{_≡_}
 use lib.ListN.{length}
 use Rattle.laws.specs.Buffers.Writing.{written-size}
-use Rattle.playing.specs.CallLists.{calls-fit}
 use Rattle.playing.specs.PlayLoops.{PlayedUpTo, played-start, played-next, played-all}
 use Rattle.playing.proofs.playing.play_all.Statement.{statement}
 use Rattle.playing.proofs.playing.play_all.Tie as tie
@@ -27,10 +26,7 @@ loop-holds c = played-start _ _ _
 play-next-requires : tie.Need-play-next-requires Inv-loop μ-loop
 play-next-requires c κs =
     let turn = c .before in
-    let start = entry (turn .before) in (
-      omega (arith, calls-fit (start .args .calls .now), start .pre, turn .loop-test .taken),
-      omega (arith, same-size (turn .before), start .pre, turn .loop-test .taken),
-    )
+    omega (arith, same-size (turn .before), entry (turn .before) .pre, turn .loop-test .taken)
 
 add-i : tie.Need-add-i Inv-loop μ-loop
 add-i c = omega arith

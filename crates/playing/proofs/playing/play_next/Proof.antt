@@ -28,12 +28,16 @@ put-answer-requires c κs = search needs
 same-length : tie.Need-same-length
 same-length c = search needs
 
+abbrev start : tie.After-call-at → tie.Start
+start c = c .before .before .before
+
 returns-2 : tie.Need-returns-2
 returns-2 c =
     let answered = c .before .before .before in
     let stepped = answered .before .before in
     let found = stepped .before .before in
-    there-played _ _ _ _ (sym (found .before .before .call-at .ensures) ∙ found .c .given .1) (stepped .step .ensures) (answered .put-answer .ensures)
+    let called = found .before .before in
+    there-played _ _ _ _ (sym (called .call-at .ensures) ∙ found .c .given .1) (stepped .step .ensures) (start called .pre) (answered .put-answer .ensures)
 
 pub play-next-spec : {M : Type 1} → statement M
 play-next-spec =

@@ -1,0 +1,39 @@
+use borrow.Author.Needs.{needs}
+use Prim.Native.Nat.{ℕ}
+use mathlib.Core.Path.{sym, ap₂, _∙_}
+use Rattle.choice.specs.Choices.{complement}
+use Rattle.choice.specs.Choices.{candidate, preferredOf, consideredOf}
+use Rattle.choice.proofs.considered.Statement.{statement}
+use Rattle.choice.proofs.considered.Tie as tie
+
+is-set-requires : tie.Need-is-set-requires
+is-set-requires c κs = search needs
+
+returns : tie.Need-returns
+unfolding consideredOf
+returns c = rw (sym (c .before .is-set .ensures) ∙ c .if1 .taken)
+
+count-requires : tie.Need-count-requires
+count-requires c κs = search needs
+
+count-requires-2 : tie.Need-count-requires-2
+count-requires-2 c κs = search needs
+
+preferred-requires : tie.Need-preferred-requires
+preferred-requires c κs = search needs
+
+returns-2 : tie.Need-returns-2
+unfolding consideredOf candidate complement
+returns-2 c =
+    let counted = c .before in
+    let free = counted .before .before in
+    let s = free .before .before .args in
+    rw (sym (free .before .is-set .ensures) ∙ free .if1 .left)
+    (c .preferred .ensures
+    ∙ ap₂ (λ (p u : ℕ). preferredOf (s .best) (record { vertex = s .v; placed = p; unplaced = u }))
+    (counted .before .count .ensures) (counted .count2 .ensures))
+
+pub considered-spec : {M : Type 1} → statement M
+considered-spec =
+    tie.close
+    (tie.spec is-set-requires returns count-requires count-requires-2 preferred-requires returns-2)

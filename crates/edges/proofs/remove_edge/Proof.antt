@@ -1,0 +1,41 @@
+use borrow.Author.Needs.{needs}
+use mathlib.Core.Path.{_≡_}
+use lib.ListN.{length}
+use Rattle.model.specs.Edits.{unlinkOf, withoutBit}
+use Rattle.laws.specs.Layouts.EdgeEdits.{ends-within}
+use Rattle.edges.specs.EdgeCalls.{unlinking, edge-ends, edge-refused, edge-accepted}
+use Rattle.edges.proofs.remove_edge.Statement.{statement}
+use Rattle.edges.proofs.remove_edge.Tie as tie
+
+-- there are 64 words
+all-words : (s : tie.Start) → length (s .args .l .adjacency) ≡ 64
+all-words s = search needs
+
+remove-refusal-requires : tie.Need-remove-refusal-requires
+remove-refusal-requires c κs = search needs
+
+returns : tie.Need-returns
+unfolding unlinkOf
+returns c =
+    let s = c .before .before .args in
+    edge-refused unlinking (s .l) (s .a) (s .b) (c .before .remove-refusal .ensures) (c .if1 .taken)
+
+part-requires : tie.Need-part-requires
+part-requires c κs = search needs
+
+recounted-requires : tie.Need-recounted-requires
+recounted-requires c κs = search needs
+
+returns-2 : tie.Need-returns-2
+unfolding unlinkOf
+returns-2 c =
+    let edited = c .before in
+    let lent = edited .before .before in
+    let accepted = lent .before .before in
+    let s = accepted .before .before .args in
+    let ends = edge-ends unlinking (s .l) (s .a) (s .b) (accepted .before .remove-refusal .ensures) (accepted .if1 .left) in
+    edge-accepted unlinking (s .l) (s .a) (s .b) (accepted .before .remove-refusal .ensures) (accepted .if1 .left)
+    (ends-within withoutBit (s .l .adjacency) (ends .0) (ends .1) (edited .part .ensures), all-words (accepted .before .before)) (c .recounted .ensures)
+
+pub remove-edge-spec : {M : Type 1} → statement M
+remove-edge-spec = tie.close (tie.spec remove-refusal-requires returns part-requires recounted-requires returns-2)

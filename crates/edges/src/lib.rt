@@ -1,0 +1,72 @@
+// Adding and removing an edge (document 01: link, unlink).
+ghost use mathlib.Core.Path.{_≡_};
+ghost use Rattle.model.specs.Checks.{refusal};
+ghost use Rattle.model.specs.Edits.{linkChecks, unlinkChecks, linkOf, unlinkOf};
+use counting::recounted;
+use model::Changed;
+use model::Layout;
+use validity::pair_refusal;
+
+pub fn add_edge(l: Layout, a: usize, b: usize) -> Changed
+    ensures { λ r. ⌜ r ≡ linkOf l a b ⌝ }
+{
+    let refusal = add_refusal(l, a, b);
+    if refusal != 0 {
+        return Changed { refusal, layout: l };
+    }
+    let n = l.n;
+    let order = l.order;
+    let mut adjacency = l.adjacency;
+    ends::join(&mut adjacency, a, b);
+    Changed {
+        refusal: 0,
+        layout: recounted(l, n, order, adjacency),
+    }
+}
+
+pub fn remove_edge(l: Layout, a: usize, b: usize) -> Changed
+    ensures { λ r. ⌜ r ≡ unlinkOf l a b ⌝ }
+{
+    let refusal = remove_refusal(l, a, b);
+    if refusal != 0 {
+        return Changed { refusal, layout: l };
+    }
+    let n = l.n;
+    let order = l.order;
+    let mut adjacency = l.adjacency;
+    ends::part(&mut adjacency, a, b);
+    Changed {
+        refusal: 0,
+        layout: recounted(l, n, order, adjacency),
+    }
+}
+
+// Are the two vertices not joined yet?
+fn add_refusal(l: Layout, a: usize, b: usize) -> u8
+    ensures { λ r. ⌜ r ≡ refusal (linkChecks l a b) ⌝ }
+{
+    let refusal = pair_refusal(l, a, b);
+    if refusal != 0 {
+        return refusal;
+    }
+    let adjacency = l.adjacency;
+    if words::is_set(adjacency[a], b) {
+        return 14;
+    }
+    0
+}
+
+// Are the two vertices joined?
+fn remove_refusal(l: Layout, a: usize, b: usize) -> u8
+    ensures { λ r. ⌜ r ≡ refusal (unlinkChecks l a b) ⌝ }
+{
+    let refusal = pair_refusal(l, a, b);
+    if refusal != 0 {
+        return refusal;
+    }
+    let adjacency = l.adjacency;
+    if words::is_set(adjacency[a], b) {
+        return 0;
+    }
+    15
+}

@@ -1,0 +1,20 @@
+// Answers written as numbers, four to a call.
+ghost use mathlib.Core.Path.{_≡_};
+ghost use Rattle.encoding.specs.Answers.{withAnswer};
+use model::Outcome;
+
+// Writes an answer from place at on; nothing where the table has no four places there.
+pub fn put_answer(a: Outcome, table: &mut [u64], at: usize)
+    ensures { λ _. ⌜ now (table .exit) ≡ withAnswer a (now (table .entry)) at ⌝ }
+{
+    if table.len() < 4 {
+        return;
+    }
+    if table.len() - 4 < at {
+        return;
+    }
+    table[at] = a.refusal as u64;
+    table[at + 1] = a.first;
+    table[at + 2] = a.second;
+    table[at + 3] = a.third;
+}

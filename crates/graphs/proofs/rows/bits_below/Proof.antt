@@ -1,0 +1,78 @@
+use borrow.Author.Needs.{needs}
+use Prim.Native.Nat.{ℕ, suc, _-_, _^_}
+use native.Mathlib.Omega.{arith}
+use native.Mathlib.Nat.{min-eq-left}
+use lib.Pow.{pow-pos}
+use mathlib.Core.Path.{_≡_, refl, ap}
+use mathlib.Core.Bool.{Bool}
+use mathlib.Core.List.{List}
+use lib.Dec.{ltb}
+use lib.ListN.{getD}
+use Rattle.graphs.specs.Rows.{PassedUpTo, passed-none, passed-next, passed-all, failed-at, within-most, beyond-most}
+use Rattle.model.specs.Layouts.{bitsBelow}
+use Rattle.graphs.proofs.rows.bits_below.Statement.{statement}
+use Rattle.graphs.proofs.rows.bits_below.Tie as tie
+
+abbrev passes : List ℕ → ℕ → ℕ → Bool
+passes adj n v = ltb (getD adj v 0) (2 ^ n)
+
+abbrev Inv-loop : tie.InvT-loop
+Inv-loop n adjacency most v₀ v = PassedUpTo (passes adjacency n) 64 v
+
+abbrev μ-loop : tie.MeasureT-loop
+μ-loop n adjacency most v₀ v = 64 - v
+
+low-bits-requires : tie.Need-low-bits-requires Inv-loop μ-loop
+low-bits-requires c κs = search needs
+
+-- the largest word with no bit from n on
+full : (c : tie.At-loop Inv-loop μ-loop) → let n = c .before .before .args .n in suc (c .before .low-bits .result) ≡ 2 ^ n
+full c =
+    let start = c .before .before in
+    omega (arith, c .before .low-bits .ensures, ap (λ (m : ℕ). 2 ^ m) (min-eq-left (start .pre)), pow-pos (start .args .n))
+
+loop-holds : tie.Need-loop-holds Inv-loop μ-loop
+loop-holds c = passed-none
+
+mul-if1 : tie.Need-mul-if1 Inv-loop μ-loop
+mul-if1 c = omega arith
+
+element-copy-out-if1 : tie.Need-element-copy-out-if1 Inv-loop μ-loop
+element-copy-out-if1 c = omega arith
+
+returns : tie.Need-returns Inv-loop μ-loop
+unfolding bitsBelow
+returns c =
+    let turn = c .before .before in
+    failed-at (turn .before .loop .inv) (turn .loop-test .taken) refl (beyond-most (full (turn .before)) (c .if1 .taken))
+
+add-v : tie.Need-add-v Inv-loop μ-loop
+add-v c = omega arith
+
+loop-less : tie.Need-loop-less Inv-loop μ-loop
+loop-less c = omega arith
+
+loop-again : tie.Need-loop-again Inv-loop μ-loop
+loop-again c =
+    let turn = c .before .before in
+    passed-next (turn .before .loop .inv) (turn .loop-test .taken) refl (within-most (full (turn .before)) (c .if1 .left))
+
+returns-2 : tie.Need-returns-2 Inv-loop μ-loop
+unfolding bitsBelow
+returns-2 c = passed-all (c .before .loop .inv) (c .loop-test .left)
+
+pub bits-below-spec : {M : Type 1} → statement M
+bits-below-spec =
+    tie.close
+    (tie.spec
+    Inv-loop
+    μ-loop
+    low-bits-requires
+    loop-holds
+    mul-if1
+    element-copy-out-if1
+    returns
+    add-v
+    loop-less
+    loop-again
+    returns-2)

@@ -1,0 +1,70 @@
+use borrow.Author.Needs.{needs}
+use borrow.Author.Tests.{le-leb, lt-leb}
+use Rattle.laws.specs.Sums.Indicators.{test-held, test-failed}
+use Rattle.graphs.proofs.rows.is_graph.Statement.{statement}
+use Rattle.graphs.proofs.rows.is_graph.Tie as tie
+
+returns : tie.Need-returns
+returns c = rw (lt-leb _ 64 (c .if1 .taken))
+
+symmetric-requires : tie.Need-symmetric-requires
+symmetric-requires c κs = search needs
+
+returns-2 : tie.Need-returns-2
+returns-2 c = rw (le-leb _ 64 (c .before .before .if1 .left), test-failed (c .before .symmetric .ensures) (c .if2 .taken))
+
+loopless-requires : tie.Need-loopless-requires
+loopless-requires c κs = search needs
+
+returns-3 : tie.Need-returns-3
+returns-3 c =
+    let symmetry = c .before .before in
+    rw (
+      le-leb _ 64 (symmetry .before .before .if1 .left),
+      test-held (symmetry .before .symmetric .ensures) (symmetry .if2 .left),
+      test-failed (c .before .loopless .ensures) (c .if3 .taken),
+    )
+
+bits-below-requires : tie.Need-bits-below-requires
+bits-below-requires c κs = search needs
+
+returns-4 : tie.Need-returns-4
+returns-4 c =
+    let no-loop = c .before .before in
+    let symmetry = no-loop .before .before in
+    rw (
+      le-leb _ 64 (symmetry .before .before .if1 .left),
+      test-held (symmetry .before .symmetric .ensures) (symmetry .if2 .left),
+      test-held (no-loop .before .loopless .ensures) (no-loop .if3 .left),
+      test-failed (c .before .bits-below .ensures) (c .if4 .taken),
+    )
+
+zero-from-requires : tie.Need-zero-from-requires
+zero-from-requires c κs = search needs
+
+returns-5 : tie.Need-returns-5
+returns-5 c =
+    let bits = c .before in
+    let no-loop = bits .before .before in
+    let symmetry = no-loop .before .before in
+    rw (
+      le-leb _ 64 (symmetry .before .before .if1 .left),
+      test-held (symmetry .before .symmetric .ensures) (symmetry .if2 .left),
+      test-held (no-loop .before .loopless .ensures) (no-loop .if3 .left),
+      test-held (bits .before .bits-below .ensures) (bits .if4 .left),
+    )
+    (c .zero-from .ensures)
+
+pub is-graph-spec : {M : Type 1} → statement M
+is-graph-spec =
+    tie.close
+    (tie.spec
+    returns
+    symmetric-requires
+    returns-2
+    loopless-requires
+    returns-3
+    bits-below-requires
+    returns-4
+    zero-from-requires
+    returns-5)

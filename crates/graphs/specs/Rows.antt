@@ -1,0 +1,73 @@
+-- The passes through the adjacency words: a test of one number after the other, and symmetry asked of each two vertices once.
+use Prim.Native.Nat.{ℕ, suc, _+_, _≤_, _<_}
+use native.Mathlib.Nat.{not-suc-le-zero}
+use native.Mathlib.Omega.{arith}
+use mathlib.Core.Path.{_≡_, sym, _∙_, subst}
+use mathlib.Core.Bool.{Bool, true, false, Bool·beq}
+use mathlib.Core.List.{List}
+use borrow.Author.Count.{below-more}
+use borrow.Author.Tests.{lt-ltb, le-ltb}
+use lib.Dec.{T, ltb}
+use Rattle.model.specs.Lists.{upto, every}
+use Rattle.model.specs.Crossings.{linked}
+use Rattle.model.specs.Layouts.{symmetric}
+use Rattle.laws.specs.Sums.Indicators.{T-true, less, same, more, order, bool-ext, beq-self, beq-comm}
+use Rattle.laws.specs.Sums.Every.{every-upto, upto-every, upto-fails}
+
+-- ---- a loop that tests one number after the other
+
+-- every number below k has passed
+pub record PassedUpTo (p : ℕ → Bool) (n k : ℕ) : Type 0 where
+  pub inside : k ≤ n
+  pub passes : (i : ℕ) → i < k → T (p i)
+
+module _ {p : ℕ → Bool} {n : ℕ} where
+  pub passed-none : PassedUpTo p n 0
+  passed-none = record { inside = omega arith; passes = λ i l. absurd (not-suc-le-zero l) }
+
+  pub passed-all : {k : ℕ} → PassedUpTo p n k → n ≤ k → true ≡ every p (upto n)
+  passed-all s l = sym (T-true (every p (upto n)) (upto-every p n (λ i b. s .passes i (omega arith))))
+
+  -- the test of k
+  module _ {k : ℕ} {t : Bool} (s : PassedUpTo p n k) (l : k < n) (e : t ≡ p k) where
+    pub passed-next : t ≡ true → PassedUpTo p n (k + 1)
+    passed-next h = record { inside = omega arith; passes = below-more (λ i. T (p i)) k (s .passes) (subst T (sym h ∙ e) tt) }
+
+    pub failed-at : t ≡ false → false ≡ every p (upto n)
+    failed-at h = sym (upto-fails p n k l (sym e ∙ h))
+
+-- a word below a bound, by the largest that is
+module _ {word most bound : ℕ} (e : suc most ≡ bound) where
+  pub within-most : word ≤ most → ltb word bound ≡ true
+  within-most l = lt-ltb word bound (omega arith)
+
+  pub beyond-most : most < word → ltb word bound ≡ false
+  beyond-most l = le-ltb word bound (omega arith)
+
+-- ---- symmetry asked of each two vertices once
+
+-- the edges from u to lower vertices stand in the words of both ends
+unfoldable pub symmetricRow : List ℕ → ℕ → Bool
+symmetricRow adj u = every (λ v. Bool·beq (linked adj u v) (linked adj v u)) (upto u)
+
+-- that is all of the symmetry
+pub symmetric-rows : (n : ℕ) (adj : List ℕ) → symmetric n adj ≡ every (symmetricRow adj) (upto n)
+unfolding symmetric symmetricRow
+symmetric-rows n adj =
+    bool-ext (symmetric n adj) (every (symmetricRow adj) (upto n))
+    (λ t. upto-every (symmetricRow adj) n (λ u l. upto-every (pairs u) u (λ v m. every-upto (pairs u) n (every-upto row n t u l) v (omega arith))))
+    (λ t. upto-every row n (λ u l. upto-every (pairs u) n (λ v m. both t u v l m)))
+  where
+    pairs : ℕ → ℕ → Bool
+    pairs u v = Bool·beq (linked adj u v) (linked adj v u)
+
+    row : ℕ → Bool
+    row u = every (pairs u) (upto n)
+
+    both : T (every (symmetricRow adj) (upto n)) → (u v : ℕ) → u < n → v < n → T (pairs u v)
+    both t u v l m =
+        elim (order v u) [
+          | less b ↦ every-upto (pairs u) u (every-upto (symmetricRow adj) n t u l) v b
+          | same e ↦ rw e (beq-self (linked adj u u))
+          | more b ↦ subst T (beq-comm (linked adj v u) (linked adj u v)) (every-upto (pairs v) v (every-upto (symmetricRow adj) n t v m) u b)
+        ]

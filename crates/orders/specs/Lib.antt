@@ -1,0 +1,2 @@
+-- Each vertex once, found by going through the places.
+pub mod Seen

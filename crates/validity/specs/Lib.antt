@@ -1,2 +1,0 @@
--- The passes that ask for validity.
-pub mod Passes
