@@ -1,5 +1,5 @@
 -- A sift that goes through its candidates one by one and keeps the first with fewest crossings.
-use Prim.Native.Nat.{ℕ, suc, _+_, _-_, _≤_, _<_, min}
+use Prim.Native.Nat.{ℕ, zero, suc, _+_, _-_, _≤_, _<_, min}
 use native.Mathlib.Nat.{le-refl, min-comm, min-le-left, min-le-right, min-eq-left, min-eq-right}
 use native.Mathlib.Numerals.{add-one}
 use native.Mathlib.Omega.{arith}
@@ -8,8 +8,8 @@ use mathlib.Core.Bool.{Bool, true, false, cond, _||_, _&&_}
 use mathlib.Core.List.{List, [], _∷_, _++_}
 use lib.ListN.{length, getD, take, drop, length-map, take-append-drop, List·getD-map}
 use lib.Seq.{take-suc, take-all, take-at}
-use lib.Dec.{T, eqb, ltb}
-use borrow.Author.Tests.{lt-ltb, le-ltb, eq-eqb, ne-eqb}
+use lib.Dec.{T, eqb, leb, ltb}
+use borrow.Author.Tests.{le-leb, lt-ltb, le-ltb, eq-eqb, ne-eqb}
 use Rattle.model.specs.Lists.{any, firstWith, place}
 use Rattle.model.specs.Crossings.{crossings}
 use Rattle.model.specs.Edits.{movedAfter}
@@ -19,6 +19,8 @@ use Rattle.laws.specs.Orders.Permutations.{at, Permutation, at-lt, place-below,
 use Rattle.laws.specs.Layouts.Recount.{Drawn, counted, counted-crossings}
 use Rattle.laws.specs.Orders.Moves.{moved-permutation}
 use Rattle.places.specs.MovedPlaces.{shifted, shifted-moved}
+use Rattle.walk.specs.declared.Walk.{Walk}
+use Rattle.walk.specs.Walks.{turned, movedPlaces, candidateArray, better, walkTo}
 use Rattle.laws.specs.Sifting.LocalSearch.{least-default, least-some}
 use Rattle.laws.specs.Sifting.Candidates.{clockwise-length, clockwise-behind, clockwise-before}
 
@@ -97,10 +99,6 @@ module _ (f : List ℕ → ℕ) (o : List ℕ) where
 
 -- ---- the candidates, one by one
 
--- the place of the vertex j behind the next one clockwise from place p
-unfoldable pub turned : ℕ → ℕ → ℕ → ℕ
-turned n p j = cond (ltb (p + 1 + j) n) (p + 1 + j) (p + 1 + j - n)
-
 -- candidate j of a sift of u, for the vertices in the first n places
 unfoldable pub candidate : ℕ → List ℕ → ℕ → ℕ → List ℕ
 candidate n places u j = movedAfter u (at (clockwiseFrom u (take n places)) j) (take n places)
@@ -117,6 +115,12 @@ pub record Walker (n : ℕ) (places adj : List ℕ) (u : ℕ) : Type 0 where
   pub size : length places ≡ 64
   pub drawn : Drawn n places adj
   pub vertex : u < n
+
+-- what it finds: the order after the sift, and the crossings before and after it
+pub record Found (n : ℕ) (places adj : List ℕ) (u : ℕ) (r : Walk) : Type 0 where
+  pub order : r .order ≡ siftedOrder n adj u (take n places) ++ drop n places
+  pub before : r .before ≡ crossings n (take n places) adj
+  pub after : r .after ≡ leastCrossings n adj u (take n places)
 
 module _ {n : ℕ} {places adj : List ℕ} {u : ℕ} (walker : Walker n places adj u) where
   size : length places ≡ 64
@@ -135,10 +139,10 @@ module _ {n : ℕ} {places adj : List ℕ} {u : ℕ} (walker : Walker n places a
   p = place (take n places) u
 
   -- q is the place of the vertex j behind the next one clockwise from u
-  abbrev pub Clockwise : ℕ → ℕ → Type 0
+  abbrev Clockwise : ℕ → ℕ → Type 0
   Clockwise j q = (q < n) × (place (take n places) u ≡ q → ⊥) × (at (clockwiseFrom u (take n places)) j ≡ at (take n places) q)
 
-  pub turned-vertex : (j : ℕ) → j + 1 < n → Clockwise j (turned n (place (take n places) u) j)
+  turned-vertex : (j : ℕ) → j + 1 < n → Clockwise j (turned n (place (take n places) u) j)
   unfolding turned
   turned-vertex j l =
       let below : p < n = place-below perm u h in
@@ -158,20 +162,17 @@ module _ {n : ℕ} {places adj : List ℕ} {u : ℕ} (walker : Walker n places a
           )
 
   -- the array that moving by places makes of candidate j
-  pub candidate-array : (j : ℕ) {r q : ℕ} {xs : List ℕ} → j + 1 < n → r ≡ place (take n places) u → q ≡ turned n r j
-      → xs ≡ cond (ltb r 64 && ltb q 64) (shifted places r q) places → xs ≡ candidate n places u j ++ drop n places
-  unfolding candidate
-  candidate-array j {r} {q} {xs} l d e x =
+  candidate-array : (j : ℕ) → j + 1 < n → candidateArray n places u j ≡ candidate n places u j ++ drop n places
+  unfolding candidate candidateArray movedPlaces
+  candidate-array j l =
       let t = turned-vertex j l in
-      let here : q ≡ turned n p j = e ∙ ap (λ (y : ℕ). turned n y j) d in
+      let q = turned n p j in
       let below : p < n = place-below perm u h in
-      let q-below : q < n = rw here (t .0) in
-      x
-      ∙ ap (λ (b : Bool). cond b (shifted places r q) places) (ap₂ _&&_ (lt-ltb r 64 (omega arith)) (lt-ltb q 64 (omega arith)))
-      ∙ ap₂ (shifted places) d (sym (place-of-at perm q q-below))
-      ∙ shifted-moved n places size small perm u (at (take n places) q) h (at-lt perm q q-below)
-      (λ k. t .1 (ap (place (take n places)) k ∙ place-of-at perm q q-below ∙ here))
-      ∙ ap (λ (v : ℕ). movedAfter u v (take n places) ++ drop n places) (ap (at (take n places)) here ∙ sym (t .2))
+      ap (λ (b : Bool). cond b (shifted places p q) places) (ap₂ _&&_ (lt-ltb p 64 (omega arith)) (lt-ltb q 64 (omega (arith, t .0))))
+      ∙ ap (shifted places p) (sym (place-of-at perm q (t .0)))
+      ∙ shifted-moved n places size small perm u (at (take n places) q) h (at-lt perm q (t .0))
+      (λ k. t .1 (ap (place (take n places)) k ∙ place-of-at perm q (t .0)))
+      ∙ ap (λ (v : ℕ). movedAfter u v (take n places) ++ drop n places) (sym (t .2))
 
   candidate-at : (j : ℕ) → getD (candidates u (take n places)) j (movedAfter u 0 (take n places)) ≡ candidate n places u j
   unfolding candidates candidate
@@ -186,7 +187,7 @@ module _ {n : ℕ} {places adj : List ℕ} {u : ℕ} (walker : Walker n places a
   abbrev score : List ℕ → ℕ
   score c = crossings n c adj
 
-  pub walk-start : {fewest : ℕ} → fewest ≡ crossings n (take n places) adj → WalkUpTo n places adj u places fewest 0
+  walk-start : {fewest : ℕ} → fewest ≡ crossings n (take n places) adj → WalkUpTo n places adj u places fewest 0
   walk-start e =
       record {
         inside = omega arith;
@@ -201,28 +202,26 @@ module _ {n : ℕ} {places adj : List ℕ} {u : ℕ} (walker : Walker n places a
       ∙ ap (λ (c : List ℕ). take j (candidates u (take n places)) ++ (c ∷ [])) (candidate-at j)
 
   module _ {best : List ℕ} {fewest j : ℕ} (w : WalkUpTo n places adj u best fewest j) (l : j + 1 < n) where
-    pub walk-better : {xs : List ℕ} {c : ℕ} → xs ≡ candidate n places u j ++ drop n places → c ≡ crossings n (candidate n places u j) adj
-        → c < fewest → WalkUpTo n places adj u xs c (j + 1)
+    walk-better : {xs : List ℕ} {c : ℕ} → xs ≡ candidate n places u j ++ drop n places → c ≡ crossings n (candidate n places u j) adj
+        → c < fewest → WalkUpTo n places adj u xs c (suc j)
     walk-better {xs} {c} x e b =
         record {
-          inside = l;
+          inside = omega arith;
           list = candidate n places u j;
           array = x;
-          so-far =
-              rw (e, add-one j, next-candidates j l) (best-better (λ c. crossings n c adj) (take n places) (w .so-far) (candidate n places u j) (rw e at b));
+          so-far = rw (e, next-candidates j l) (best-better (λ c. crossings n c adj) (take n places) (w .so-far) (candidate n places u j) (rw e at b));
         }
 
-    pub walk-same : {c : ℕ} → c ≡ crossings n (candidate n places u j) adj → fewest ≤ c → WalkUpTo n places adj u best fewest (j + 1)
+    walk-same : {c : ℕ} → c ≡ crossings n (candidate n places u j) adj → fewest ≤ c → WalkUpTo n places adj u best fewest (suc j)
     walk-same {c} e b =
         record {
-          inside = l;
+          inside = omega arith;
           list = w .list;
           array = w .array;
-          so-far =
-              rw (add-one j, next-candidates j l) (best-same (λ c. crossings n c adj) (take n places) (w .so-far) (candidate n places u j) (rw e at b));
+          so-far = rw (next-candidates j l) (best-same (λ c. crossings n c adj) (take n places) (w .so-far) (candidate n places u j) (rw e at b));
         }
 
-  pub walk-end : {best : List ℕ} {fewest j : ℕ} → WalkUpTo n places adj u best fewest j → n ≤ j + 1
+  walk-end : {best : List ℕ} {fewest j : ℕ} → WalkUpTo n places adj u best fewest j → n ≤ j + 1
       → (best ≡ siftedOrder n adj u (take n places) ++ drop n places) × (fewest ≡ leastCrossings n adj u (take n places))
   unfolding siftedOrder improves leastCrossings
   walk-end {best} {fewest} {j} w l =
@@ -233,21 +232,53 @@ module _ {n : ℕ} {places adj : List ℕ} {u : ℕ} (walker : Walker n places a
         found,
       )
 
-  -- where the vertex stands
-  pub place-inside : place (take n places) u < n
-  place-inside = place-below perm u h
-
   -- what the counter answers for a candidate
-  pub candidate-counted : (j : ℕ) {xs : List ℕ} → j + 1 < n → xs ≡ candidate n places u j ++ drop n places
-      → counted n xs adj ≡ crossings n (candidate n places u j) adj
+  candidate-counted : (j : ℕ) → j + 1 < n → counted n (candidateArray n places u j) adj ≡ crossings n (candidate n places u j) adj
   unfolding candidate
-  candidate-counted j l e =
+  candidate-counted j l =
       let t = turned-vertex j l in
       let v = at (take n places) (turned n (place (take n places) u) j) in
       let moved : Permutation n (candidate n places u j) =
       rw (t .2) (moved-permutation perm u h v (at-lt perm (turned n (place (take n places) u) j) (t .0))
       (λ d. t .1 (ap (place (take n places)) d ∙ place-of-at perm (turned n (place (take n places) u) j) (t .0)))) in
       let used : take n (candidate n places u j ++ drop n places) ≡ candidate n places u j = take-at (candidate n places u j) (drop n places) n (moved .size) in
-      ap (λ (x : List ℕ). counted n x adj) e
+      ap (λ (x : List ℕ). counted n x adj) (candidate-array j l)
       ∙ counted-crossings (record { small = small; permutation = rw used moved; symmetry = walker .drawn .symmetry })
       ∙ ap (λ (x : List ℕ). crossings n x adj) used
+
+  -- ---- what the code walks
+
+  -- every turn of it
+  walked : (j : ℕ) → j < n → let w = walkTo n places adj u j in WalkUpTo n places adj u (w .order) (w .after) j
+  unfolding walkTo better
+  walked zero l = walk-start (counted-crossings (walker .drawn))
+  walked (suc j) l =
+      let so-far = walked j (omega arith) in
+      let inside : j + 1 < n = omega arith in
+      let fewest = walkTo n places adj u j .after in
+      let count = counted n (candidateArray n places u j) adj in
+      elim (order count fewest) [
+        | less b ↦ rw (lt-ltb count fewest b) (walk-better so-far inside (candidate-array j inside) (candidate-counted j inside) b)
+        | same e ↦ rw (le-ltb count fewest (omega arith)) (walk-same so-far inside (candidate-counted j inside) (omega arith))
+        | more b ↦ rw (le-ltb count fewest (omega arith)) (walk-same so-far inside (candidate-counted j inside) (omega arith))
+      ]
+
+  -- the crossings of the present order are kept
+  kept : (j : ℕ) → walkTo n places adj u j .before ≡ counted n places adj
+  unfolding walkTo better
+  kept zero = refl
+  kept (suc j) =
+      by-test (ltb (counted n (candidateArray n places u j) adj) (walkTo n places adj u j .after)) (walkTo n places adj u j) (candidateArray n places u j)
+      (counted n (candidateArray n places u j) adj) (kept j)
+    where
+      by-test : (b : Bool) (w : Walk) (xs : List ℕ) (c : ℕ) → w .before ≡ counted n places adj
+          → cond b (record { order = xs; before = w .before; after = c }) w .before ≡ counted n places adj
+      by-test true w xs c e = e
+      by-test false w xs c e = e
+
+  -- all of it
+  pub walk-found : {r : Walk} → r ≡ walkTo n places adj u (cond (leb n 64) (n - 1) 0) → Found n places adj u r
+  walk-found {r} e =
+      let whole : r ≡ walkTo n places adj u (n - 1) = rw (le-leb n 64 small) at e in
+      let end = walk-end (walked (n - 1) (omega arith)) (omega arith) in
+      rw whole (record { order = end .0; before = kept (n - 1) ∙ counted-crossings (walker .drawn); after = end .1 })

@@ -2,7 +2,6 @@
 mod convergence;
 mod rounds;
 mod sifts;
-mod walk;
 
 pub use convergence::converge;
 pub use rounds::sifting_round;

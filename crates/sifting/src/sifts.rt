@@ -4,11 +4,11 @@ ghost use Prim.Native.Nat.{_<_};
 ghost use lib.Dec.{T};
 ghost use Rattle.model.specs.Layouts.{valid};
 ghost use Rattle.model.specs.Sifting.{sifted, reduction as reductionOf, siftOf};
-use super::walk::best_order;
 use counting::carried;
 use model::Layout;
 use model::Sifted;
 use validity::vertex_refusal;
+use walk::best_order;
 
 pub fn sift(l: Layout, u: usize) -> Sifted
     ensures { λ r. ⌜ r ≡ siftOf l u ⌝ }

@@ -6,6 +6,7 @@ use Rattle.model.specs.declared.Layout.{Layout}
 use Rattle.model.specs.Layouts.{vertexOrder, crossingsOf}
 use Rattle.model.specs.Sifting.{sifted, reduction}
 use Rattle.laws.specs.Layouts.Recount.{drawn}
+use Rattle.sifting.specs.Walk.{Found, walk-found}
 use Rattle.sifting.specs.Loops.{sifted-carried, sifted-saves}
 use Rattle.sifting.proofs.sifts.sift_vertex.Statement.{statement}
 use Rattle.sifting.proofs.sifts.sift_vertex.Tie as tie
@@ -13,7 +14,13 @@ use Rattle.sifting.proofs.sifts.sift_vertex.Tie as tie
 abbrev start : tie.After-best-order → tie.Start
 start c = c .before .before .before .before
 
--- what the walk saves
+-- what the walk finds
+found : (c : tie.After-best-order) → let s = start c .args in Found (s .l .n) (s .l .order) (s .l .adjacency) (s .u) (c .best-order .result)
+found c =
+    let s = start c in
+    walk-found (record { size = search needs; drawn = drawn (s .args .l) (s .pre .0); vertex = s .pre .1 }) (c .best-order .ensures)
+
+-- and what it saves
 saves : (c : tie.After-best-order)
     → let s = start c .args in
     let best = c .best-order .result in
@@ -22,12 +29,10 @@ unfolding crossingsOf vertexOrder
 saves c =
     let s = start c .args in
     let ready = start c .pre in
-    sifted-saves (s .l) (ready .0) (s .u) (ready .1) (c .best-order .ensures .1 .0) (c .best-order .ensures .1 .1)
+    sifted-saves (s .l) (ready .0) (s .u) (ready .1) (found c .before) (found c .after)
 
 best-order-requires : tie.Need-best-order-requires
-best-order-requires c κs =
-    let s = c .before .before .before in
-    (drawn (s .args .l) (s .pre .0), s .pre .1)
+best-order-requires c κs = search needs
 
 carried-requires : tie.Need-carried-requires
 carried-requires c κs = search needs
@@ -41,9 +46,9 @@ returns c =
     let walked = c .before .before .before in
     let s = start walked .args in
     let ready = start walked .pre in
-    let found = walked .best-order .ensures in
+    let best = found walked in
     ap₂ (λ (k : Layout) (x : ℕ). record { refusal = 0; layout = k; reduction = x })
-    (sifted-carried (s .l) (ready .0) (s .u) (ready .1) (found .1 .0) (found .1 .1) (found .0) (c .before .carried .ensures))
+    (sifted-carried (s .l) (ready .0) (s .u) (ready .1) (best .before) (best .after) (best .order) (c .before .carried .ensures))
     (saves walked .1)
 
 pub sift-vertex-spec : {M : Type 1} → statement M

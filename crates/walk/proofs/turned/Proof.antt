@@ -1,8 +1,8 @@
 use borrow.Author.Needs.{needs}
 use borrow.Author.Tests.{lt-ltb, le-ltb}
-use Rattle.sifting.specs.Walk.{turned}
-use Rattle.sifting.proofs.walk.turned.Statement.{statement}
-use Rattle.sifting.proofs.walk.turned.Tie as tie
+use Rattle.walk.specs.Walks.{turned}
+use Rattle.walk.proofs.turned.Statement.{statement}
+use Rattle.walk.proofs.turned.Tie as tie
 
 add-q : tie.Need-add-q
 add-q c = search needs

@@ -1,0 +1,86 @@
+-- The walk through the candidates of a sift, one after the other, over any bytes.
+use Prim.Native.Nat.{ℕ, zero, suc, _+_, _-_, _≤_, _<_, suc-le-suc}
+use native.Mathlib.Nat.{le-antisymm}
+use native.Mathlib.Numerals.{add-one}
+use native.Mathlib.Omega.{arith}
+use mathlib.Core.Path.{_≡_, refl, sym, ap, ap₂, _∙_}
+use mathlib.Core.Bool.{Bool, true, false, cond, _&&_}
+use mathlib.Core.List.{List, [], _∷_}
+use lib.ListN.{length, take}
+use lib.Dec.{eqb, ltb}
+use borrow.Author.Tests.{lt-ltb, le-ltb}
+use Rattle.model.specs.Lists.{place}
+use Rattle.laws.specs.Layouts.Recount.{counted}
+use Rattle.places.specs.MovedPlaces.{shifted}
+use Rattle.walk.specs.declared.Walk.{Walk}
+
+-- the place of the vertex j behind the next one clockwise from place p
+unfoldable pub turned : ℕ → ℕ → ℕ → ℕ
+turned n p j = cond (ltb (p + 1 + j) n) (p + 1 + j) (p + 1 + j - n)
+
+-- the entries after the one at place p was moved behind the one at place q, if both are places
+unfoldable pub movedPlaces : List ℕ → ℕ → ℕ → List ℕ
+movedPlaces places p q = cond (ltb p 64 && ltb q 64) (shifted places p q) places
+
+-- candidate j of a sift of u
+unfoldable pub candidateArray : ℕ → List ℕ → ℕ → ℕ → List ℕ
+candidateArray n places u j = movedPlaces places (place (take n places) u) (turned n (place (take n places) u) j)
+
+-- a candidate with fewer crossings takes the place of the best so far
+unfoldable pub better : Walk → List ℕ → ℕ → Walk
+better best candidate count = cond (ltb count (best .after)) (record { order = candidate; before = best .before; after = count }) best
+
+module _ (best : Walk) (candidate : List ℕ) {count counted : ℕ} (e : count ≡ counted) where
+  pub better-taken : count < best .after → record { order = candidate; before = best .before; after = count } ≡ better best candidate counted
+  unfolding better
+  better-taken h = rw (← e, lt-ltb count (best .after) h)
+
+  pub better-left : best .after ≤ count → best ≡ better best candidate counted
+  unfolding better
+  better-left h = rw (← e, le-ltb count (best .after) h)
+
+-- the present order and the first j candidates
+unfoldable pub walkTo : ℕ → List ℕ → List ℕ → ℕ → ℕ → Walk
+walkTo n places adj u zero = record { order = places; before = counted n places adj; after = counted n places adj }
+walkTo n places adj u (suc j) =
+    better (walkTo n places adj u j) (candidateArray n places u j) (counted n (candidateArray n places u j) adj)
+
+-- ---- the loop
+
+-- the best of the present order and the first j candidates
+pub record BestUpTo (n : ℕ) (places adj : List ℕ) (u : ℕ) (best : Walk) (j : ℕ) : Type 0 where
+  pub inside : j ≤ n - 1
+  pub found : best ≡ walkTo n places adj u j
+
+module _ {n : ℕ} {places adj : List ℕ} {u : ℕ} where
+  pub best-start : {count : ℕ} → count ≡ counted n places adj → BestUpTo n places adj u (record { order = places; before = count; after = count }) 0
+  unfolding walkTo
+  best-start e = record { inside = omega arith; found = ap (λ (x : ℕ). record { order = places; before = x; after = x }) e }
+
+  pub best-next : {best next : Walk} {j p q : ℕ} {xs : List ℕ} → BestUpTo n places adj u best j → j + 1 < n
+      → p ≡ place (take n places) u → q ≡ turned n p j → xs ≡ movedPlaces places p q → next ≡ better best xs (counted n xs adj)
+      → BestUpTo n places adj u next (j + 1)
+  unfolding walkTo candidateArray
+  best-next {best} {next} {j} {p} {q} {xs} b h here there x e =
+      rw (add-one j)
+      (record {
+        inside = omega arith;
+        found =
+            e
+            ∙ ap (λ (w : Walk). better w xs (counted n xs adj)) (b .found)
+            ∙ ap (λ (ys : List ℕ). better (walkTo n places adj u j) ys (counted n ys adj))
+            (x ∙ ap₂ (movedPlaces places) here (there ∙ ap (λ (k : ℕ). turned n k j) here));
+      })
+
+  pub best-end : {best : Walk} {j : ℕ} → BestUpTo n places adj u best j → n ≤ j + 1 → best ≡ walkTo n places adj u (n - 1)
+  best-end {best} {j} b h = b .found ∙ ap (walkTo n places adj u) (le-antisymm (b .inside) (omega arith))
+
+-- a vertex that has no place stands behind the last
+pub place-most : (xs : List ℕ) (v : ℕ) → place xs v ≤ length xs
+unfolding place
+place-most [] v = omega arith
+place-most (x ∷ xs) v = by-test (eqb v x) (place-most xs v)
+  where
+    by-test : (b : Bool) → place xs v ≤ length xs → cond b 0 (suc (place xs v)) ≤ suc (length xs)
+    by-test true h = omega arith
+    by-test false h = suc-le-suc h
