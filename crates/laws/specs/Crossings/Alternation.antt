@@ -29,154 +29,87 @@ between-ordered p q x l =
       | more b ↦ rw (lt-ltb q x b, le-ltb x p (omega arith)) (or-false (ltb p x && ltb x q))
     ]
 
+-- the tests of two places, where the first comes first
+record Rises (a b : ℕ) : Type 0 where
+  apart : eqb a b ≡ false
+  apart′ : eqb b a ≡ false
+  is-less : ltb a b ≡ true
+  not-more : ltb b a ≡ false
+
+rises : {a b : ℕ} → a < b → Rises a b
+rises {a} {b} l =
+    record {
+      apart = ne-eqb a b (λ e. omega arith);
+      apart′ = ne-eqb b a (λ e. omega arith);
+      is-less = lt-ltb a b l;
+      not-more = le-ltb b a (omega arith);
+    }
+
+-- and where they are the same
+record Meets (a b : ℕ) : Type 0 where
+  meets : eqb a b ≡ true
+  not-less : ltb a b ≡ false
+  not-more : ltb b a ≡ false
+
+same-place : {a b : ℕ} → a ≡ b → Meets a b
+same-place {a} {b} e = record { meets = eq-eqb a b e; not-less = le-ltb a b (omega arith); not-more = le-ltb b a (omega arith) }
+
 module _ (p q r s : ℕ) (pq : p < q) (rs : r < s) where
   -- each edge's lower place first: they cross when the places rise in turn, from one edge or from the other
   pub cross-ordered : cross p q r s ≡ rising p r q s + rising r p s q
   unfolding cross rising noRepeats any alternate xor one
   cross-ordered =
-      rw (between-ordered p q r pq, between-ordered p q s pq, ne-eqb p q (λ d. omega arith), ne-eqb r s (λ d. omega arith))
+      rw (between-ordered p q r pq, between-ordered p q s pq, rises pq .apart, rises rs .apart)
       (elim (order p r) [
-        | same e ↦ simp (eq-eqb p r e, le-ltb p r (omega arith), le-ltb r p (omega arith)) (omega arith)
+        | same e ↦ let pr = same-place e in simp (pr .meets, pr .not-less, pr .not-more) (omega arith)
         | less a ↦
-            elim (order r q) [
-              | same e ↦ simp (
-                ne-eqb p r (λ d. omega arith),
-                ne-eqb p s (λ d. omega arith),
-                eq-eqb q r (omega arith),
-                lt-ltb p r
-                    (omega arith),
-                le-ltb r q (omega arith),
-                lt-ltb q s (omega arith),
-                le-ltb r p (omega arith),
-                lt-ltb p s (omega arith),
-                le-ltb s q
-                    (omega arith),
-              ) (omega arith)
-              | more b ↦ simp (
-                ne-eqb p r (λ d. omega arith),
-                ne-eqb p s (λ d. omega arith),
-                ne-eqb q r (λ d. omega arith),
-                ne-eqb q s
-                    (λ d. omega arith),
-                lt-ltb p r (omega arith),
-                le-ltb r q (omega arith),
-                lt-ltb q s (omega arith),
-                le-ltb r p
-                    (omega arith),
-                lt-ltb p s (omega arith),
-                le-ltb s q (omega arith),
-              ) (omega arith)
+            let pr = rises a in
+            let ps : Rises p s = rises (omega arith) in
+            elim (order q r) [
+              | same e ↦
+                  let qr = same-place e in
+                  simp (pr .apart, pr .is-less, pr .not-more, ps .apart, ps .is-less, qr .meets, qr .not-more) (omega arith)
               | less b ↦
+                  let qr = rises b in
+                  let qs : Rises q s = rises (omega arith) in
+                  simp (pr .apart, pr .is-less, pr .not-more, ps .apart, ps .is-less, qr .apart, qr .not-more, qs .apart, qs .not-more) (omega arith)
+              | more b ↦
+                  let rq = rises b in
                   elim (order q s) [
-                    | same e ↦ simp (
-                      ne-eqb p r (λ d. omega arith),
-                      ne-eqb p s (λ d. omega arith),
-                      ne-eqb q r (λ d. omega arith),
-                      eq-eqb q s
-                          (omega arith),
-                      lt-ltb p r (omega arith),
-                      lt-ltb r q (omega arith),
-                      le-ltb q s (omega arith),
-                      le-ltb r p
-                          (omega arith),
-                      lt-ltb p s (omega arith),
-                      le-ltb s q (omega arith),
-                    ) (omega arith)
-                    | less c ↦ simp (
-                      ne-eqb p r (λ d. omega arith),
-                      ne-eqb p s (λ d. omega arith),
-                      ne-eqb q r (λ d. omega arith),
-                      ne-eqb q s
-                          (λ d. omega arith),
-                      lt-ltb p r (omega arith),
-                      lt-ltb r q (omega arith),
-                      lt-ltb q s (omega arith),
-                      le-ltb r p (omega arith),
-                      lt-ltb p s (omega arith),
-                      le-ltb s q (omega arith),
-                    ) (omega arith)
-                    | more c ↦ simp (
-                      ne-eqb p r (λ d. omega arith),
-                      ne-eqb p s (λ d. omega arith),
-                      ne-eqb q r (λ d. omega arith),
-                      ne-eqb q s (λ d. omega arith),
-                      lt-ltb p r (omega arith),
-                      lt-ltb r q (omega arith),
-                      le-ltb q s (omega arith),
-                      le-ltb r p (omega arith),
-                      lt-ltb p s (omega arith),
-                      lt-ltb s q (omega arith),
-                    ) (omega arith)
+                    | same e ↦
+                        let qs = same-place e in
+                        simp (pr .apart, pr .is-less, pr .not-more, ps .apart, rq .apart′, rq .is-less, qs .meets, qs .not-less) (omega arith)
+                    | less c ↦
+                        let qs = rises c in
+                        simp (pr .apart, pr .is-less, pr .not-more, ps .apart, ps .is-less, rq .apart′, rq .is-less, qs .apart, qs .is-less, qs .not-more) (omega arith)
+                    | more c ↦
+                        let sq = rises c in
+                        simp (pr .apart, pr .is-less, pr .not-more, ps .apart, ps .is-less, rq .apart′, rq .is-less, sq .apart′, sq .is-less, sq .not-more) (omega arith)
                   ]
             ]
         | more a ↦
+            let rp = rises a in
+            let rq : Rises r q = rises (omega arith) in
             elim (order p s) [
-              | same e ↦ simp (
-                ne-eqb p r (λ d. omega arith),
-                eq-eqb p s (omega arith),
-                le-ltb p r (omega arith),
-                lt-ltb r q
-                    (omega arith),
-                le-ltb q s (omega arith),
-                lt-ltb r p (omega arith),
-                le-ltb p s (omega arith),
-                lt-ltb s q (omega arith),
-              ) (omega arith)
-              | more b ↦ simp (
-                ne-eqb p r (λ d. omega arith),
-                ne-eqb p s (λ d. omega arith),
-                ne-eqb q r (λ d. omega arith),
-                ne-eqb q s
-                    (λ d. omega arith),
-                le-ltb p r (omega arith),
-                lt-ltb r q (omega arith),
-                le-ltb q s (omega arith),
-                lt-ltb r p
-                    (omega arith),
-                le-ltb p s (omega arith),
-                lt-ltb s q (omega arith),
-              ) (omega arith)
+              | same e ↦
+                  let ps = same-place e in
+                  simp (rp .apart′, rp .is-less, rp .not-more, ps .meets, ps .not-less) (omega arith)
+              | more b ↦
+                  let sp = rises b in
+                  let sq : Rises s q = rises (omega arith) in
+                  simp (rp .apart′, rp .is-less, rp .not-more, rq .apart′, sp .apart′, sp .not-more, sq .apart′) (omega arith)
               | less b ↦
+                  let ps = rises b in
                   elim (order q s) [
-                    | same e ↦ simp (
-                      ne-eqb p r (λ d. omega arith),
-                      ne-eqb p s (λ d. omega arith),
-                      ne-eqb q r (λ d. omega arith),
-                      eq-eqb q s
-                          (omega arith),
-                      le-ltb p r (omega arith),
-                      lt-ltb r q (omega arith),
-                      le-ltb q s (omega arith),
-                      lt-ltb r p
-                          (omega arith),
-                      lt-ltb p s (omega arith),
-                      le-ltb s q (omega arith),
-                    ) (omega arith)
-                    | less c ↦ simp (
-                      ne-eqb p r (λ d. omega arith),
-                      ne-eqb p s (λ d. omega arith),
-                      ne-eqb q r (λ d. omega arith),
-                      ne-eqb q s
-                          (λ d. omega arith),
-                      le-ltb p r (omega arith),
-                      lt-ltb r q (omega arith),
-                      lt-ltb q s (omega arith),
-                      lt-ltb r p (omega arith),
-                      lt-ltb p s (omega arith),
-                      le-ltb s q (omega arith),
-                    ) (omega arith)
-                    | more c ↦ simp (
-                      ne-eqb p r (λ d. omega arith),
-                      ne-eqb p s (λ d. omega arith),
-                      ne-eqb q r (λ d. omega arith),
-                      ne-eqb q s (λ d. omega arith),
-                      le-ltb p r (omega arith),
-                      lt-ltb r q (omega arith),
-                      le-ltb q s (omega arith),
-                      lt-ltb r p (omega arith),
-                      lt-ltb p s (omega arith),
-                      lt-ltb s q (omega arith),
-                    ) (omega arith)
+                    | same e ↦
+                        let qs = same-place e in
+                        simp (rp .apart′, rp .is-less, rp .not-more, ps .apart, ps .is-less, rq .apart′, qs .meets, qs .not-more) (omega arith)
+                    | less c ↦
+                        let qs = rises c in
+                        simp (rp .apart′, rp .is-less, rp .not-more, ps .apart, ps .is-less, rq .apart′, qs .apart, qs .not-more) (omega arith)
+                    | more c ↦
+                        let sq = rises c in
+                        simp (rp .apart′, rp .is-less, rp .not-more, ps .apart, ps .is-less, rq .apart′, rq .is-less, sq .apart′, sq .is-less) (omega arith)
                   ]
             ]
       ])
