@@ -33,16 +33,16 @@ between-ordered p q x l =
 record Rises (a b : ℕ) : Type 0 where
   apart : eqb a b ≡ false
   apart′ : eqb b a ≡ false
-  is-less : ltb a b ≡ true
-  not-more : ltb b a ≡ false
+  up : ltb a b ≡ true
+  down : ltb b a ≡ false
 
 rises : {a b : ℕ} → a < b → Rises a b
 rises {a} {b} l =
     record {
       apart = ne-eqb a b (λ e. omega arith);
       apart′ = ne-eqb b a (λ e. omega arith);
-      is-less = lt-ltb a b l;
-      not-more = le-ltb b a (omega arith);
+      up = lt-ltb a b l;
+      down = le-ltb b a (omega arith);
     }
 
 -- and where they are the same
@@ -68,23 +68,23 @@ module _ (p q r s : ℕ) (pq : p < q) (rs : r < s) where
             elim (order q r) [
               | same e ↦
                   let qr = same-place e in
-                  simp (pr .apart, pr .is-less, pr .not-more, ps .apart, ps .is-less, qr .meets, qr .not-more) (omega arith)
+                  simp (pr .apart, pr .up, pr .down, ps .apart, ps .up, qr .meets, qr .not-more) (omega arith)
               | less b ↦
                   let qr = rises b in
                   let qs : Rises q s = rises (omega arith) in
-                  simp (pr .apart, pr .is-less, pr .not-more, ps .apart, ps .is-less, qr .apart, qr .not-more, qs .apart, qs .not-more) (omega arith)
+                  simp (pr .apart, pr .up, pr .down, ps .apart, ps .up, qr .apart, qr .down, qs .apart, qs .down) (omega arith)
               | more b ↦
                   let rq = rises b in
                   elim (order q s) [
                     | same e ↦
                         let qs = same-place e in
-                        simp (pr .apart, pr .is-less, pr .not-more, ps .apart, rq .apart′, rq .is-less, qs .meets, qs .not-less) (omega arith)
+                        simp (pr .apart, pr .up, pr .down, ps .apart, rq .apart′, rq .up, qs .meets, qs .not-less) (omega arith)
                     | less c ↦
                         let qs = rises c in
-                        simp (pr .apart, pr .is-less, pr .not-more, ps .apart, ps .is-less, rq .apart′, rq .is-less, qs .apart, qs .is-less, qs .not-more) (omega arith)
+                        simp (pr .apart, pr .up, pr .down, ps .apart, ps .up, rq .apart′, rq .up, qs .apart, qs .up, qs .down) (omega arith)
                     | more c ↦
                         let sq = rises c in
-                        simp (pr .apart, pr .is-less, pr .not-more, ps .apart, ps .is-less, rq .apart′, rq .is-less, sq .apart′, sq .is-less, sq .not-more) (omega arith)
+                        simp (pr .apart, pr .up, pr .down, ps .apart, ps .up, rq .apart′, rq .up, sq .apart′, sq .up, sq .down) (omega arith)
                   ]
             ]
         | more a ↦
@@ -93,23 +93,23 @@ module _ (p q r s : ℕ) (pq : p < q) (rs : r < s) where
             elim (order p s) [
               | same e ↦
                   let ps = same-place e in
-                  simp (rp .apart′, rp .is-less, rp .not-more, ps .meets, ps .not-less) (omega arith)
+                  simp (rp .apart′, rp .up, rp .down, ps .meets, ps .not-less) (omega arith)
               | more b ↦
                   let sp = rises b in
                   let sq : Rises s q = rises (omega arith) in
-                  simp (rp .apart′, rp .is-less, rp .not-more, rq .apart′, sp .apart′, sp .not-more, sq .apart′) (omega arith)
+                  simp (rp .apart′, rp .up, rp .down, rq .apart′, sp .apart′, sp .down, sq .apart′) (omega arith)
               | less b ↦
                   let ps = rises b in
                   elim (order q s) [
                     | same e ↦
                         let qs = same-place e in
-                        simp (rp .apart′, rp .is-less, rp .not-more, ps .apart, ps .is-less, rq .apart′, qs .meets, qs .not-more) (omega arith)
+                        simp (rp .apart′, rp .up, rp .down, ps .apart, ps .up, rq .apart′, qs .meets, qs .not-more) (omega arith)
                     | less c ↦
                         let qs = rises c in
-                        simp (rp .apart′, rp .is-less, rp .not-more, ps .apart, ps .is-less, rq .apart′, qs .apart, qs .not-more) (omega arith)
+                        simp (rp .apart′, rp .up, rp .down, ps .apart, ps .up, rq .apart′, qs .apart, qs .down) (omega arith)
                     | more c ↦
                         let sq = rises c in
-                        simp (rp .apart′, rp .is-less, rp .not-more, ps .apart, ps .is-less, rq .apart′, rq .is-less, sq .apart′, sq .is-less) (omega arith)
+                        simp (rp .apart′, rp .up, rp .down, ps .apart, ps .up, rq .apart′, rq .up, sq .apart′, sq .up) (omega arith)
                   ]
             ]
       ])
