@@ -238,7 +238,7 @@ wrapped-at : (links : List ℕ) (i : ℕ) → getD (wrapped links) i 0 ≡ getD 
 unfolding wrapped
 wrapped-at links i = List·getD-map (λ (e : ℕ). e % 64) links i 0
 
--- ends below 64 are what they were
+-- links with ends below 64 stay what they are
 pub wrapped-edges : (links : List ℕ) → every (edgeWithin 64) (edgesIn links) ≡ true → edgesIn (wrapped links) ≡ edgesIn links
 unfolding wrapped edgesIn every edge
 wrapped-edges [] e = refl
@@ -256,6 +256,7 @@ wrapped-checks links e = rw (wrapped-edges links e)
 unfoldable pub wordsOver : List ℕ → List ℕ → List ℕ
 wordsOver adj s = checked (repeatChecks s) (adjacencyOf (edgesIn s)) (λ _. adj)
 
+-- of links with ends below 64, each pair once
 pub words-once : (adj links : List ℕ) → every (edgeWithin 64) (edgesIn links) ≡ true → refusal (repeatChecks links) ≡ 0
     → wordsOver adj (wrapped links) ≡ adjacencyOf (edgesIn links)
 unfolding wordsOver checked byRefusal
