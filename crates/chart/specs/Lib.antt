@@ -1,6 +1,5 @@
 -- The passes of the reader, and what an accepted chart gives: Laws has what others cite, Sequence that links may be written in any sequence.
-pub mod Words
-pub mod Order
+pub mod Padded
 pub mod Reading
 pub mod Laws
 pub mod Sequence

@@ -5,7 +5,7 @@ use native.Mathlib.Omega.{arith}
 use mathlib.Core.Path.{_≡_, refl, sym, ap, _∙_}
 use mathlib.Core.Bool.{Bool, true, false, cond, true≢false, false≢true}
 use mathlib.Core.List.{List, [], _∷_, _++_}
-use lib.ListN.{length, getD, take, drop, List·getD-eq-default}
+use lib.ListN.{length, getD, take, drop, replicate, List·getD-eq-default}
 use lib.Seq.{ext-getD, getD-take, length-take-le}
 use lib.Dec.{T, eqb, leb, lit<}
 use lib.Arith.{lt-one}
@@ -34,9 +34,10 @@ use Rattle.laws.specs.Layouts.Validity.{each-once, sound-valid}
 use Rattle.laws.specs.Sums.Indicators.{both-left, both-right}
 use Rattle.laws.specs.Layouts.Recount.{counted, counted-crossings}
 use Rattle.laws.specs.Layouts.Refusals.{Numbered, all-pass}
-use Rattle.passes.specs.Edges.{Ends, joins-none, joins-swap}
-use Rattle.chart.specs.Words.{wordOf-below, adjacencyOf, adjacency-at, adjacency-linked}
-use Rattle.chart.specs.Order.{padded, padded-length, padded-at}
+use Rattle.passes.specs.Edges.{Ends, within-mono, joins-none, joins-swap}
+use Rattle.bodies.specs.Words.{wordOf-below, adjacencyOf, adjacency-at, adjacency-linked, wrapped, wrapped-checks, wordsOver, words-once}
+use Rattle.bodies.specs.Order.{orderQuestion, question-eight}
+use Rattle.chart.specs.Padded.{padded, padded-length, padded-at, padded-copy}
 
 -- ---- questions, one group after the other
 
@@ -224,21 +225,26 @@ places-pass n o z =
     let both = last-passes (all-pass (places-numbered n o) z) in
     (eqb-true (length o) n (both-left (eqb (length o) n) (eachOnce n o) both), both-right (eqb (length o) n) (eachOnce n o) both)
 
-module _ (n : ℕ) (o : List ℕ) {r : Asked} where
-  pub order-long : r ≡ asks.Passed → asked r ≡ answer (placeChecks n o) [] → length o ≡ n
-  order-long told said = places-pass n o (answer-accepted (placeChecks n o) [] said (asked-passed told) .0) .0
+module _ (n : ℕ) (o : List ℕ) (few : n ≤ 64) where
+  question : answer (orderQuestion n o) [] ≡ answer (placeChecks n o) []
+  question = ap (λ (cs : List Check). answer cs []) (question-eight n o few)
 
-  pub read-misplaced : (adj : List ℕ) {k : ℕ} → r ≡ asks.Refused k → asked r ≡ answer (placeChecks n o) [] → refusedRead k ≡ readOrder n adj o
-  unfolding placeChecks readOrder
-  read-misplaced adj told said = asked-back (places-numbered n o) [] _ told said
+  module _ {r : Asked} where
+    pub order-long : r ≡ asks.Passed → asked r ≡ answer (orderQuestion n o) [] → length o ≤ 64
+    order-long told said = rw (places-pass n o (answer-accepted (placeChecks n o) [] (said ∙ question) (asked-passed told) .0) .0) few
 
-  pub read-placed : {adj order : List ℕ} {count : ℕ} → r ≡ asks.Passed → asked r ≡ answer (placeChecks n o) [] → order ≡ padded o
-      → count ≡ cond (leb n 64) (countOn n order adj) 0
-      → acceptedRead (record { n = n; order = order; adjacency = adj; count = count }) ≡ readOrder n adj o
-  unfolding placeChecks readOrder checked byRefusal refusal
-  read-placed {adj} told said p q =
-      let l : Layout = record { n = n; order = padded o; adjacency = adj; count = cond (leb n 64) (countOn n (padded o) adj) 0 } in
-      rw (q, p) (asked-on (places-numbered n o) [] (acceptedRead l) told said)
+    pub read-misplaced : (adj : List ℕ) {k : ℕ} → r ≡ asks.Refused k → asked r ≡ answer (orderQuestion n o) [] → refusedRead k ≡ readOrder n adj o
+    unfolding placeChecks readOrder
+    read-misplaced adj told said = asked-back (places-numbered n o) [] _ told (said ∙ question)
+
+    -- the order copied into an array of zeros
+    pub read-placed : {adj order : List ℕ} {count : ℕ} → r ≡ asks.Passed → asked r ≡ answer (orderQuestion n o) []
+        → order ≡ take (length o) o ++ drop (length o) (replicate 64 0) → count ≡ cond (leb n 64) (countOn n order adj) 0
+        → acceptedRead (record { n = n; order = order; adjacency = adj; count = count }) ≡ readOrder n adj o
+    unfolding placeChecks readOrder checked byRefusal refusal
+    read-placed {adj} told said p q =
+        let l : Layout = record { n = n; order = padded o; adjacency = adj; count = cond (leb n 64) (countOn n (padded o) adj) 0 } in
+        rw (q, p ∙ padded-copy o (order-long told said)) (asked-on (places-numbered n o) [] (acceptedRead l) told (said ∙ question))
 
 -- ---- question 7
 
@@ -259,23 +265,34 @@ same-checked cs {x} {y} h = by-number (refusal cs) h
     by-number zero e = e refl
     by-number (suc k) e = refl
 
-module _ (n : ℕ) (links o : List ℕ) {r : Asked} where
-  pub read-repeated : {k : ℕ} → r ≡ asks.Refused k → asked r ≡ answer (repeatChecks links) [] → refusedRead k ≡ readEdges n links o
-  unfolding readEdges
-  read-repeated told said = asked-back (repeats-numbered links) (placeChecks n o) _ told said
+-- links whose ends are below n, of at most 64 vertices
+module _ (n : ℕ) (links o : List ℕ) (few : n ≤ 64) (within : every (edgeWithin n) (edgesIn links) ≡ true) where
+  ends-small : every (edgeWithin 64) (edgesIn links) ≡ true
+  ends-small = within-mono n 64 few (edgesIn links) within
 
-  pub read-once : n ≤ 64 → every (edgeWithin n) (edgesIn links) ≡ true → r ≡ asks.Passed → asked r ≡ answer (repeatChecks links) []
-      → {adj : List ℕ} → adj ≡ adjacencyOf (edgesIn links) → readOrder n adj o ≡ readEdges n links o
-  unfolding readEdges readOrder layoutFrom
-  read-once few within told said words =
-      rw words (same-checked (placeChecks n o) (λ z. ap counted-as (count-read (accepted z))))
-      ∙ asked-on (repeats-numbered links) (placeChecks n o) (acceptedRead (layoutFrom n links o)) told said
-    where
-      counted-as : ℕ → ChartRead
-      counted-as k = acceptedRead (record { n = n; order = padded o; adjacency = adjacencyOf (edgesIn links); count = k })
+  question-seven : answer (repeatChecks (wrapped links)) [] ≡ answer (repeatChecks links) []
+  question-seven = ap (λ (cs : List Check). answer cs []) (wrapped-checks links ends-small)
 
-      accepted : refusal (placeChecks n o) ≡ 0 → Accepted n links o
-      accepted z = let p = places-pass n o z in record { few = few; within = within; long = p .0; each = p .1 }
+  module _ {r : Asked} where
+    pub read-repeated : {k : ℕ} → r ≡ asks.Refused k → asked r ≡ answer (repeatChecks (wrapped links)) [] → refusedRead k ≡ readEdges n links o
+    unfolding readEdges
+    read-repeated told said = asked-back (repeats-numbered links) (placeChecks n o) _ told (said ∙ question-seven)
+
+    pub read-once : r ≡ asks.Passed → asked r ≡ answer (repeatChecks (wrapped links)) [] → (before : List ℕ) {adj : List ℕ}
+        → adj ≡ wordsOver before (wrapped links) → readOrder n adj o ≡ readEdges n links o
+    unfolding readEdges readOrder layoutFrom
+    read-once told said before words =
+        rw (words ∙ words-once before links ends-small all-different) (same-checked (placeChecks n o) (λ z. ap counted-as (count-read (accepted z))))
+        ∙ asked-on (repeats-numbered links) (placeChecks n o) (acceptedRead (layoutFrom n links o)) told (said ∙ question-seven)
+      where
+        all-different : refusal (repeatChecks links) ≡ 0
+        all-different = answer-accepted (repeatChecks links) [] (said ∙ question-seven) (asked-passed told) .0
+
+        counted-as : ℕ → ChartRead
+        counted-as k = acceptedRead (record { n = n; order = padded o; adjacency = adjacencyOf (edgesIn links); count = k })
+
+        accepted : refusal (placeChecks n o) ≡ 0 → Accepted n links o
+        accepted z = let p = places-pass n o z in record { few = few; within = within; long = p .0; each = p .1 }
 
 -- ---- questions 5 and 6
 

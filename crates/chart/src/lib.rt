@@ -1,8 +1,5 @@
 // Reading charts: the questions of document 01, each asked of the whole input before the next, and the
-// layout (ring) that an accepted chart gives. passes has questions 1 to 6, edges 7, order 8.
-mod edges;
-mod order;
-
+// layout (ring) that an accepted chart gives. passes has questions 1 to 6, bodies 7 and 8.
 use model::Asked;
 use model::BodiesFound;
 use model::ChartRead;
@@ -78,7 +75,7 @@ fn read_edges(n: usize, links: &[u8], body: &[u8]) -> ChartRead
     ensures { λ r. ⌜ r ≡ readEdges n (now (links .entry)) (now (body .entry)) ⌝ }
 {
     let mut adjacency = [0u64; 64];
-    let different = edges::join_edges(links, &mut adjacency);
+    let different = bodies::join_edges(links, &mut adjacency);
     let Asked::Passed = different else {
         return refused(asked_code(different));
     };
@@ -90,12 +87,12 @@ fn read_order(n: usize, body: &[u8], adjacency: [u64; 64]) -> ChartRead
     requires { ⌜ n ≤ 64 ⌝ }
     ensures { λ r. ⌜ r ≡ readOrder n adjacency (now (body .entry)) ⌝ }
 {
-    let once = order::ask_order(n, body);
+    let once = bodies::ask_order(n, body);
     let Asked::Passed = once else {
         return refused(asked_code(once));
     };
     let mut order = [0u8; 64];
-    order::copy_order(body, &mut order);
+    bytes::copy(body, &mut order);
     let count = counting::count_crossings(n, &order, &adjacency);
     ChartRead {
         refusal: 0,

@@ -1,9 +1,11 @@
 use borrow.Author.Needs.{needs}
-use native.Mathlib.Omega.{arith}
-use mathlib.Core.Path.{refl, _∙_}
+use mathlib.Core.Path.{_∙_}
 use Rattle.chart.specs.Reading.{asked-number, order-long, read-misplaced, read-placed}
 use Rattle.chart.proofs.read_order.Statement.{statement}
 use Rattle.chart.proofs.read_order.Tie as tie
+
+abbrev start : tie.After-ask-order → tie.Start
+start c = c .before .before
 
 ask-order-requires : tie.Need-ask-order-requires
 ask-order-requires c κs = search needs
@@ -23,22 +25,28 @@ refused-requires c κs = search needs
 returns : tie.Need-returns
 returns c =
     let told = c .before .before in
+    let once = told .before .before in
     let e = told .enum-told2 .given .1 in
-    c .refused .ensures ∙ asked-number e (c .before .asked-code .ensures) ∙ read-misplaced _ _ _ e (told .before .before .ask-order .ensures)
+    c .refused .ensures ∙ asked-number e (c .before .asked-code .ensures) ∙ read-misplaced _ _ (start once .pre) _ e (once .ask-order .ensures)
 
-copy-order-requires : tie.Need-copy-order-requires
-copy-order-requires c κs =
+slice-aggregate-copy : tie.Need-slice-aggregate-copy
+slice-aggregate-copy c = search needs
+
+copy-requires : tie.Need-copy-requires
+copy-requires c κs =
     let passed = c .before in
-    (omega (arith, order-long _ _ (passed .enum-told .given .1) (passed .before .before .ask-order .ensures)), refl)
+    let once = passed .before .before in
+    order-long _ _ (start once .pre) (passed .enum-told .given .1) (once .ask-order .ensures)
 
 count-crossings-requires : tie.Need-count-crossings-requires
 count-crossings-requires c κs = search needs
 
 returns-2 : tie.Need-returns-2
 returns-2 c =
-    let copied = c .before .before .before in
+    let copied = c .before .before .before .before in
     let passed = copied .before .before in
-    read-placed _ _ (passed .enum-told .given .1) (passed .before .before .ask-order .ensures) (copied .copy-order .ensures) (c .count-crossings .ensures)
+    let once = passed .before .before in
+    read-placed _ _ (start once .pre) (passed .enum-told .given .1) (once .ask-order .ensures) (copied .copy .ensures .1) (c .count-crossings .ensures)
 
 pub read-order-spec : {M : Type 1} → statement M
 read-order-spec =
@@ -50,6 +58,7 @@ read-order-spec =
     asked-code-requires
     refused-requires
     returns
-    copy-order-requires
+    slice-aggregate-copy
+    copy-requires
     count-crossings-requires
     returns-2)
