@@ -23,7 +23,8 @@ use steps::step;
 pub fn play(origin: Origin, chart: &[u8], calls: &[u64], answers: &mut [u64]) -> Played
     ensures returned { λ r. ⌜ r ≡ playOf origin (now (chart .entry)) (now (calls .entry)) (length (now (answers .entry))) ⌝ }
     ensures table { λ r. ⌜ now (answers .exit) ≡ tableOf origin (now (chart .entry)) (now (calls .entry)) (now (answers .entry)) ⌝ }
-    ensures claim { λ r. ⌜ Demand3 (startOf origin (now (chart .entry)) .layout) (playedCalls origin (now (chart .entry)) (now (calls .entry)) (length (now (answers .entry)))) ⌝ }
+    ensures claim { λ r. ⌜ Demand3 (startOf origin (now (chart .entry)) .layout)
+        (playedCalls origin (now (chart .entry)) (now (calls .entry)) (length (now (answers .entry)))) ⌝ }
 {
     let start = start_of(origin, chart);
     let refusal = start.refusal;
