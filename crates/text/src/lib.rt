@@ -7,4 +7,5 @@ pub use numbers::put_bytes;
 pub use numbers::put_line;
 pub use numbers::put_number;
 pub use numbers::put_small;
+pub use writing::lacks;
 pub use writing::put_text;

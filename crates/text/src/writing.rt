@@ -17,7 +17,7 @@ pub fn put_text(out: &mut [u8], at: usize, t: &[u8]) -> usize
 }
 
 // Are there not so many places from place at on?
-pub(crate) fn lacks(size: usize, at: usize, room: usize) -> bool
+pub fn lacks(size: usize, at: usize, room: usize) -> bool
     ensures { λ r. ⌜ r ≡ ltb size (at + room) ⌝ }
 {
     if size < room {

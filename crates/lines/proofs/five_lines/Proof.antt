@@ -3,8 +3,8 @@ use native.Mathlib.Omega.{arith}
 use Rattle.model.specs.Lists.{upto}
 use Rattle.model.specs.Listing.{text, line}
 use Rattle.text.specs.Room.{put-behind}
-use Rattle.listing.proofs.lines.put_numbers.Statement.{statement}
-use Rattle.listing.proofs.lines.put_numbers.Tie as tie
+use Rattle.lines.proofs.five_lines.Statement.{statement}
+use Rattle.lines.proofs.five_lines.Tie as tie
 
 slice-aggregate-put-line : tie.Need-slice-aggregate-put-line
 slice-aggregate-put-line c = search needs
@@ -67,8 +67,8 @@ returns c =
       omega (arith, end1, end2, end3, end4, rounds .put-line5 .ensures .bound),
     )
 
-pub put-numbers-spec : {M : Type 1} → statement M
-put-numbers-spec =
+pub five-lines-spec : {M : Type 1} → statement M
+five-lines-spec =
     tie.close
     (tie.spec
     slice-aggregate-put-line

@@ -3,8 +3,8 @@ use native.Mathlib.Omega.{arith}
 use Rattle.model.specs.Lists.{upto}
 use Rattle.model.specs.Listing.{text, line}
 use Rattle.text.specs.Room.{put-behind}
-use Rattle.listing.proofs.lines.put_order_line.Statement.{statement}
-use Rattle.listing.proofs.lines.put_order_line.Tie as tie
+use Rattle.lines.proofs.order_line.Statement.{statement}
+use Rattle.lines.proofs.order_line.Tie as tie
 
 slice-aggregate-put-text : tie.Need-slice-aggregate-put-text
 slice-aggregate-put-text c = search needs
@@ -38,12 +38,13 @@ returns c =
     let room = start name .pre in
     let end1 = name .put-text .ensures .bound in
     let end2 = places .put-bytes .ensures .bound in
+    let end3 = end .put-text2 .ensures .bound in
     let named = name .put-text .ensures .fits (omega (arith, room)) in
     let listed = put-behind named (places .put-bytes .ensures) (omega (arith, room, end1)) in
-    put-behind listed (end .put-text2 .ensures) (omega (arith, room, end1, end2))
+    (put-behind listed (end .put-text2 .ensures) (omega (arith, room, end1, end2)), omega (arith, end1, end2, end3))
 
-pub put-order-line-spec : {M : Type 1} → statement M
-put-order-line-spec =
+pub order-line-spec : {M : Type 1} → statement M
+order-line-spec =
     tie.close
     (tie.spec
     slice-aggregate-put-text
