@@ -7,9 +7,9 @@ ghost use lib.ListN.{length};
 ghost use Rattle.model.specs.Listing.{text, line, spaced};
 ghost use Rattle.laws.specs.Buffers.Writing.{Written};
 ghost use Rattle.text.specs.Room.{Put};
+use decimals::put_bytes;
+use decimals::put_line;
 use text::lacks;
-use text::put_bytes;
-use text::put_line;
 use text::put_text;
 
 // The numbers of a listing, one to a line.

@@ -1,10 +1,10 @@
 use Prim.Native.Nat.{_+_, _≤_}
 use native.Mathlib.Omega.{arith}
 use lib.ListN.{length}
 use Rattle.text.specs.Room.{put-full, put-fits, no-room, has-room}
 use borrow.Author.Needs.{needs}
-use Rattle.text.proofs.numbers.put_line.Statement.{statement}
-use Rattle.text.proofs.numbers.put_line.Tie as tie
+use Rattle.decimals.proofs.put_line.Statement.{statement}
+use Rattle.decimals.proofs.put_line.Tie as tie
 
 abbrev start : tie.After-lacks → tie.Start
 start c = c .before .before .before

@@ -3,9 +3,9 @@ use Prim.Native.Nat.{ℕ, zero, suc, _+_, _*_, _/_, _%_, _^_, _≤_, _<_}
 use native.Mathlib.Nat.{div-lt-iff-lt-mul, le-div-iff-mul-le, mod-lt, pow-suc, pow-le-pow-right}
 use native.Mathlib.Numerals.{unary-clauses}
 use native.Mathlib.Omega.{arith}
-use mathlib.Core.Path.{_≡_, refl, sym, ap, ap₂, _∙_}
+use mathlib.Core.Path.{_≡_, sym, ap, ap₂, _∙_}
 use mathlib.Core.List.{List, [], _∷_, _++_}
-use lib.ListN.{length, length-append}
+use lib.ListN.{length}
 use borrow.Author.Tests.{lt-ltb}
 use Rattle.io.specs.Digits.{glyph, digits, Fewest}
 use Rattle.model.specs.Lists.{upto}
@@ -15,10 +15,6 @@ use Rattle.laws.specs.Buffers.Writing.{decimal-digit, decimal-more, decimal-len
 -- a digit's byte
 glyph-byte : (d : ℕ) → d < 10 → glyph d ≡ 48 + d
 glyph-byte d h = rw (lt-ltb d 10 h)
-
-pub digits-length : (k n : ℕ) → length (digits 10 k n) ≡ k
-digits-length zero n = refl
-digits-length (suc k) n = length-append (digits 10 k (n / 10)) (glyph (n % 10) ∷ []) ∙ omega (arith, digits-length k (n / 10))
 
 -- the fewest digits are all digits
 pub digits-decimal : (k n : ℕ) → Fewest 10 1 n k → digits 10 k n ≡ decimal n

@@ -3,12 +3,12 @@ use native.Mathlib.Omega.{arith}
 use native.Mathlib.Nat.{lt-trans}
 use lib.Dec.{lit<}
 use lib.ListN.{length}
 use Rattle.text.specs.Room.{put-full, put-fits, no-room, has-room}
 use Rattle.model.specs.Listing.{spaced}
-use Rattle.text.specs.Decimals.{spaced-length}
+use Rattle.decimals.specs.Decimals.{spaced-length}
 use borrow.Author.Needs.{needs}
-use Rattle.text.proofs.numbers.put_small.Statement.{statement}
-use Rattle.text.proofs.numbers.put_small.Tie as tie
+use Rattle.decimals.proofs.put_small.Statement.{statement}
+use Rattle.decimals.proofs.put_small.Tie as tie
 
 abbrev start : tie.After-lacks → tie.Start
 start c = c .before .before

@@ -1,13 +1,14 @@
-// Numbers in decimal, each behind a space.
+// Numbers in decimal, each behind a space, written into a lent buffer from a place on. Each call
+// answers the place behind what it wrote. Where there is no room it writes nothing, and answers the
+// place itself.
 ghost use mathlib.Core.List.{_++_, flatMap};
 ghost use Prim.Native.Nat.{_+_, _*_, _≤_};
 ghost use lib.ListN.{length};
 ghost use Rattle.model.specs.Listing.{text, decimal, spaced};
 ghost use Rattle.laws.specs.Buffers.Writing.{Written};
 ghost use Rattle.text.specs.Room.{Put};
-use crate::writing::copy_text;
-use crate::writing::lacks;
-use crate::writing::put_byte;
+use text::lacks;
+use text::put_text;
 
 // Any number, where there is room for the longest.
 pub fn put_number(out: &mut [u8], at: usize, x: u64) -> usize
@@ -54,11 +55,12 @@ pub fn put_line(out: &mut [u8], at: usize, name: &[u8], x: u32) -> usize
 
 fn named_line(out: &mut [u8], at: usize, name: &[u8], x: u32) -> usize
     requires { ⌜ at + length (now name) + 22 ≤ length (now out) ⌝ }
-    ensures { λ r. ⌜ Written (now (out .entry)) at (now (name .entry) ++ spaced x ++ text "\n") (now (out .exit)) r × (r ≤ at + length (now (name .entry)) + 22) ⌝ }
+    ensures { λ r. ⌜ Written (now (out .entry)) at (now (name .entry) ++ spaced x ++ text "\n") (now (out .exit)) r
+        × (r ≤ at + length (now (name .entry)) + 22) ⌝ }
 {
-    let number = copy_text(out, at, name);
+    let number = put_text(out, at, name);
     let end = put_number(out, number, x as u64);
-    put_byte(out, end, b'\n')
+    put_text(out, end, b"\n")
 }
 
 fn each_byte(out: &mut [u8], at: usize, bytes: &[u8]) -> usize
@@ -78,7 +80,7 @@ fn put_spaced(out: &mut [u8], at: usize, x: u64) -> usize
     requires { ⌜ at + length (spaced x) ≤ length (now out) ⌝ }
     ensures { λ r. ⌜ Written (now (out .entry)) at (spaced x) (now (out .exit)) r ⌝ }
 {
-    let digits = put_byte(out, at, b' ');
+    let digits = put_text(out, at, b" ");
     put_decimal(out, digits, x)
 }
 
@@ -88,5 +90,5 @@ fn put_decimal(out: &mut [u8], at: usize, x: u64) -> usize
 {
     let mut digits = [0u8; 20];
     let count = io::decimal(x, &mut digits);
-    copy_text(out, at, &digits[..count])
+    put_text(out, at, &digits[..count])
 }

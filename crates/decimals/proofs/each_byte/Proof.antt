@@ -6,9 +6,9 @@ use lib.ListN.{length, take}
 use lib.Seq.{take-all}
 use Rattle.model.specs.Listing.{spaced}
 use Rattle.laws.specs.Buffers.Writing.{Written, written-none, written-size, flatMap-next}
 use Rattle.text.specs.Parts.{behind}
-use Rattle.text.proofs.numbers.each_byte.Statement.{statement}
-use Rattle.text.proofs.numbers.each_byte.Tie as tie
+use Rattle.decimals.proofs.each_byte.Statement.{statement}
+use Rattle.decimals.proofs.each_byte.Tie as tie
 
 abbrev Inv-loop : tie.InvT-loop
 Inv-loop out₀ at bytes to₀ i₀ out to i = (i ≤ length bytes) × (to ≤ at + 4 * i) × Written out₀ at (flatMap spaced (take i bytes)) out to
