@@ -3,10 +3,10 @@
 ghost use mathlib.Core.Path.{_≡_};
 ghost use Prim.Native.Nat.{_+_, _≤_, _<_};
 ghost use lib.ListN.{length};
+use decimals::put_bytes;
+use decimals::put_number;
+use decimals::put_small;
 use model::Layout;
-use text::put_bytes;
-use text::put_number;
-use text::put_small;
 use text::put_text;
 
 // What a record did: the layout that now stands, how many bytes of the line are written, and whether

@@ -1,5 +1,4 @@
 // The listing that ringlist prints, as bytes in a lent buffer.
-mod lines;
 mod listings;
 
 pub use listings::list_chart;

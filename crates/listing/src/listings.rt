@@ -8,13 +8,13 @@ ghost use lib.ListN.{length, drop};
 ghost use Rattle.model.specs.Layouts.{valid};
 ghost use Rattle.model.specs.Listing.{listing, listedLength, listedBytes};
 ghost use Rattle.laws.specs.Layouts.Reordering.{CountRight};
-use super::lines::Numbers;
-use super::lines::put_numbers;
-use super::lines::put_order_line;
-use super::lines::put_settled;
+use decimals::put_line;
+use lines::Numbers;
+use lines::put_numbers;
+use lines::put_order_line;
+use lines::put_settled;
 use model::Layout;
 use sifting::converge;
-use text::put_line;
 
 // Writes the listing to the start of a buffer of at least 1,024 bytes, and answers its length. A
 // shorter buffer is left alone, and 0 answered.
@@ -50,7 +50,7 @@ fn list_layout(l: Layout, out: &mut [u8]) -> usize
         rounds: settled.rounds,
     };
     let order = after.order;
-    let state = put_numbers(out, numbers);
+    let state = put_numbers(out, 0, numbers);
     let order_line = put_settled(out, state, settled.converged);
     put_order_line(out, order_line, &order[..n])
 }

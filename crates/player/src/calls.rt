@@ -3,11 +3,11 @@
 ghost use Prim.Native.Nat.{_+_, _≤_};
 use answers::Played;
 use answers::told;
+use decimals::put_number;
+use decimals::put_small;
 use model::Call;
 use model::Layout;
 use model::Outcome;
-use text::put_number;
-use text::put_small;
 use text::put_text;
 
 // Makes the call and writes its line.

@@ -5,11 +5,11 @@ ghost use lib.ListN.{length};
 use answers::Played;
 use answers::put_head;
 use answers::told;
+use decimals::put_bytes;
+use decimals::put_number;
 use model::Edge;
 use model::FirstCrossing;
 use model::Layout;
-use text::put_bytes;
-use text::put_number;
 use text::put_text;
 
 pub(crate) fn count(l: Layout, line: &mut [u8]) -> Played

@@ -1,4 +1,3 @@
 -- Text in a lent buffer: Room says what a call writes, and what it does where there is no room.
 pub mod Parts
-pub mod Decimals
 pub mod Room

@@ -1,7 +1,6 @@
 // Bytes.
 ghost use mathlib.Core.Path.{_≡_};
-ghost use mathlib.Core.List.{[], _∷_};
-ghost use Prim.Native.Nat.{_+_, _<_, _≤_};
+ghost use Prim.Native.Nat.{_+_, _≤_};
 ghost use lib.ListN.{length};
 ghost use lib.Dec.{ltb};
 ghost use Rattle.laws.specs.Buffers.Writing.{Written};
@@ -17,7 +16,7 @@ pub fn put_text(out: &mut [u8], at: usize, t: &[u8]) -> usize
 }
 
 // Are there not so many places from place at on?
-pub(crate) fn lacks(size: usize, at: usize, room: usize) -> bool
+pub fn lacks(size: usize, at: usize, room: usize) -> bool
     ensures { λ r. ⌜ r ≡ ltb size (at + room) ⌝ }
 {
     if size < room {
@@ -29,15 +28,7 @@ pub(crate) fn lacks(size: usize, at: usize, room: usize) -> bool
     false
 }
 
-pub(crate) fn put_byte(out: &mut [u8], at: usize, b: u8) -> usize
-    requires { ⌜ at < length (now out) ⌝ }
-    ensures { λ r. ⌜ Written (now (out .entry)) at (b ∷ []) (now (out .exit)) r ⌝ }
-{
-    out[at] = b;
-    at + 1
-}
-
-pub(crate) fn copy_text(out: &mut [u8], at: usize, t: &[u8]) -> usize
+fn copy_text(out: &mut [u8], at: usize, t: &[u8]) -> usize
     requires { ⌜ at + length (now t) ≤ length (now out) ⌝ }
     ensures { λ r. ⌜ Written (now (out .entry)) at (now (t .entry)) (now (out .exit)) r ⌝ }
 {

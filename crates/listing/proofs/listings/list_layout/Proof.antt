@@ -5,7 +5,7 @@ use mathlib.Core.Path.{_≡_, sym}
 use lib.ListN.{length}
 use lib.Seq.{length-take-le}
 use Rattle.laws.specs.Layouts.Validity.{sound}
-use Rattle.text.specs.Parts.{behind}
+use Rattle.text.specs.Room.{put-behind}
 use Rattle.graphs.specs.EdgeTotals.{edges-halved}
 use Rattle.listing.specs.Text.{listing-written}
 use Rattle.listing.proofs.listings.list_layout.Statement.{statement}
@@ -58,14 +58,7 @@ slice-aggregate-put-order-line : tie.Need-slice-aggregate-put-order-line
 slice-aggregate-put-order-line c = sym (length-take-le _ _ (inside (settled (edges (numbers (state (c .before)))))))
 
 put-order-line-requires : tie.Need-put-order-line-requires
-put-order-line-requires c κs =
-    let written = state (c .before) in
-    let counted = numbers written in
-    let at = settled (edges counted) in (
-      omega (arith, counted .put-numbers .ensures .1, written .put-settled .ensures .1),
-      omega (arith, length-take-le (start at .args .l .n) (at .converge .result .layout .order) (inside at), few (start at)),
-      omega (arith, start at .pre .2, counted .put-numbers .kept .0, written .put-settled .kept .0),
-    )
+put-order-line-requires c κs = search needs
 
 same-length : tie.Need-same-length
 same-length c = search needs
@@ -81,9 +74,11 @@ returns c =
     let room = s .pre .2 in
     let held = counted .put-numbers .ensures in
     let told = written .put-settled .ensures in
+    let order = length-take-le (s .args .l .n) (at .converge .result .layout .order) (inside at) in
     let links = edges-halved _ (few s) (sound (s .args .l) (s .pre .0) .symmetry) (linked .edge-count .ensures) in
+    let stated = put-behind (held .fits (omega (arith, room))) told (omega (arith, room, held .bound)) in
     listing-written (s .args .l) (s .pre .0) (s .pre .1) (at .converge .ensures) links
-    (behind (behind (held .0) (told .0) (omega (arith, room, held .1))) (end .put-order-line .ensures) (omega (arith, room, held .1, told .1)))
+    (put-behind stated (end .put-order-line .ensures) (omega (arith, room, order, few s, held .bound, told .bound)))
 
 pub list-layout-spec : {M : Type 1} → statement M
 list-layout-spec =
