@@ -6,7 +6,7 @@ ghost use Rattle.model.specs.Layouts.{valid};
 ghost use Rattle.model.specs.GreedyAppend.{placeAll, layAnswer, layOf};
 use super::line::written;
 use super::steps::place_all;
-use counting::recounted;
+use carrying::recounted;
 use model::Appended;
 use model::Layout;
 use validity::vertex_refusal;

@@ -23,7 +23,7 @@ use Rattle.laws.specs.Sums.Lists.{length-upto, map-upto-at, sumOver-upto}
 use Rattle.laws.specs.Sums.Bits.{bit-beyond, bits-ext, set-same, set-other, set-lt}
 use Rattle.laws.specs.Layouts.EdgeEdits.{both, set-changes, words-lt, joined-to, joined-back, bits-kept, ends-within}
 use Rattle.laws.specs.Sums.Any.{any-new, any-old, noRepeats-last, noRepeats-more}
-use Rattle.passes.specs.Edges.{edge, edge-swap, same-edge, other-edge, edge-ends, edges-next, edges-last}
+use Rattle.pairs.specs.Edges.{edge, edge-swap, same-edge, other-edge, edge-ends, edges-next, edges-last}
 
 -- ---- a word made of its bits
 

@@ -19,7 +19,7 @@ use Rattle.laws.specs.Sums.Lists.{All, none, also}
 use Rattle.laws.specs.Layouts.Sizes.{Sized, empty-sized}
 use Rattle.laws.specs.Layouts.Refusals.{checked-either, Numbered, all-pass, when-accepted, when-refused, checked-number}
 use Rattle.laws.specs.Sums.Indicators.{both-left, both-right, eqb-swap}
-use Rattle.passes.specs.Edges.{edge}
+use Rattle.pairs.specs.Edges.{edge}
 use Rattle.chart.specs.Padded.{padded-length}
 use Rattle.bodies.specs.Words.{adjacencyOf, adjacency-length, adjacency-bit, adjacency-lt, adjacency-ext}
 use Rattle.chart.specs.Reading.{layoutFrom, Accepted, valid-read, count-true, refusedRead}

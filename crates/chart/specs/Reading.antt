@@ -34,7 +34,7 @@ use Rattle.laws.specs.Layouts.Validity.{each-once, sound-valid}
 use Rattle.laws.specs.Sums.Indicators.{both-left, both-right}
 use Rattle.laws.specs.Layouts.Recount.{counted, counted-crossings}
 use Rattle.laws.specs.Layouts.Refusals.{Numbered, all-pass}
-use Rattle.passes.specs.Edges.{Ends, within-mono, joins-none, joins-swap}
+use Rattle.pairs.specs.Edges.{Ends, within-mono, joins-none, joins-swap}
 use Rattle.bodies.specs.Words.{wordOf-below, adjacencyOf, adjacency-at, adjacency-linked, wrapped, wrapped-checks, wordsOver, words-once}
 use Rattle.bodies.specs.Order.{orderQuestion, question-eight}
 use Rattle.chart.specs.Padded.{padded, padded-length, padded-at, padded-copy}

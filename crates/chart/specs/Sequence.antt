@@ -20,7 +20,7 @@ use Rattle.laws.specs.Sums.Lists.{All, none, also, all-mono}
 use Rattle.laws.specs.Sums.Every.{every-all, all-every}
 use Rattle.laws.specs.Sums.Indicators.{both-left, both-right}
 use Rattle.laws.specs.Layouts.Refusals.{Numbered, all-pass}
-use Rattle.passes.specs.Edges.{edge, edge-swap}
+use Rattle.pairs.specs.Edges.{edge, edge-swap}
 use Rattle.chart.specs.Laws.{same-words, same-layouts}
 
 -- ---- how often an edge is written

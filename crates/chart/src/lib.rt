@@ -1,5 +1,5 @@
 // Reading charts: the questions of document 01, each asked of the whole input before the next, and the
-// layout (ring) that an accepted chart gives. passes has questions 1 to 6, bodies 7 and 8.
+// layout (ring) that an accepted chart gives. passes has questions 1 to 4, pairs 5 and 6, bodies 7 and 8.
 use model::Asked;
 use model::BodiesFound;
 use model::ChartRead;
@@ -62,7 +62,7 @@ fn read_bodies(n: usize, links: &[u8], body: &[u8]) -> ChartRead
     requires { ⌜ n ≤ 64 ⌝ }
     ensures { λ r. ⌜ r ≡ readBodies n (now (links .entry)) (now (body .entry)) ⌝ }
 {
-    let within = passes::ask_ends(n, links);
+    let within = pairs::ask_ends(n, links);
     let Asked::Passed = within else {
         return refused(asked_code(within));
     };

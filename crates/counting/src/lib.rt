@@ -1,7 +1,75 @@
-// The crossings of a layout, counted from nothing, and the carried count.
-mod counter;
-mod recount;
+// The crossings of an order, counted over pairs of places j < k: the edges from before j to k times
+// the edges from j to beyond k, each a count of ones under a running mask.
+ghost use mathlib.Core.Path.{_≡_};
+ghost use mathlib.Core.Bool.{cond};
+ghost use Prim.Native.Nat.{suc, _*_, _≤_, _<_};
+ghost use lib.Dec.{leb};
+ghost use Rattle.laws.specs.Sums.Bits.{maskedOnes};
+ghost use Rattle.laws.specs.Crossings.Masks.{vertexAt, wordAt, maskBefore, maskFrom, countRow, countOn};
 
-pub use counter::count_crossings;
-pub use recount::carried;
-pub use recount::recounted;
+// Of a valid layout these are its crossings; for any other bytes it is the same formula, with places
+// of the order taken modulo 64.
+pub fn count_crossings(n: usize, order: &[u8; 64], adjacency: &[u64; 64]) -> u32
+    ensures { λ r. ⌜ r ≡ cond (leb n 64) (countOn n (now (order .entry)) (now (adjacency .entry))) 0 ⌝ }
+{
+    if 64 < n {
+        return 0;
+    }
+    let mut before: u64 = 0;
+    let mut from = words::low_bits(n);
+    let mut total: u32 = 0;
+    let mut j = 0;
+    while j < n {
+        let v = vertex_at(order, j);
+        from = words::clear(from, v);
+        total += count_row(n, order, adjacency, j, before, from);
+        before = words::set(before, v);
+        j += 1;
+    }
+    total
+}
+
+// The pairs of place j with every later place. before holds the vertices that stand before j, after
+// those that stand behind it.
+fn count_row(
+    n: usize,
+    order: &[u8; 64],
+    adjacency: &[u64; 64],
+    j: usize,
+    before: u64,
+    after: u64,
+) -> u32
+    requires { ⌜ (n ≤ 64) × (j < n) × (before ≡ maskBefore (now order) j) × (after ≡ maskFrom n (now order) (suc j)) ⌝ }
+    ensures { λ r. ⌜ (r ≡ countRow n (now (order .entry)) (now (adjacency .entry)) j) × (r ≤ 262144) ⌝ }
+{
+    let word = word_at(order, adjacency, j);
+    let mut rest = after;
+    let mut total: u32 = 0;
+    let mut k = j + 1;
+    while k < n {
+        rest = words::clear(rest, vertex_at(order, k));
+        total += count_pair(word_at(order, adjacency, k), before, word, rest);
+        k += 1;
+    }
+    total
+}
+
+fn count_pair(later: u64, before: u64, earlier: u64, rest: u64) -> u32
+    ensures { λ r. ⌜ (r ≡ maskedOnes later before * maskedOnes earlier rest) × (r ≤ 4096) ⌝ }
+{
+    words::count(later, before) * words::count(earlier, rest)
+}
+
+fn vertex_at(order: &[u8; 64], k: usize) -> usize
+    requires { ⌜ k < 64 ⌝ }
+    ensures { λ r. ⌜ (r ≡ vertexAt (now (order .entry)) k) × (r < 64) ⌝ }
+{
+    (order[k] % 64) as usize
+}
+
+fn word_at(order: &[u8; 64], adjacency: &[u64; 64], k: usize) -> u64
+    requires { ⌜ k < 64 ⌝ }
+    ensures { λ r. ⌜ r ≡ wordAt (now (order .entry)) (now (adjacency .entry)) k ⌝ }
+{
+    adjacency[vertex_at(order, k)]
+}

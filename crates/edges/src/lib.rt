@@ -2,7 +2,7 @@
 ghost use mathlib.Core.Path.{_≡_};
 ghost use Rattle.model.specs.Checks.{refusal};
 ghost use Rattle.model.specs.Edits.{linkChecks, unlinkChecks, linkOf, unlinkOf};
-use counting::recounted;
+use carrying::recounted;
 use model::Changed;
 use model::Layout;
 use validity::pair_refusal;

@@ -1,7 +1,7 @@
 // Moving a vertex directly behind another (document 01: move).
 ghost use mathlib.Core.Path.{_≡_};
 ghost use Rattle.model.specs.Edits.{moveOf};
-use counting::recounted;
+use carrying::recounted;
 use model::Changed;
 use model::Layout;
 use places::moved;

@@ -1,2 +1,2 @@
+-- The fields of a chart, found one after the other.
 pub mod Fields
-pub mod Edges

@@ -1,14 +1,13 @@
 // One record of a list.
 ghost use Prim.Native.Nat.{_≤_};
 ghost use Rattle.io.specs.Counts.{Counts};
-use crate::calls::play_call;
 use crate::starts;
-use crate::views;
 use answers::Played;
 use answers::silent;
 use model::Decoded;
 use model::Layout;
 use records::number;
+use replies::play_call;
 use text::put_text;
 
 // Plays a record that starts from no chart, and ends the list at one that is cut short.

@@ -3,10 +3,8 @@
 // reads or writes a file. What a line says is compared with a second program by tests; what is
 // proved is that every function is safe and ends, and that every line fits its buffer.
 
-mod calls;
 mod dispatch;
 mod starts;
-mod views;
 
 pub use answers::Played;
 pub use dispatch::play;

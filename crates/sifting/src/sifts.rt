@@ -4,7 +4,7 @@ ghost use Prim.Native.Nat.{_<_};
 ghost use lib.Dec.{T};
 ghost use Rattle.model.specs.Layouts.{valid};
 ghost use Rattle.model.specs.Sifting.{sifted, reduction as reductionOf, siftOf};
-use counting::carried;
+use carrying::carried;
 use model::Layout;
 use model::Sifted;
 use validity::vertex_refusal;

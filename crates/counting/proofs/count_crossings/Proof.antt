@@ -1,0 +1,77 @@
+use borrow.Author.Needs.{needs}
+use Prim.Native.Nat.{_-_}
+use native.Mathlib.Omega.{arith}
+use mathlib.Core.Path.{ap, ap₂, _∙_}
+use borrow.Author.Tests.{le-leb, lt-leb}
+use Rattle.model.specs.Edits.{withBit, withoutBit}
+use Rattle.laws.specs.Sums.Bits.{set-within}
+use Rattle.laws.specs.Crossings.Masks.{maskFrom}
+use Rattle.counting.specs.Loops.{CountUpTo, count-start, count-next, count-end}
+use Rattle.counting.proofs.count_crossings.Statement.{statement}
+use Rattle.counting.proofs.count_crossings.Tie as tie
+
+abbrev Inv-loop : tie.InvT-loop
+Inv-loop n order adjacency before₀ from₀ total₀ j₀ before from total j = CountUpTo n order adjacency before «from» total j
+
+abbrev μ-loop : tie.MeasureT-loop
+μ-loop n order adjacency before₀ from₀ total₀ j₀ before from total j = n - j
+
+returns : tie.Need-returns Inv-loop μ-loop
+returns c = rw (lt-leb _ _ (c .if1 .taken))
+
+low-bits-requires : tie.Need-low-bits-requires Inv-loop μ-loop
+low-bits-requires c κs = search needs
+
+loop-holds : tie.Need-loop-holds Inv-loop μ-loop
+loop-holds c = count-start (c .before .if1 .left) (c .low-bits .ensures)
+
+vertex-at-requires : tie.Need-vertex-at-requires Inv-loop μ-loop
+vertex-at-requires c κs = omega arith
+
+clear-requires : tie.Need-clear-requires Inv-loop μ-loop
+clear-requires c κs = search needs
+
+count-row-requires : tie.Need-count-row-requires Inv-loop μ-loop
+unfolding maskFrom
+count-row-requires c κs =
+    let so-far = c .before .before .before .loop .inv in (
+      omega arith,
+      c .before .before .loop-test .taken,
+      so-far .mask-before,
+      c .clear .ensures ∙ ap₂ withoutBit (so-far .mask-from) (c .before .vertex-at .ensures .0),
+    )
+
+add-total : tie.Need-add-total Inv-loop μ-loop
+add-total c =
+    let so-far = c .before .before .before .before .loop .inv in
+    omega (arith, c .count-row .ensures .1, so-far .bounded, so-far .inside)
+
+set-requires : tie.Need-set-requires Inv-loop μ-loop
+set-requires c κs = search needs
+
+add-j : tie.Need-add-j Inv-loop μ-loop
+add-j c = omega arith
+
+loop-less : tie.Need-loop-less Inv-loop μ-loop
+loop-less c = omega arith
+
+loop-again : tie.Need-loop-again Inv-loop μ-loop
+loop-again c =
+    let row = c .before in
+    let vertex = row .before .before in
+    let turn = vertex .before .before .loop in
+    let v = vertex .vertex-at .ensures in
+    count-next (turn .inv) (vertex .before .loop-test .taken)
+    (row .before .clear .ensures ∙ ap (withoutBit (turn .«from»)) (v .0))
+    (set-within _ _ (v .1) (c .set .ensures) ∙ ap (withBit (turn .before)) (v .0))
+    (row .count-row .ensures .0)
+    (row .count-row .ensures .1)
+
+returns-2 : tie.Need-returns-2 Inv-loop μ-loop
+returns-2 c = rw (le-leb _ _ (c .before .before .before .if1 .left)) (count-end (c .before .loop .inv) (c .loop-test .left))
+
+pub count-crossings-spec : {M : Type 1} → statement M
+count-crossings-spec =
+    tie.close
+    (tie.spec Inv-loop μ-loop returns low-bits-requires loop-holds vertex-at-requires clear-requires count-row-requires add-total
+    set-requires add-j loop-less loop-again returns-2)

@@ -1,0 +1,77 @@
+use borrow.Author.Needs.{needs}
+use Prim.Native.Nat.{ℕ, _*_, _-_}
+use native.Mathlib.Omega.{arith}
+use mathlib.Core.Path.{_≡_, ap, ap₂, _∙_}
+use Rattle.model.specs.Edits.{withoutBit}
+use Rattle.laws.specs.Sums.Bits.{maskedOnes}
+use Rattle.laws.specs.Crossings.Masks.{wordAt}
+use Rattle.counting.specs.Loops.{RowUpTo, row-start, row-next, row-end}
+use Rattle.counting.proofs.count_row.Statement.{statement}
+use Rattle.counting.proofs.count_row.Tie as tie
+
+abbrev Inv-loop : tie.InvT-loop
+Inv-loop n order adjacency j before after word rest₀ total₀ k₀ rest total k = RowUpTo n order adjacency j rest total k × (word ≡ wordAt order adjacency j)
+
+abbrev μ-loop : tie.MeasureT-loop
+μ-loop n order adjacency j before after word rest₀ total₀ k₀ rest total k = n - k
+
+-- the turn that a counted pair belongs to
+abbrev turn : tie.After-count-pair Inv-loop μ-loop → tie.At-loop Inv-loop μ-loop
+turn c = c .before .before .before .before .before
+
+word-at-requires : tie.Need-word-at-requires Inv-loop μ-loop
+word-at-requires c κs = omega arith
+
+add-k : tie.Need-add-k Inv-loop μ-loop
+add-k c = omega arith
+
+loop-holds : tie.Need-loop-holds Inv-loop μ-loop
+loop-holds c = (row-start (c .before .pre .1) (c .before .pre .3), c .word-at .ensures)
+
+vertex-at-requires : tie.Need-vertex-at-requires Inv-loop μ-loop
+vertex-at-requires c κs = omega (arith, c .before .loop .inv .0 .inside)
+
+clear-requires : tie.Need-clear-requires Inv-loop μ-loop
+clear-requires c κs = search needs
+
+word-at-requires-2 : tie.Need-word-at-requires-2 Inv-loop μ-loop
+word-at-requires-2 c κs = omega (arith, c .before .before .before .loop .inv .0 .inside)
+
+count-pair-requires : tie.Need-count-pair-requires Inv-loop μ-loop
+count-pair-requires c κs = search needs
+
+add-total : tie.Need-add-total Inv-loop μ-loop
+add-total c =
+    let so-far = turn c .loop .inv .0 in
+    omega (arith, c .count-pair .ensures .1, so-far .bounded, so-far .inside)
+
+add-k-2 : tie.Need-add-k-2 Inv-loop μ-loop
+add-k-2 c = omega arith
+
+loop-less : tie.Need-loop-less Inv-loop μ-loop
+loop-less c = omega arith
+
+loop-again : tie.Need-loop-again Inv-loop μ-loop
+loop-again c =
+    let so-far = turn c .loop .inv in
+    let cleared = c .before .before in
+    let vertex = cleared .before in (
+      row-next (so-far .0) (vertex .before .loop-test .taken)
+          (cleared .clear .ensures ∙ ap (withoutBit (turn c .loop .rest)) (vertex .vertex-at .ensures .0))
+          (c .count-pair .ensures .0
+          ∙ ap₂ (λ (x y : ℕ). x * y) (ap₂ maskedOnes (c .before .word-at2 .ensures) (turn c .before .before .pre .2))
+          (ap (λ (w : ℕ). maskedOnes w (cleared .clear .result)) (so-far .1)))
+          (c .count-pair .ensures .1),
+      so-far .1,
+    )
+
+returns : tie.Need-returns Inv-loop μ-loop
+returns c =
+    let so-far = c .before .loop .inv .0 in
+    (row-end so-far (c .loop-test .left), omega (arith, so-far .bounded, so-far .inside))
+
+pub count-row-spec : {M : Type 1} → statement M
+count-row-spec =
+    tie.close
+    (tie.spec Inv-loop μ-loop word-at-requires add-k loop-holds vertex-at-requires clear-requires word-at-requires-2 count-pair-requires
+    add-total add-k-2 loop-less loop-again returns)

@@ -1,0 +1,85 @@
+// The calls that change a layout, each with its answer line. They go through steps::step: what is
+// compared is what the theorem over lists of calls speaks of.
+ghost use Prim.Native.Nat.{_+_, _≤_};
+use answers::Played;
+use answers::told;
+use decimals::put_number;
+use decimals::put_small;
+use model::Call;
+use model::Layout;
+use model::Outcome;
+use text::put_text;
+
+// Makes the call and writes its line.
+pub fn play_call(l: Layout, c: Call, line: &mut [u8]) -> Played
+    ensures { λ r. ⌜ r .written ≤ 4096 ⌝ }
+{
+    let answer = steps::step(l, c);
+    let after = answer.layout;
+    let at = put_answer(line, c, answer);
+    told(line, at, l, after)
+}
+
+// The call's name, its refusal number and the numbers that it answers.
+fn put_answer(line: &mut [u8], c: Call, answer: Outcome) -> usize
+    ensures { λ r. ⌜ r ≤ 100 ⌝ }
+{
+    let name_end = put_name(line, c);
+    let at = put_small(line, name_end, answer.refusal);
+    put_numbers(line, at, numbers_of(c), answer)
+}
+
+fn put_name(line: &mut [u8], c: Call) -> usize
+    ensures { λ r. ⌜ r ≤ 6 ⌝ }
+{
+    match c {
+        Call::AddVertex => put_text(line, 0, b"add"),
+        Call::AddEdge(_, _) => put_text(line, 0, b"link"),
+        Call::RemoveEdge(_, _) => put_text(line, 0, b"unlink"),
+        Call::MoveAfter(_, _) => put_text(line, 0, b"move"),
+        Call::GreedyAppend(_) => put_text(line, 0, b"lay"),
+        Call::Sift(_) => put_text(line, 0, b"sift"),
+        Call::SiftingRound => put_text(line, 0, b"round"),
+        Call::Converge(_) => put_text(line, 0, b"settle"),
+    }
+}
+
+// How many numbers the call answers; the third is whether it converged.
+fn numbers_of(c: Call) -> u8 {
+    match c {
+        Call::AddVertex => 1,
+        Call::AddEdge(_, _) => 0,
+        Call::RemoveEdge(_, _) => 0,
+        Call::MoveAfter(_, _) => 0,
+        Call::GreedyAppend(_) => 1,
+        Call::Sift(_) => 1,
+        Call::SiftingRound => 2,
+        Call::Converge(_) => 3,
+    }
+}
+
+fn put_numbers(line: &mut [u8], at: usize, count: u8, answer: Outcome) -> usize
+    ensures { λ r. ⌜ r ≤ at + 46 ⌝ }
+{
+    if count == 0 {
+        return at;
+    }
+    let first = put_number(line, at, answer.first);
+    if count == 1 {
+        return first;
+    }
+    let second = put_number(line, first, answer.second);
+    if count == 2 {
+        return second;
+    }
+    put_converged(line, second, answer.third)
+}
+
+fn put_converged(line: &mut [u8], at: usize, converged: u64) -> usize
+    ensures { λ r. ⌜ r ≤ at + 4 ⌝ }
+{
+    if converged == 1 {
+        return put_text(line, at, b" yes");
+    }
+    put_text(line, at, b" no")
+}

@@ -1,0 +1,87 @@
+// The calls that only read a layout, each with its answer line.
+ghost use Prim.Native.Nat.{_+_, _≤_};
+ghost use mathlib.Core.Path.{_≡_};
+ghost use lib.ListN.{length};
+use answers::Played;
+use answers::put_head;
+use answers::told;
+use decimals::put_bytes;
+use decimals::put_number;
+use model::Edge;
+use model::FirstCrossing;
+use model::Layout;
+use text::put_text;
+
+pub fn count(l: Layout, line: &mut [u8]) -> Played
+    ensures { λ r. ⌜ r .written ≤ 4096 ⌝ }
+{
+    let answer = reads::count(l);
+    let at = put_head(line, b"count", answer.refusal);
+    let end = put_number(line, at, answer.count as u64);
+    told(line, end, l, l)
+}
+
+// Reads the order into a buffer of size bytes, or 255 if that is less, each of which holds fill
+// modulo 256 before the call.
+pub fn order(l: Layout, size: u64, fill: u64, line: &mut [u8]) -> Played
+    ensures { λ r. ⌜ r .written ≤ 4096 ⌝ }
+{
+    let mut buffer = filled((fill % 256) as u8);
+    let lent = at_most_255(size);
+    order_into(l, line, &mut buffer[..lent])
+}
+
+fn order_into(l: Layout, line: &mut [u8], buffer: &mut [u8]) -> Played
+    requires { ⌜ length (now buffer) ≤ 255 ⌝ }
+    ensures { λ r. ⌜ r .written ≤ 4096 ⌝ }
+{
+    let refusal = reads::order(l, buffer);
+    let head_end = put_head(line, b"order", refusal);
+    let name_end = put_text(line, head_end, b" buffer");
+    let end = put_bytes(line, name_end, buffer);
+    told(line, end, l, l)
+}
+
+pub fn pair(l: Layout, line: &mut [u8]) -> Played
+    ensures { λ r. ⌜ r .written ≤ 4096 ⌝ }
+{
+    let answer = crossing::first_crossing(l);
+    let end = put_crossing(line, answer);
+    told(line, end, l, l)
+}
+
+fn put_crossing(line: &mut [u8], answer: FirstCrossing) -> usize
+    ensures { λ r. ⌜ r ≤ 100 ⌝ }
+{
+    match answer {
+        FirstCrossing::Pair(first, second) => {
+            let name_end = put_text(line, 0, b"pair 0 pair");
+            let first_end = put_edge(line, name_end, first);
+            put_edge(line, first_end, second)
+        }
+        FirstCrossing::Nothing => put_text(line, 0, b"pair 0 none"),
+        FirstCrossing::Refused(refusal) => {
+            let head_end = put_head(line, b"pair", refusal);
+            put_text(line, head_end, b" refused")
+        }
+    }
+}
+
+fn put_edge(line: &mut [u8], at: usize, edge: Edge) -> usize
+    ensures { λ r. ⌜ r ≤ at + 42 ⌝ }
+{
+    let end = put_number(line, at, edge.low as u64);
+    put_number(line, end, edge.high as u64)
+}
+
+fn filled(byte: u8) -> [u8; 255]
+    ensures { λ r. ⌜ 255 ≡ length r ⌝ }
+{
+    [byte; 255]
+}
+
+fn at_most_255(size: u64) -> usize
+    ensures { λ r. ⌜ r ≤ 255 ⌝ }
+{
+    if size < 255 { size as usize } else { 255 }
+}
