@@ -18,6 +18,15 @@ use Rattle.walk.specs.declared.Walk.{Walk}
 unfoldable pub turned : ℕ → ℕ → ℕ → ℕ
 turned n p j = cond (ltb (p + 1 + j) n) (p + 1 + j) (p + 1 + j - n)
 
+module _ (n p j : ℕ) where
+  pub turned-on : p + 1 + j < n → p + 1 + j ≡ turned n p j
+  unfolding turned
+  turned-on h = rw (lt-ltb (p + 1 + j) n h)
+
+  pub turned-round : n ≤ p + 1 + j → p + 1 + j - n ≡ turned n p j
+  unfolding turned
+  turned-round h = rw (le-ltb (p + 1 + j) n h)
+
 -- the entries after the one at place p was moved behind the one at place q, if both are places
 unfoldable pub movedPlaces : List ℕ → ℕ → ℕ → List ℕ
 movedPlaces places p q = cond (ltb p 64 && ltb q 64) (shifted places p q) places

@@ -1,6 +1,5 @@
 use borrow.Author.Needs.{needs}
-use borrow.Author.Tests.{lt-ltb, le-ltb}
-use Rattle.walk.specs.Walks.{turned}
+use Rattle.walk.specs.Walks.{turned-on, turned-round}
 use Rattle.walk.proofs.turned.Statement.{statement}
 use Rattle.walk.proofs.turned.Tie as tie
 
@@ -11,12 +10,10 @@ add-q-2 : tie.Need-add-q-2
 add-q-2 c = search needs
 
 returns : tie.Need-returns
-unfolding turned
-returns c = rw (lt-ltb _ _ (c .if1 .taken))
+returns c = turned-on _ _ _ (c .if1 .taken)
 
 returns-2 : tie.Need-returns-2
-unfolding turned
-returns-2 c = rw (le-ltb _ _ (c .if1 .left))
+returns-2 c = turned-round _ _ _ (c .if1 .left)
 
 pub turned-spec : {M : Type 1} → statement M
 turned-spec = tie.close (tie.spec add-q add-q-2 returns returns-2)

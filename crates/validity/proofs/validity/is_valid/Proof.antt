@@ -1,9 +1,11 @@
 use borrow.Author.Needs.{needs}
+use Prim.Native.Nat.{ℕ}
 use mathlib.Core.Path.{_≡_}
-use mathlib.Core.Bool.{true}
+use mathlib.Core.Bool.{Bool, true, _&&_}
+use mathlib.Core.List.{List}
 use lib.Dec.{leb}
 use Rattle.laws.specs.Sums.Indicators.{test-held, test-failed, both-left}
-use Rattle.model.specs.Layouts.{valid, vertexOrder}
+use Rattle.model.specs.Layouts.{valid, vertexOrder, symmetric, loopless, bitsBelow, zeroFrom}
 use Rattle.validity.proofs.validity.is_valid.Statement.{statement}
 use Rattle.validity.proofs.validity.is_valid.Tie as tie
 
@@ -17,16 +19,17 @@ returns c = rw (test-failed (c .before .order-valid .ensures) (c .if1 .taken))
 is-graph-requires : tie.Need-is-graph-requires
 is-graph-requires c κs = search needs
 
-abbrev start : tie.After-order-valid → tie.Start
-start c = c .before .before .before .before
+-- of what is asked of the words, the first is known already
+words : (n : ℕ) (adj : List ℕ) {r : Bool} → leb n 64 ≡ true → r ≡ (leb n 64 && symmetric n adj && loopless n adj && bitsBelow n adj && zeroFrom n adj)
+    → r ≡ (symmetric n adj && loopless n adj && bitsBelow n adj && zeroFrom n adj)
+words n adj few e = rw few at e
 
 returns-2 : tie.Need-returns-2
 unfolding valid vertexOrder
 returns-2 c =
     let checked = c .before .before in
     let ordered = test-held (checked .before .order-valid .ensures) (checked .if1 .left) in
-    let few : leb (start (checked .before) .args .l .n) 64 ≡ true = both-left _ _ (both-left _ _ ordered) in
-    rw ordered (rw few at (c .is-graph .ensures))
+    rw ordered (words _ _ (both-left _ _ (both-left _ _ ordered)) (c .is-graph .ensures))
 
 pub is-valid-spec : {M : Type 1} → statement M
 is-valid-spec = tie.close (tie.spec order-valid-requires returns is-graph-requires returns-2)
