@@ -2,8 +2,8 @@ use Prim.Native.Nat.{_+_}
 use native.Mathlib.Omega.{arith}
 use mathlib.Core.Path.{sym}
 use borrow.Author.Tests.{lt-ltb, le-ltb}
-use Rattle.text.proofs.writing.lacks.Statement.{statement}
-use Rattle.text.proofs.writing.lacks.Tie as tie
+use Rattle.text.proofs.lacks.Statement.{statement}
+use Rattle.text.proofs.lacks.Tie as tie
 
 returns : tie.Need-returns
 returns c = let s = c .before .args in sym (lt-ltb (s .size) (s .at + s .room) (omega arith))

@@ -6,8 +6,8 @@ use mathlib.Core.List.{List}
 use lib.ListN.{length, getD, take, set, length-set}
 use lib.Seq.{take-all}
 use Rattle.laws.specs.Buffers.Writing.{written, written-nothing, written-next}
-use Rattle.text.proofs.writing.copy_text.Statement.{statement}
-use Rattle.text.proofs.writing.copy_text.Tie as tie
+use Rattle.text.proofs.copy_text.Statement.{statement}
+use Rattle.text.proofs.copy_text.Tie as tie
 
 abbrev Inv-loop : tie.InvT-loop
 Inv-loop out₀ at t i₀ out i = (i ≤ length t) × (out ≡ written out₀ at (take i t)) × (length out ≡ length out₀)

@@ -3,8 +3,8 @@ use native.Mathlib.Nat.{le-refl}
 use lib.ListN.{length}
 use Rattle.text.specs.Room.{put-full, put-fits, no-room, has-room}
 use borrow.Author.Needs.{needs}
-use Rattle.text.proofs.writing.put_text.Statement.{statement}
-use Rattle.text.proofs.writing.put_text.Tie as tie
+use Rattle.text.proofs.put_text.Statement.{statement}
+use Rattle.text.proofs.put_text.Tie as tie
 
 abbrev start : tie.After-lacks → tie.Start
 start c = c .before .before .before
