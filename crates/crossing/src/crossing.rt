@@ -1,12 +1,8 @@
 // The shown crossing pair: the edges in their sequence, and a search over each two of them.
 ghost use mathlib.Core.Path.{_≡_};
-ghost use mathlib.Core.Bool.{_&&_};
-ghost use mathlib.Core.List.{[], _∷_};
 ghost use Prim.Native.Nat.{_+_, _≤_, _<_};
-ghost use lib.Dec.{eqb};
 ghost use lib.ListN.{length, take};
-ghost use Rattle.model.specs.Lists.{noRepeats};
-ghost use Rattle.model.specs.Crossings.{edges, between as betweenPlaces, alternate as alternatePlaces};
+ghost use Rattle.model.specs.Crossings.{edges};
 ghost use Rattle.model.specs.Reading.{shown, firstPair, firstCrossingOf};
 ghost use Rattle.laws.specs.Orders.Permutations.{Permutation};
 ghost use Rattle.laws.specs.Layouts.FirstCrossing.{found};
@@ -121,43 +117,8 @@ fn cross(places: &[u8], e: Edge, f: Edge) -> bool
     let b = e.high;
     let c = f.low;
     let d = f.high;
-    if differ(a, b, c, d) {
-        return alternate(places[a], places[b], places[c], places[d]);
+    if alternation::differ(a, b, c, d) {
+        return alternation::alternate(places[a], places[b], places[c], places[d]);
     }
     false
-}
-
-// Are the four vertices all different?
-fn differ(a: usize, b: usize, c: usize, d: usize) -> bool
-    ensures { λ r. ⌜ r ≡ noRepeats eqb (a ∷ b ∷ c ∷ d ∷ []) ⌝ }
-{
-    if a == b {
-        return false;
-    }
-    if a == c {
-        return false;
-    }
-    if a == d {
-        return false;
-    }
-    if b == c {
-        return false;
-    }
-    if b == d {
-        return false;
-    }
-    c != d
-}
-
-// Of places r and s, does one lie between p and q, and the other not?
-fn alternate(p: u8, q: u8, r: u8, s: u8) -> bool
-    ensures { λ b. ⌜ b ≡ alternatePlaces p q r s ⌝ }
-{
-    between(p, q, r) != between(p, q, s)
-}
-
-fn between(p: u8, q: u8, r: u8) -> bool
-    ensures { λ b. ⌜ b ≡ betweenPlaces p q r ⌝ }
-{
-    (p < r && r < q) || (q < r && r < p)
 }

@@ -2,8 +2,8 @@ use borrow.Author.Needs.{needs}
 use mathlib.Core.Path.{_≡_, refl, ap₂, _∙_}
 use mathlib.Core.Bool.{Bool, true, false, not, xor, Bool·beq}
 use Rattle.model.specs.Crossings.{between, alternate}
-use Rattle.crossing.proofs.crossing.alternate.Statement.{statement}
-use Rattle.crossing.proofs.crossing.alternate.Tie as tie
+use Rattle.alternation.proofs.alternate.Statement.{statement}
+use Rattle.alternation.proofs.alternate.Tie as tie
 
 differ-xor : (x y : Bool) → not (Bool·beq x y) ≡ xor x y
 unfolding xor

@@ -4,8 +4,8 @@ use lib.Dec.{ltb}
 use borrow.Author.Tests.{lt-ltb, le-ltb}
 use Rattle.model.specs.Crossings.{between}
 use mathlib.Core.Logic.{⊎-elim}
-use Rattle.crossing.proofs.crossing.between.Statement.{statement}
-use Rattle.crossing.proofs.crossing.between.Tie as tie
+use Rattle.alternation.proofs.between.Statement.{statement}
+use Rattle.alternation.proofs.between.Tie as tie
 
 -- r does not lie behind p and before q
 outside-first : (c : tie.Else2) → let v = c .before .before .args in (ltb (v .p) (v .r) && ltb (v .r) (v .q)) ≡ false

@@ -1,8 +1,8 @@
 use mathlib.Core.Bool.{and-true, or-false}
 use borrow.Author.Tests.{eq-eqb, ne-eqb}
 use Rattle.model.specs.Lists.{any, noRepeats}
-use Rattle.crossing.proofs.crossing.differ.Statement.{statement}
-use Rattle.crossing.proofs.crossing.differ.Tie as tie
+use Rattle.alternation.proofs.differ.Statement.{statement}
+use Rattle.alternation.proofs.differ.Tie as tie
 
 returns : tie.Need-returns
 unfolding noRepeats any
