@@ -1,7 +1,6 @@
 -- The vertex that the code chooses is the next one of the definition.
 use Prim.Native.Nat.{ℕ, zero, suc, _+_, _≤_, _<_}
-use native.Mathlib.Nat.{le-antisymm, le-refl, le-of-lt, le-of-eq, le-trans}
-use native.Mathlib.Numerals.{add-one}
+use native.Mathlib.Nat.{le-refl, le-of-lt, le-of-eq, le-trans}
 use native.Mathlib.Omega.{arith}
 use mathlib.Core.Path.{_≡_, refl, sym, ap, ap₂, _∙_}
 use mathlib.Core.Bool.{Bool, true, false, not, cond, _&&_, _||_}
@@ -10,10 +9,9 @@ use lib.ListN.{getD}
 use lib.Dec.{eqb, ltb}
 use borrow.Author.Tests.{lt-ltb}
 use Rattle.model.specs.Lists.{upto, keep, member}
-use Rattle.model.specs.Crossings.{bit}
 use Rattle.model.specs.GreedyAppend.{unplaced, degreeIn, preferred, bestOf, nextVertex}
 use Rattle.laws.specs.Sums.Lists.{keep-append}
-use Rattle.laws.specs.Sums.Bits.{maskedOnes, maskedOnes-le}
+use Rattle.laws.specs.Sums.Bits.{maskedOnes-le}
 use Rattle.laws.specs.Append.Order.{Placed}
 use Rattle.choice.specs.declared.Choice.{Choice}
 use Rattle.choice.specs.Choices.{comesBefore, preferredOf, candidate, consideredOf, noChoice, bestBelow}

@@ -34,14 +34,14 @@ unfoldable pub withAnswer : Outcome → List ℕ → ℕ → List ℕ
 withAnswer a table at = cond (leb (at + 4) (length table)) (written table at (answerNumbers a)) table
 
 module _ (a : Outcome) (table : List ℕ) (at : ℕ) where
-  pub no-room : length table < at + 4 → table ≡ withAnswer a table at
+  pub not-answered : length table < at + 4 → table ≡ withAnswer a table at
   unfolding withAnswer
-  no-room h = rw (lt-leb (at + 4) (length table) h)
+  not-answered h = rw (lt-leb (at + 4) (length table) h)
 
-  pub has-room : at + 4 ≤ length table → withAnswer a table at ≡ written table at (answerNumbers a)
+  pub is-answered : at + 4 ≤ length table → withAnswer a table at ≡ written table at (answerNumbers a)
   unfolding withAnswer
-  has-room h = rw (le-leb (at + 4) (length table) h)
+  is-answered h = rw (le-leb (at + 4) (length table) h)
 
   pub answer-put : at + 4 ≤ length table
       → set (set (set (set table at (a .refusal)) (at + 1) (a .first)) (at + 2) (a .second)) (at + 3) (a .third) ≡ withAnswer a table at
-  answer-put h = answer-written a table at h ∙ sym (has-room h)
+  answer-put h = answer-written a table at h ∙ sym (is-answered h)

@@ -7,10 +7,7 @@ use model::Outcome;
 pub fn put_answer(a: Outcome, table: &mut [u64], at: usize)
     ensures { λ _. ⌜ now (table .exit) ≡ withAnswer a (now (table .entry)) at ⌝ }
 {
-    if table.len() < 4 {
-        return;
-    }
-    if table.len() - 4 < at {
+    if text::lacks(table.len(), at, 4) {
         return;
     }
     table[at] = a.refusal as u64;

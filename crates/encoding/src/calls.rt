@@ -1,10 +1,7 @@
 // Calls written as numbers, three to a call: which call, and what it names.
 ghost use mathlib.Core.Path.{_≡_};
-ghost use mathlib.Core.Bool.{cond};
-ghost use Prim.Native.Nat.{_*_, _/_, _≤_};
-ghost use lib.Dec.{ltb};
-ghost use lib.ListN.{length, drop};
-ghost use Rattle.model.specs.Playing.{callOf, firstCall, callsOf};
+ghost use lib.ListN.{length};
+ghost use Rattle.model.specs.Playing.{callOf, callsOf};
 ghost use Rattle.encoding.specs.CallLists.{callAt};
 use model::Call;
 use model::Decoded;

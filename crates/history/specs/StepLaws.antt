@@ -1,5 +1,5 @@
 -- What an accepted call of a list gives on a valid layout: its sifts and rounds are proper ones, and its answer counts them.
-use Prim.Native.Nat.{ℕ, _+_, _*_, _≤_, _<_}
+use Prim.Native.Nat.{ℕ, _+_, _*_, _<_}
 use native.Mathlib.Omega.{arith}
 use mathlib.Core.Path.{_≡_, refl, sym, ap, _∙_, subst}
 use mathlib.Core.Bool.{Bool, true, false, cond, false≢true}
@@ -16,7 +16,7 @@ use Rattle.model.specs.Layouts.{crossingsOf, valid}
 use Rattle.model.specs.Sifting.{siftOf, siftRound, roundOf, roundsUpTo, settleOf}
 use Rattle.model.specs.Histories.{Start, empty, read, Step, Sift, Round, Follow, ended, next, outcome, ofAdded, ofChanged, ofAppended, ofSifted, ofRounded}
 use Rattle.model.specs.Histories.{ofConverged, answerOf, accepted, roundsOfStep, siftsOfStep}
-use Rattle.model.specs.Histories.{butLast, sifting, siftCalled, roundsOfCall, siftsOfRound, roundsDue, saysConverged, BestPlace}
+use Rattle.model.specs.Histories.{butLast, sifting, siftCalled, roundsOfCall, siftsOfRound, roundsDue, saysConverged}
 use Rattle.model.specs.Histories.{LocalMinimum}
 use Rattle.laws.specs.Sums.Lists.{all-mono, all-append, all-flatMap}
 use Rattle.laws.specs.Sifting.LocalSearch.{follow-flat}

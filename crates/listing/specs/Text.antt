@@ -1,11 +1,10 @@
 -- The parts of a listing, from what the calls answer.
-use Prim.Native.Nat.{ℕ, _-_, _/_, _^_, _≤_, _<_}
-use native.Mathlib.Nat.{mul-div-cancel-left}
+use Prim.Native.Nat.{ℕ, _≤_, _<_}
 use native.Mathlib.Omega.{arith}
 use mathlib.Core.Path.{_≡_, sym, ap, ap₂, subst, _∙_}
 use mathlib.Core.Bool.{Bool, true, false, cond}
 use mathlib.Core.List.{List, _++_, flatMap}
-use lib.ListN.{length, getD, take, drop, length-append}
+use lib.ListN.{length, take, drop, length-append}
 use borrow.Author.Tests.{lt-ltb, le-ltb}
 use lib.Dec.{T, ltb}
 use Rattle.model.specs.declared.Layout.{Layout}
@@ -17,10 +16,7 @@ use Rattle.model.specs.declared.ChartRead.{ChartRead}
 use Rattle.model.specs.Checks.{byRefusal}
 use Rattle.model.specs.Charts.{readOf}
 use Rattle.model.specs.Listing.{text, line, spaced, listing, listingRoom, listingOf, listedLength, listedBytes}
-use Rattle.laws.specs.Sums.Ranges.{sum}
-use Rattle.laws.specs.Sums.Bits.{maskedOnes}
 use Rattle.laws.specs.Layouts.Refusals.{by-number}
-use Rattle.laws.specs.Layouts.Validity.{sound}
 use Rattle.laws.specs.Layouts.Reordering.{CountRight}
 use Rattle.laws.specs.Buffers.Writing.{Written, written-whole}
 use Rattle.laws.specs.Sifting.Rounds.{settling}

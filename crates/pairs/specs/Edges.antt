@@ -124,12 +124,6 @@ module _ {n : ℕ} {s : List ℕ} where
   unfolding every
   ends-end {i} r h = r .rest ∙ ap (every (edgeWithin n)) (edges-last s i h)
 
-  -- where all pass, so does the next
-  pub ends-known : {i : ℕ} → EndsUpTo n s i → i + 1 < length s → every (edgeWithin n) (edgesIn s) ≡ true → edgeWithin n
-      (edge (getD s i 0) (getD s (i + 1) 0)) ≡ true
-  ends-known {i} r h e = both-left (edgeWithin n (edge (getD s i 0) (getD s (i + 1) 0))) (every (edgeWithin n) (edgesIn (drop (i + 2) s)))
-      (sym (ends-split r h) ∙ e)
-
 module _ (n : ℕ) (s : List ℕ) where
   pub answer-odd : (length s % 2 ≡ 0 → ⊥) → asked (asks.Refused 5) ≡ answer (endChecks n s) []
   unfolding endChecks answer checked byRefusal refusal asked

@@ -12,7 +12,7 @@ use Rattle.model.specs.declared.Decoded.the-variants as decoded
 use Rattle.model.specs.Histories.{answerOf, steps, played}
 use Rattle.model.specs.Playing.{callsOf, answerNumbers, answersOf}
 use Rattle.laws.specs.Buffers.Writing.{written, Written, written-none, written-nothing, written-step, written-whole}
-use Rattle.encoding.specs.Answers.{withAnswer, has-room}
+use Rattle.encoding.specs.Answers.{withAnswer, is-answered}
 use Rattle.encoding.specs.CallLists.{callAt, callThere, there-next, there-end, next-call, there-size}
 
 -- ---- calls behind calls
@@ -46,7 +46,7 @@ module _ (s : List ℕ) (i : ℕ) (l : Layout) (table : List ℕ) where
       let one = there-next s i e in (
         ap (λ (x : Outcome). x .layout) q ∙ ap (played l) (sym one),
         w
-            ∙ has-room a table (4 * i) room
+            ∙ is-answered a table (4 * i) room
             ∙ ap (λ (x : Outcome). written table (4 * i) (answerNumbers x)) q
             ∙ ap (λ (cs : List Call). written table (4 * i) (answersOf l cs)) (sym one),
       )

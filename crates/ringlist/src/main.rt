@@ -1,8 +1,6 @@
 // Reads a chart on standard input, settles it and lists it. At most 8,193 bytes are read, the last
 // only to tell that the chart is too long. Where reading or writing fails, one line on standard
 // error says so.
-ghost use mathlib.Core.Path.{_≡_};
-ghost use Prim.Native.Nat.{_≤_};
 ghost use lib.ListN.{length};
 ghost use Rattle.ringlist.specs.Input.{Within};
 use libc::STDERR_FILENO;

@@ -3,7 +3,7 @@ use Prim.Native.Nat.{ℕ, zero, suc, _+_, _-_, _≤_, _<_, suc-le-suc}
 use native.Mathlib.Nat.{le-antisymm}
 use native.Mathlib.Numerals.{add-one}
 use native.Mathlib.Omega.{arith}
-use mathlib.Core.Path.{_≡_, refl, sym, ap, ap₂, _∙_}
+use mathlib.Core.Path.{_≡_, ap, ap₂, _∙_}
 use mathlib.Core.Bool.{Bool, true, false, cond, _&&_}
 use mathlib.Core.List.{List, [], _∷_}
 use lib.ListN.{length, take}
@@ -57,20 +57,20 @@ walkTo n places adj u (suc j) =
 -- ---- the loop
 
 -- the best of the present order and the first j candidates
-pub record BestUpTo (n : ℕ) (places adj : List ℕ) (u : ℕ) (best : Walk) (j : ℕ) : Type 0 where
+pub record TriedUpTo (n : ℕ) (places adj : List ℕ) (u : ℕ) (best : Walk) (j : ℕ) : Type 0 where
   pub inside : j ≤ n - 1
   pub found : best ≡ walkTo n places adj u j
 
 module _ {n : ℕ} {places adj : List ℕ} {u : ℕ} where
-  pub best-start : {count : ℕ} → count ≡ counted n places adj → BestUpTo n places adj u (record { order = places; before = count; after = count }) 0
+  pub tried-start : {count : ℕ} → count ≡ counted n places adj → TriedUpTo n places adj u (record { order = places; before = count; after = count }) 0
   unfolding walkTo
-  best-start e = record { inside = omega arith; found = ap (λ (x : ℕ). record { order = places; before = x; after = x }) e }
+  tried-start e = record { inside = omega arith; found = ap (λ (x : ℕ). record { order = places; before = x; after = x }) e }
 
-  pub best-next : {best next : Walk} {j p q : ℕ} {xs : List ℕ} → BestUpTo n places adj u best j → j + 1 < n
+  pub tried-next : {best next : Walk} {j p q : ℕ} {xs : List ℕ} → TriedUpTo n places adj u best j → j + 1 < n
       → p ≡ place (take n places) u → q ≡ turned n p j → xs ≡ movedPlaces places p q → next ≡ better best xs (counted n xs adj)
-      → BestUpTo n places adj u next (j + 1)
+      → TriedUpTo n places adj u next (j + 1)
   unfolding walkTo candidateArray
-  best-next {best} {next} {j} {p} {q} {xs} b h here there x e =
+  tried-next {best} {next} {j} {p} {q} {xs} b h here there x e =
       rw (add-one j)
       (record {
         inside = omega arith;
@@ -81,8 +81,8 @@ module _ {n : ℕ} {places adj : List ℕ} {u : ℕ} where
             (x ∙ ap₂ (movedPlaces places) here (there ∙ ap (λ (k : ℕ). turned n k j) here));
       })
 
-  pub best-end : {best : Walk} {j : ℕ} → BestUpTo n places adj u best j → n ≤ j + 1 → best ≡ walkTo n places adj u (n - 1)
-  best-end {best} {j} b h = b .found ∙ ap (walkTo n places adj u) (le-antisymm (b .inside) (omega arith))
+  pub tried-end : {best : Walk} {j : ℕ} → TriedUpTo n places adj u best j → n ≤ j + 1 → best ≡ walkTo n places adj u (n - 1)
+  tried-end {best} {j} b h = b .found ∙ ap (walkTo n places adj u) (le-antisymm (b .inside) (omega arith))
 
 -- a vertex that has no place stands behind the last
 pub place-most : (xs : List ℕ) (v : ℕ) → place xs v ≤ length xs

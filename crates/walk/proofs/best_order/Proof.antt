@@ -5,14 +5,13 @@ use mathlib.Core.Path.{_≡_, sym}
 use lib.ListN.{length, take}
 use lib.Seq.{length-take-le}
 use borrow.Author.Tests.{le-leb, lt-leb}
-use Rattle.model.specs.Lists.{place}
 use Rattle.laws.specs.Layouts.Recount.{counted}
-use Rattle.walk.specs.Walks.{movedPlaces, walkTo, BestUpTo, best-start, best-next, best-end, place-most}
+use Rattle.walk.specs.Walks.{movedPlaces, TriedUpTo, tried-start, tried-next, tried-end, place-most}
 use Rattle.walk.proofs.best_order.Statement.{statement}
 use Rattle.walk.proofs.best_order.Tie as tie
 
 abbrev Inv-loop : tie.InvT-loop
-Inv-loop n adjacency u order before best₀ p j₀ best j = BestUpTo n order adjacency u best j
+Inv-loop n adjacency u order before best₀ p j₀ best j = TriedUpTo n order adjacency u best j
 
 abbrev μ-loop : tie.MeasureT-loop
 μ-loop n adjacency u order before best₀ p j₀ best j = n - j
@@ -36,7 +35,7 @@ count-crossings-requires c κs = tt
 
 returns : tie.Need-returns Inv-loop μ-loop
 unfolding counted
-returns c = rw (lt-leb _ 64 (c .if1 .taken)) (best-start (c .before .count-crossings .ensures) .found)
+returns c = rw (lt-leb _ 64 (c .if1 .taken)) (tried-start (c .before .count-crossings .ensures) .found)
 
 array-share-prefix-order : tie.Need-array-share-prefix-order Inv-loop μ-loop
 array-share-prefix-order c = inside c
@@ -49,7 +48,7 @@ place-of-requires c κs = tt
 
 loop-holds : tie.Need-loop-holds Inv-loop μ-loop
 unfolding counted
-loop-holds c = best-start (small c .before .count-crossings .ensures)
+loop-holds c = tried-start (small c .before .count-crossings .ensures)
 
 add-loop : tie.Need-add-loop Inv-loop μ-loop
 add-loop c = omega (arith, c .loop .inv .inside, small (c .before) .if1 .left)
@@ -83,11 +82,11 @@ unfolding movedPlaces
 loop-again c =
     let made = c .before in
     let at = turn c in
-    best-next (at .before .loop .inv) (at .loop-test .taken) (at .before .before .place-of .ensures) (made .before .turned .ensures) (made .moved .ensures)
+    tried-next (at .before .loop .inv) (at .loop-test .taken) (at .before .before .place-of .ensures) (made .before .turned .ensures) (made .moved .ensures)
     (c .tried .ensures)
 
 returns-2 : tie.Need-returns-2 Inv-loop μ-loop
-returns-2 c = rw (le-leb _ 64 (small (c .before .before) .if1 .left)) (best-end (c .before .loop .inv) (c .loop-test .left))
+returns-2 c = rw (le-leb _ 64 (small (c .before .before) .if1 .left)) (tried-end (c .before .loop .inv) (c .loop-test .left))
 
 pub best-order-spec : {M : Type 1} → statement M
 best-order-spec =

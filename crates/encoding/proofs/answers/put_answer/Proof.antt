@@ -1,70 +1,70 @@
 use native.Mathlib.Omega.{arith}
-use lib.ListN.{length-set}
-use Rattle.encoding.specs.Answers.{no-room, answer-put}
+use Prim.Native.Nat.{_+_, _≤_}
+use lib.ListN.{length, length-set}
+use Rattle.encoding.specs.Answers.{not-answered, answer-put}
 use borrow.Author.Needs.{needs}
+use Rattle.text.specs.Room.{no-room, has-room}
 use Rattle.encoding.proofs.answers.put_answer.Statement.{statement}
 use Rattle.encoding.proofs.answers.put_answer.Tie as tie
 
+lacks-requires : tie.Need-lacks-requires
+lacks-requires c κs = search needs
+
 returns : tie.Need-returns
-returns c = no-room _ _ _ (omega (arith, c .if1 .taken))
+returns c = not-answered _ _ _ (no-room (c .before .lacks .ensures) (c .if1 .taken))
 
-sub-if2 : tie.Need-sub-if2
-sub-if2 c = search needs
-
-returns-2 : tie.Need-returns-2
-returns-2 c = no-room _ _ _ (omega (arith, c .before .if1 .left, c .if2 .taken))
+-- there are four places
+room : (c : tie.Else1) → let s = c .before .before .before .args in s .at + 4 ≤ length (s .table .now)
+room c = has-room (c .before .lacks .ensures) (c .if1 .left)
 
 cast-table : tie.Need-cast-table
 cast-table c = search needs
 
 mul-table : tie.Need-mul-table
-mul-table c = search needs
+mul-table c = omega (arith, room (c .before))
 
 slice-write-table : tie.Need-slice-write-table
-slice-write-table c = search needs
+slice-write-table c = omega (arith, room (c .before))
 
 add-table : tie.Need-add-table
-add-table c = search needs
+add-table c = omega (arith, room (c .before))
 
 mul-table-2 : tie.Need-mul-table-2
-mul-table-2 c = search needs
+mul-table-2 c = omega (arith, room (c .before))
 
 slice-write-table-2 : tie.Need-slice-write-table-2
-slice-write-table-2 c = simp length-set (omega arith)
+slice-write-table-2 c = simp length-set (omega (arith, room (c .before)))
 
 add-table-2 : tie.Need-add-table-2
-add-table-2 c = search needs
+add-table-2 c = omega (arith, room (c .before))
 
 mul-table-3 : tie.Need-mul-table-3
-mul-table-3 c = search needs
+mul-table-3 c = omega (arith, room (c .before))
 
 slice-write-table-3 : tie.Need-slice-write-table-3
-slice-write-table-3 c = simp length-set (omega arith)
+slice-write-table-3 c = simp length-set (omega (arith, room (c .before)))
 
 add-table-3 : tie.Need-add-table-3
-add-table-3 c = search needs
+add-table-3 c = omega (arith, room (c .before))
 
 mul-table-4 : tie.Need-mul-table-4
-mul-table-4 c = search needs
+mul-table-4 c = omega (arith, room (c .before))
 
 slice-write-table-4 : tie.Need-slice-write-table-4
-slice-write-table-4 c = simp length-set (omega arith)
+slice-write-table-4 c = simp length-set (omega (arith, room (c .before)))
 
 same-length : tie.Need-same-length
 same-length c = search needs
 
-returns-3 : tie.Need-returns-3
-returns-3 c =
-    let room = c .before in
-    answer-put _ _ _ (omega (arith, room .before .if1 .left, room .if2 .left))
+returns-2 : tie.Need-returns-2
+returns-2 c = answer-put _ _ _ (room (c .before))
 
 pub put-answer-spec : {M : Type 1} → statement M
 put-answer-spec =
     tie.close
     (tie.spec
+    lacks-requires
     returns
-    sub-if2
-    returns-2
     cast-table
     mul-table
     slice-write-table
@@ -78,4 +78,4 @@ put-answer-spec =
     mul-table-4
     slice-write-table-4
     same-length
-    returns-3)
+    returns-2)

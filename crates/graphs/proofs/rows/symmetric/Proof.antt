@@ -1,4 +1,4 @@
-use Prim.Native.Nat.{_-_, _<_}
+use Prim.Native.Nat.{_-_}
 use native.Mathlib.Omega.{arith}
 use mathlib.Core.Path.{sym, _∙_}
 use Rattle.graphs.specs.Rows.{PassedUpTo, passed-none, passed-next, passed-all, failed-at, symmetricRow, symmetric-rows}
