@@ -9,6 +9,7 @@ pub mod Reading
 pub mod GreedyAppend
 pub mod Sifting
 pub mod Charts
+pub mod WrittenCharts
 pub mod Reports
 pub mod Histories
 pub mod Playing

@@ -87,6 +87,13 @@ pub struct ChartRead {
     pub layout: Layout,
 }
 
+// Writing a chart into a lent buffer: how many bytes the chart has, 0 where it is refused.
+#[repr(C)]
+pub struct ChartWritten {
+    pub refusal: u8,
+    pub length: usize,
+}
+
 // What the passes of the chart reader answer. specs/Charts.antt says for each case which number and
 // values of document 01 it stands for.
 

@@ -1,0 +1,2 @@
+-- Charts written and read back.
+pub mod RoundTrip

@@ -1,0 +1,1 @@
+-- Charts written and read back.

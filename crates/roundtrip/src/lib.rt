@@ -1,0 +1,1 @@
+// No code: specs/ has what a chart that was written gives when it is read.
