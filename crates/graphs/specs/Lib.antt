@@ -1,3 +1,2 @@
--- Rows: the passes that ask whether the words are those of a graph. EdgeTotals: how many edges there are.
+-- Rows: the passes that ask whether the words are those of a graph.
 pub mod Rows
-pub mod EdgeTotals

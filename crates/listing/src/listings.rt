@@ -44,7 +44,7 @@ fn list_layout(l: Layout, out: &mut [u8]) -> usize
     let after = settled.layout;
     let numbers = Numbers {
         vertices: n as u32,
-        edges: graphs::edge_count(n, &adjacency),
+        edges: edge_list::edge_count(n, &adjacency),
         before: l.count,
         after: after.count,
         rounds: settled.rounds,

@@ -3,11 +3,11 @@ use Prim.Native.Nat.{ℕ, _+_, _≤_, _<_}
 use native.Mathlib.Omega.{arith}
 use mathlib.Core.Path.{_≡_, refl, sym, _∙_}
 use mathlib.Core.Bool.{Bool, true, false}
-use mathlib.Core.List.{List, _++_}
+use mathlib.Core.List.{List, [], _++_}
 use lib.ListN.{length}
 use lib.Dec.{ltb}
 use borrow.Author.Tests.{ltb-true, ltb-false}
-use Rattle.laws.specs.Buffers.Writing.{Written, written-size}
+use Rattle.laws.specs.Buffers.Writing.{Written, written-none, written-size}
 use Rattle.text.specs.Parts.{behind}
 
 -- the text t, from place at on, if the buffer start has room places there; r is the place behind what was written
@@ -15,6 +15,11 @@ pub record Put (room : ℕ) (start : List ℕ) (at : ℕ) (t bytes : List ℕ) (
   pub fits : at + room ≤ length start → Written start at t bytes r
   pub full : length start < at + room → (bytes ≡ start) × (r ≡ at)
   pub bound : r ≤ at + room
+
+module _ {start : List ℕ} {at : ℕ} where
+  -- nothing to write
+  pub put-nothing : Put 0 start at [] start at
+  put-nothing = record { fits = λ l. written-none start at; full = λ l. (refl, refl); bound = omega arith }
 
 module _ {room : ℕ} {start : List ℕ} {at : ℕ} where
   pub put-full : (t : List ℕ) → length start < at + room → Put room start at t start at

@@ -1,12 +1,12 @@
 use borrow.Author.Needs.{needs}
 use Prim.Native.Nat.{_≤_}
 use native.Mathlib.Omega.{arith}
-use mathlib.Core.Path.{_≡_, sym}
+use mathlib.Core.Path.{_≡_, sym, ap, _∙_}
 use lib.ListN.{length}
 use lib.Seq.{length-take-le}
 use Rattle.laws.specs.Layouts.Validity.{sound}
 use Rattle.text.specs.Room.{put-behind}
-use Rattle.graphs.specs.EdgeTotals.{edges-halved}
+use Rattle.edge_list.specs.Rows.{listed-few}
 use Rattle.listing.specs.Text.{listing-written}
 use Rattle.listing.proofs.listings.list_layout.Statement.{statement}
 use Rattle.listing.proofs.listings.list_layout.Tie as tie
@@ -75,7 +75,7 @@ returns c =
     let held = counted .put-numbers .ensures in
     let told = written .put-settled .ensures in
     let order = length-take-le (s .args .l .n) (at .converge .result .layout .order) (inside at) in
-    let links = edges-halved _ (few s) (sound (s .args .l) (s .pre .0) .symmetry) (linked .edge-count .ensures) in
+    let links = linked .edge-count .ensures ∙ ap length (listed-few _ _ (few s)) in
     let stated = put-behind (held .fits (omega (arith, room))) told (omega (arith, room, held .bound)) in
     listing-written (s .args .l) (s .pre .0) (s .pre .1) (at .converge .ensures) links
     (put-behind stated (end .put-order-line .ensures) (omega (arith, room, order, few s, held .bound, told .bound)))
