@@ -33,7 +33,7 @@ read-number : (s : List ℕ) → readOf s .refusal ≡ refusal (chartChecks s)
 unfolding readOf refusedRead
 read-number s = checked-number (chartChecks s) (readAnswer s) refusedRead (λ (r : ChartRead). r .refusal) refl (λ r. refl)
 
-read-is : (s : List ℕ) → readOf s .refusal ≡ 0 → readOf s ≡ readAnswer s
+pub read-is : (s : List ℕ) → readOf s .refusal ≡ 0 → readOf s ≡ readAnswer s
 unfolding readOf refusedRead
 read-is s e = when-accepted (chartChecks s) (readAnswer s) refusedRead (sym (read-number s) ∙ e)
 
@@ -92,7 +92,7 @@ sameEdge-swap : (e f : Edge) → sameEdge e f ≡ sameEdge f e
 unfolding sameEdge
 sameEdge-swap e f = ap₂ (λ (x y : Bool). x && y) (eqb-swap (e .low) (f .low)) (eqb-swap (e .high) (f .high))
 
-joins-member : (u v : ℕ) (es : List Edge) → any (joins u v) es ≡ any (sameEdge (edge u v)) es
+pub joins-member : (u v : ℕ) (es : List Edge) → any (joins u v) es ≡ any (sameEdge (edge u v)) es
 unfolding any joins edge
 joins-member u v [] = refl
 joins-member u v (e ∷ es) = ap₂ (λ (x y : Bool). x || y) (sameEdge-swap e (edge u v)) (joins-member u v es)

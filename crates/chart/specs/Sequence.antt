@@ -47,7 +47,7 @@ self-same : (e : Edge) → sameEdge e e ≡ true
 unfolding sameEdge
 self-same e = rw (eq-eqb (e .low) (e .low) refl, eq-eqb (e .high) (e .high) refl)
 
-written-any : (e : Edge) (es : List Edge) → any (sameEdge e) es ≡ ltb 0 (written e es)
+pub written-any : (e : Edge) (es : List Edge) → any (sameEdge e) es ≡ ltb 0 (written e es)
 unfolding any written sumOver one
 written-any e [] = refl
 written-any e (x ∷ xs) = by-test (sameEdge e x) (written-any e xs)
@@ -95,7 +95,7 @@ few (x ∷ xs) n e = by-test (sameEdge e x) refl (few xs (both-right (not (any (
     by-test true same l = omega (arith, ap (λ (f : Edge). written f xs) (ends-same e x same) ∙ new)
     by-test false same l = omega arith
 
-few-once : (es : List Edge) → ((e : Edge) → written e es ≤ 1) → noRepeats sameEdge es ≡ true
+pub few-once : (es : List Edge) → ((e : Edge) → written e es ≤ 1) → noRepeats sameEdge es ≡ true
 unfolding noRepeats written sumOver one
 few-once [] h = refl
 few-once (x ∷ xs) h =

@@ -1,2 +1,4 @@
 -- Charts written and read back.
+pub mod Fields
+pub mod EdgeLists
 pub mod RoundTrip
