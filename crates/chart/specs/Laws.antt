@@ -29,7 +29,7 @@ use Rattle.chart.specs.Reading.{layoutFrom, Accepted, valid-read, count-
 abbrev pub readAnswer : List ℕ → ChartRead
 readAnswer s = record { refusal = 0; layout = chartLayout s }
 
-read-number : (s : List ℕ) → readOf s .refusal ≡ refusal (chartChecks s)
+pub read-number : (s : List ℕ) → readOf s .refusal ≡ refusal (chartChecks s)
 unfolding readOf refusedRead
 read-number s = checked-number (chartChecks s) (readAnswer s) refusedRead (λ (r : ChartRead). r .refusal) refl (λ r. refl)
 

@@ -1,4 +1,5 @@
 -- Charts written and read back.
 pub mod Fields
 pub mod EdgeLists
+pub mod Listings
 pub mod RoundTrip

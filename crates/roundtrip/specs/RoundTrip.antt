@@ -1,1 +1,123 @@
--- Charts written and read back.
+-- Charts written and read back (document 02, Note 1).
+use Prim.Native.Nat.{ℕ, _+_, _*_, _≤_, _<_}
+use native.Mathlib.Decide.{decLt}
+use native.Mathlib.Omega.{arith}
+use mathlib.Core.Path.{_≡_, refl, sym, ap, ap₂, _∙_}
+use mathlib.Core.List.{List, flatMap, append-assoc, append-nil}
+use mathlib.Core.Bool.{Bool}
+use lib.ListN.{length, getD, take, length-take, List·getD-eq-default}
+use lib.Seq.{ext-getD, getD-take}
+use lib.Dec.{T}
+use Rattle.model.specs.declared.Edge.{Edge}
+use Rattle.model.specs.declared.Layout.{Layout}
+use Rattle.model.specs.declared.ChartRead.{ChartRead}
+use Rattle.model.specs.Lists.{any}
+use Rattle.model.specs.Crossings.{edges, crossings}
+use Rattle.model.specs.Layouts.{vertexOrder, crossingsOf, valid}
+use Rattle.model.specs.Checks.{refusal}
+use Rattle.model.specs.Charts.{bodyOf, chartSize, chartEdges, chartOrder, sameEdge, chartChecks, readOf}
+use Rattle.model.specs.WrittenCharts.{chartOf, withTrueCount}
+use Rattle.laws.specs.Layouts.Sizes.{Sized}
+use Rattle.laws.specs.Layouts.Validity.{Sound, sound}
+use Rattle.bodies.specs.Words.{adjacencyOf}
+use Rattle.chart.specs.Padded.{padded, padded-length, padded-at}
+use Rattle.chart.specs.Laws.{read-valid, read-sized, same-charts}
+use Rattle.chart.specs.Sequence.{Rewritten, rewriting-free}
+use Rattle.roundtrip.specs.Fields.{allBytes}
+use Rattle.roundtrip.specs.EdgeLists.{edges-few, edges-within, edges-once, edges-words}
+use Rattle.roundtrip.specs.Listings.{chartWith, Proper, chart-length, chart-read}
+
+-- ---- what is written, as a listing
+
+-- the chart of a layout lists all its edges
+all-listed : (l : Layout) → chartOf l ≡ chartWith (l .n) (edges (l .n) (l .adjacency)) (vertexOrder l)
+unfolding chartOf chartWith allBytes flatMap
+all-listed l = simp (append-assoc, append-nil)
+
+-- a list that is 0 from place n on is its first n entries, filled up with 0
+padded-again : (n : ℕ) (o : List ℕ) → length o ≡ 64 → ((i : ℕ) → n ≤ i → i < 64 → getD o i 0 ≡ 0) → padded (take n o) ≡ o
+padded-again n o long zeros =
+    ext-getD 0 (padded (take n o)) o (padded-length (take n o) ∙ sym long)
+    (λ i l. (let below : i < 64 = omega (arith, padded-length (take n o)) in padded-at (take n o) i below ∙ at-place i below))
+  where
+    at-place : (i : ℕ) → i < 64 → getD (take n o) i 0 ≡ getD o i 0
+    at-place i below =
+        elim (decLt i n) [
+          | yes l ↦ getD-take n o i 0 l
+          | no l ↦ List·getD-eq-default (take n o) 0 (omega (arith, length-take n o)) ∙ sym (zeros i (omega arith) below)
+        ]
+
+-- ---- the length
+
+module _ (l : Layout) (t : T (valid l)) where
+  proper : Proper (l .n) (edges (l .n) (l .adjacency)) (vertexOrder l)
+  proper =
+      record {
+        few = sound l t .small;
+        fewEdges = edges-few (l .n) (l .adjacency) (sound l t .small);
+        within = edges-within (l .n) (l .adjacency);
+        once = edges-once (l .n) (l .adjacency);
+        permutation = sound l t .permutation;
+      }
+
+  pub written-size : length (chartOf l) ≡ 10 + 2 * length (edges (l .n) (l .adjacency)) + l .n
+  written-size =
+      ap length (all-listed l)
+      ∙ chart-length (l .n) (edges (l .n) (l .adjacency)) (vertexOrder l)
+      ∙ ap (λ (k : ℕ). 10 + 2 * length (edges (l .n) (l .adjacency)) + k) (proper .permutation .size)
+
+  -- "the written chart is at most 4,106 bytes"
+  pub written-length : length (chartOf l) ≤ 4106
+  written-length = omega (arith, written-size, proper .few, proper .fewEdges)
+
+-- ---- read back
+
+-- "Reading a written chart gives the ring with its true count."
+pub written-read : (l : Layout) → Sized l → T (valid l) → readOf (chartOf l) ≡ record { refusal = 0; layout = withTrueCount l }
+unfolding withTrueCount crossingsOf vertexOrder
+written-read l s t =
+    ap readOf (all-listed l)
+    ∙ chart-read (l .n) (edges (l .n) (l .adjacency)) (vertexOrder l) (proper l t)
+    ∙ ap₂ (λ (o adj : List ℕ). record { refusal = 0; layout = record { n = l .n; order = o; adjacency = adj; count = crossings (l .n) (vertexOrder l) adj } })
+    (padded-again (l .n) (l .order) (s .places) (sound l t .places))
+    (edges-words (l .n) (l .adjacency) (sound l t .symmetry) (sound l t .bits) (sound l t .unused) (sound l t .small) (s .words))
+
+-- a count that is true already stays
+count-kept : (l : Layout) → l .count ≡ crossingsOf l → withTrueCount l ≡ l
+unfolding withTrueCount
+count-kept l e = ap (λ (c : ℕ). record { n = l .n; order = l .order; adjacency = l .adjacency; count = c }) (sym e)
+
+-- an accepted chart, written and read again, gives the same layout with the same count
+pub read-again : (s : List ℕ) → readOf s .refusal ≡ 0 → readOf (chartOf (readOf s .layout)) ≡ readOf s
+read-again s e =
+    let read = read-valid s e in
+    written-read (readOf s .layout) (read-sized s) (read .0)
+    ∙ ap₂ (λ (r : ℕ) (l : Layout). record { refusal = r; layout = l }) (sym e) (count-kept (readOf s .layout) (read .1))
+
+-- the count is not written
+count-unwritten : (l : Layout) → chartOf (withTrueCount l) ≡ chartOf l
+unfolding chartOf withTrueCount vertexOrder
+count-unwritten l = refl
+
+-- a written chart, read and written again, gives the same bytes
+pub written-again : (l : Layout) → Sized l → T (valid l) → chartOf (readOf (chartOf l) .layout) ≡ chartOf l
+written-again l s t = ap (λ (r : ChartRead). chartOf (r .layout)) (written-read l s t) ∙ count-unwritten l
+
+-- the bytes tell the layout, but for the count that it carries
+pub written-tells : (l m : Layout) → Sized l → T (valid l) → Sized m → T (valid m) → chartOf l ≡ chartOf m → withTrueCount l ≡ withTrueCount m
+written-tells l m s t r u e =
+    ap (λ (x : ChartRead). x .layout) (sym (written-read l s t) ∙ ap readOf e ∙ written-read m r u)
+
+-- ---- "Two charts of the same ring, however their links were listed, give the same written bytes."
+
+pub same-written : (l m : Layout) → withTrueCount l ≡ withTrueCount m → chartOf l ≡ chartOf m
+same-written l m e = sym (count-unwritten l) ∙ ap chartOf e ∙ count-unwritten m
+
+pub listed-anyhow : (s t : List ℕ) → readOf s .refusal ≡ 0 → readOf t .refusal ≡ 0 → chartSize s ≡ chartSize t → chartOrder s ≡ chartOrder t
+    → ((e : Edge) → any (sameEdge e) (chartEdges s) ≡ any (sameEdge e) (chartEdges t)) → chartOf (readOf s .layout) ≡ chartOf (readOf t .layout)
+listed-anyhow s t p q sizes orders links = ap (λ (r : ChartRead). chartOf (r .layout)) (same-charts s t p q sizes orders links)
+
+pub rewritten-written : (s t : List ℕ) → refusal (take 3 (chartChecks s)) ≡ 0 → refusal (take 3 (chartChecks t)) ≡ 0
+    → bodyOf s 0 ≡ bodyOf t 0 → Rewritten (bodyOf s 1) (bodyOf t 1) → bodyOf s 2 ≡ bodyOf t 2
+    → chartOf (readOf s .layout) ≡ chartOf (readOf t .layout)
+rewritten-written s t p q sizes links orders = ap (λ (r : ChartRead). chartOf (r .layout)) (rewriting-free s t p q sizes links orders)
