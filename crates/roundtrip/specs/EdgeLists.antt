@@ -1,24 +1,23 @@
 -- The list of all edges of a graph: each edge is in it once, the words of its edges are the graph's, and its bytes are read as it.
-use Prim.Native.Nat.{ℕ, zero, suc, _+_, _*_, _^_, _≤_, _<_, min, max}
+use Prim.Native.Nat.{ℕ, _*_, _^_, _≤_, _<_, min, max}
 use native.Mathlib.Nat.{zero-mul, one-mul, mul-one, lt-trans, lt-of-lt-of-le, le-of-lt, min-eq-left, min-eq-right, max-eq-left, max-eq-right}
 use native.Mathlib.Decide.{decLt}
 use native.Mathlib.Omega.{arith}
-use mathlib.Core.Path.{_≡_, refl, sym, ap, ap₂, _∙_, subst}
+use mathlib.Core.Path.{_≡_, refl, sym, ap, ap₂, _∙_}
 use mathlib.Core.Bool.{Bool, true, false, not, _&&_}
-use mathlib.Core.List.{List, [], _∷_, _++_, map, flatMap}
+use mathlib.Core.List.{List, [], _∷_, map, flatMap}
 use lib.ListN.{length, getD}
 use lib.Dec.{eqb, ltb}
 use lib.Pow.{pow-mono}
-use borrow.Author.Tests.{lt-ltb, le-ltb, ltb-true, eq-eqb, ne-eqb}
+use borrow.Author.Tests.{lt-ltb, ltb-true, eq-eqb, ne-eqb}
 use Rattle.model.specs.declared.Edge.{Edge}
-use Rattle.model.specs.Lists.{one, upto, every, any, keep, sumOver, noRepeats}
+use Rattle.model.specs.Lists.{one, upto, any, keep, noRepeats}
 use Rattle.model.specs.Crossings.{bit, linked, edges}
-use Rattle.model.specs.Charts.{edgesIn, sameEdge, edgeWithin, joins}
+use Rattle.model.specs.Charts.{edgesIn, sameEdge, edgeWithin}
 use Rattle.model.specs.WrittenCharts.{edgeBytes}
 use Rattle.laws.specs.Sums.Indicators.{Order, less, same, more, order, one-and, one-le, one-lt, one-ge, one-ne, both-left, both-right}
 use Rattle.laws.specs.Sums.Ranges.{sum, sum-ext, sum-zero, sum-const, sum-at}
-use Rattle.laws.specs.Sums.Lists.{All, none, also, sumOver-places, all-mono, all-upto, all-kept, all-map, all-flatMap}
-use Rattle.laws.specs.Sums.Every.{every-all, all-every}
+use Rattle.laws.specs.Sums.Lists.{All, none, also, sumOver-places, all-upto, all-kept, all-map, all-flatMap}
 use Rattle.laws.specs.Sums.Pairs.{pairSum, pairSum-ext, Symmetric}
 use Rattle.laws.specs.Sums.Bits.{bit-beyond}
 use Rattle.laws.specs.Crossings.Bound.{pairSum-mono}
@@ -29,6 +28,16 @@ use Rattle.bodies.specs.Words.{adjacencyOf, adjacency-ext}
 use Rattle.chart.specs.Laws.{joins-member}
 use Rattle.chart.specs.Sequence.{written, written-any, few-once}
 
+-- the ends of an edge that passes question 6
+module _ (n : ℕ) (e : Edge) (h : edgeWithin n e ≡ true) where
+  pub edge-rises : e .low < e .high
+  unfolding edgeWithin
+  edge-rises = ltb-true (e .low) (e .high) (both-left (ltb (e .low) (e .high)) (ltb (e .high) n) h)
+
+  pub edge-below : e .high < n
+  unfolding edgeWithin
+  edge-below = ltb-true (e .high) n (both-right (ltb (e .low) (e .high)) (ltb (e .high) n) h)
+
 -- ---- the bytes of some edges
 
 -- two bytes for each
@@ -36,6 +45,11 @@ pub edge-bytes-length : (es : List Edge) → length (edgeBytes es) ≡ 2 * lengt
 unfolding edgeBytes flatMap
 edge-bytes-length [] = refl
 edge-bytes-length (e ∷ es) = omega (arith, edge-bytes-length es)
+
+-- what the ends have, the bytes have
+pub edge-bytes-all : {P : ℕ → Type 0} {es : List Edge} → All (λ e. P (e .low) × P (e .high)) es → All P (edgeBytes es)
+unfolding edgeBytes
+edge-bytes-all ps = all-flatMap (λ e. e .low ∷ e .high ∷ []) ps (λ e p. also (p .0) (also (p .1) none))
 
 -- edges with the lower end first are read as they were written
 pub edge-bytes-read : {es : List Edge} → All (λ e. e .low ≤ e .high) es → edgesIn (edgeBytes es) ≡ es
@@ -64,7 +78,7 @@ pairSum-if-there : (n : ℕ) (e : Edge) (F : ℕ → ℕ → ℕ)
     → pairSum n (λ a b. F a b * one (sameEdge e (rising a b))) ≡ one (edgeWithin n e) * F (e .low) (e .high)
 unfolding pairSum sameEdge edgeWithin
 pairSum-if-there n e F =
-    sum-ext n (λ i. sum n (λ j. one (ltb i j) * (F i j * one (sameEdge e (rising i j))))) (λ i. one (eqb a i) * (one (ltb b n) * (one (ltb i b) * F i b))) (λ i l. inner i)
+    sum-ext n (λ i. sum n (term i)) (λ i. one (eqb a i) * (one (ltb b n) * (one (ltb i b) * F i b))) (λ i l. inner i)
     ∙ sum-if-there n a (λ i. one (ltb b n) * (one (ltb i b) * F i b))
     ∙ rw (one-and (ltb a b) (ltb b n)) (ends (F a b))
   where
@@ -74,9 +88,12 @@ pairSum-if-there n e F =
     b : ℕ
     b = e .high
 
-    inner : (i : ℕ) → sum n (λ j. one (ltb i j) * (F i j * one (sameEdge e (rising i j)))) ≡ one (eqb a i) * (one (ltb b n) * (one (ltb i b) * F i b))
+    term : ℕ → ℕ → ℕ
+    term i j = one (ltb i j) * (F i j * one (sameEdge e (rising i j)))
+
+    inner : (i : ℕ) → sum n (term i) ≡ one (eqb a i) * (one (ltb b n) * (one (ltb i b) * F i b))
     inner i =
-        sum-ext n (λ j. one (ltb i j) * (F i j * one (sameEdge e (rising i j)))) (λ j. one (eqb b j) * (one (eqb a i) * (one (ltb i j) * F i j)))
+        sum-ext n (term i) (λ j. one (eqb b j) * (one (eqb a i) * (one (ltb i j) * F i j)))
         (λ j l. rw (one-and (eqb a i) (eqb b j)) (omega arith))
         ∙ sum-if-there n b (λ j. one (eqb a i) * (one (ltb i j) * F i j))
         ∙ omega arith

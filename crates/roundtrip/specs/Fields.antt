@@ -1,5 +1,5 @@
 -- The fields of bytes that were written as fields.
-use Prim.Native.Nat.{ℕ, _+_}
+use Prim.Native.Nat.{ℕ, _+_, _/_, _%_, _<_}
 use native.Mathlib.Nat.{div-add-mod}
 use native.Mathlib.Omega.{arith}
 use mathlib.Core.Path.{_≡_, refl, ap, ap₂, _∙_}
@@ -8,12 +8,21 @@ use mathlib.Core.List.{List, [], _∷_, _++_, flatMap}
 use lib.ListN.{length, take, drop, length-append}
 use lib.Seq.{take-append-seam, drop-at}
 use borrow.Author.Tests.{le-leb}
-use Rattle.model.specs.Charts.{Field, Fields, bodyLength, startsWithField, firstField, fieldsIn, fieldsOf}
+use Rattle.model.specs.Charts.{Field, bodyLength, startsWithField, firstField, fieldsIn, fieldsOf}
 use Rattle.model.specs.WrittenCharts.{fieldBytes}
+use Rattle.laws.specs.Sums.Lists.{All, also}
 use Rattle.passes.specs.Fields.{behindField, inFront, fields-there}
 
 abbrev pub fieldOf : ℕ → List ℕ → Field
 fieldOf tag body = record { tag = tag; body = body }
+
+-- a field whose body is of bytes is of bytes
+pub field-bytes : (tag : ℕ) {body : List ℕ} → tag < 256 → length body < 65536 → All (λ b. b < 256) body → All (λ b. b < 256) (fieldBytes tag body)
+unfolding fieldBytes
+field-bytes tag {body} t h bs =
+    let high : length body / 256 < 256 = omega arith in
+    let low : length body % 256 < 256 = omega arith in
+    also t (also high (also low bs))
 
 -- a field in front of other bytes is read as it was written
 module _ (tag : ℕ) (body rest : List ℕ) where

@@ -1,33 +1,31 @@
 -- A chart written from n, a list of edges in any sequence, and an order: how long it is, and what reading it gives.
-use Prim.Native.Nat.{ℕ, _+_, _*_, _%_, _≤_}
+use Prim.Native.Nat.{ℕ, _+_, _*_, _%_, _≤_, _<_}
 use native.Mathlib.Nat.{mul-mod-right, le-of-lt}
 use native.Mathlib.Omega.{arith}
-use mathlib.Core.Path.{_≡_, refl, sym, ap, ap₂, _∙_}
-use mathlib.Core.Bool.{Bool, true}
-use mathlib.Core.List.{List, [], _∷_, _++_, flatMap}
+use mathlib.Core.Path.{_≡_, ap, _∙_}
+use mathlib.Core.Bool.{true}
+use mathlib.Core.List.{List, [], _∷_, flatMap}
 use lib.ListN.{length, getD, length-append}
-use lib.Dec.{ltb}
-use borrow.Author.Tests.{le-leb, eq-eqb, ltb-true}
+use borrow.Author.Tests.{le-leb, eq-eqb}
 use Rattle.model.specs.declared.Edge.{Edge}
 use Rattle.model.specs.declared.Layout.{Layout}
-use Rattle.model.specs.declared.ChartRead.{ChartRead}
 use Rattle.model.specs.Lists.{noRepeats}
 use Rattle.model.specs.Crossings.{crossings}
-use Rattle.model.specs.Layouts.{emptyLayout, eachOnce}
+use Rattle.model.specs.Layouts.{eachOnce}
 use Rattle.model.specs.Checks.{refusal}
 use Rattle.model.specs.Charts.{Field, Fields, fieldsOf, bodyOf, chartSize, chartEdges, chartOrder, edgesIn, sameList, sameEdge, edgeWithin}
 use Rattle.model.specs.Charts.{chartChecks, sizeChecks, endChecks, repeatChecks, placeChecks, chartLayout, readOf}
 use Rattle.model.specs.WrittenCharts.{fieldBytes, edgeBytes}
-use Rattle.laws.specs.Sums.Indicators.{T-true, both-left}
-use Rattle.laws.specs.Sums.Lists.{All, all-mono}
+use Rattle.laws.specs.Sums.Indicators.{T-true}
+use Rattle.laws.specs.Sums.Lists.{All, none, also, all-append, all-mono, all-places}
 use Rattle.laws.specs.Sums.Every.{every-all}
-use Rattle.laws.specs.Orders.Permutations.{Permutation}
+use Rattle.laws.specs.Orders.Permutations.{Permutation, at-lt}
 use Rattle.laws.specs.Layouts.Validity.{permutation-eachOnce}
 use Rattle.bodies.specs.Words.{adjacencyOf}
 use Rattle.chart.specs.Padded.{padded}
 use Rattle.chart.specs.Laws.{read-number, read-is}
-use Rattle.roundtrip.specs.Fields.{fieldOf, allBytes, fields-read}
-use Rattle.roundtrip.specs.EdgeLists.{mostEdges, edge-bytes-length, edge-bytes-read}
+use Rattle.roundtrip.specs.Fields.{fieldOf, field-bytes, allBytes, fields-read}
+use Rattle.roundtrip.specs.EdgeLists.{mostEdges, edge-rises, edge-below, edge-bytes-length, edge-bytes-all, edge-bytes-read}
 
 -- the three fields
 abbrev fieldsWith : ℕ → List Edge → List ℕ → List Field
@@ -48,53 +46,72 @@ module _ (n : ℕ) (es : List Edge) (o : List ℕ) where
   -- three headers, one byte for n, two for each edge, and one for each place of the order
   pub chart-length : length (chartWith n es o) ≡ 10 + 2 * length es + length o
   unfolding chartWith allBytes flatMap fieldBytes
-  chart-length = simp (length-append) (omega (arith, edge-bytes-length es))
+  chart-length = simp length-append (omega (arith, edge-bytes-length es))
 
   module _ (p : Proper n es o) where
-    s : List ℕ
-    s = chartWith n es o
+    chart : List ℕ
+    chart = chartWith n es o
 
-    short : length s ≤ 4106
-    unfolding s
+    -- each number is a byte
+    pub chart-bytes : All (λ b. b < 256) (chartWith n es o)
+    unfolding chartWith allBytes flatMap
+    chart-bytes =
+        all-append (field-bytes 0x44 (omega arith) (omega arith) (also (omega (arith, p .few)) none))
+        (all-append (field-bytes 0x4C (omega arith) (omega (arith, edge-bytes-length es, p .fewEdges)) (edge-bytes-all (all-mono (p .within) ends)))
+        (all-append (field-bytes 0x52 (omega arith) (omega (arith, p .permutation .size, p .few)) (all-places o places)) none))
+      where
+        ends : (e : Edge) → edgeWithin n e ≡ true → (e .low < 256) × (e .high < 256)
+        ends e h = (omega (arith, p .few, edge-rises n e h, edge-below n e h), omega (arith, p .few, edge-below n e h))
+
+        places : (i : ℕ) → i < length o → getD o i 0 < 256
+        places i l = omega (arith, p .few, at-lt (p .permutation) i (rw (p .permutation .size) at l))
+
+    -- ---- the questions
+
+    short : length chart ≤ 8192
+    unfolding chart
     short = omega (arith, chart-length, p .fewEdges, p .few, p .permutation .size)
 
-    edges-again : edgesIn (edgeBytes es) ≡ es
-    unfolding edgeWithin
-    edges-again = edge-bytes-read (all-mono (p .within) (λ e h. le-of-lt (ltb-true (e .low) (e .high) (both-left (ltb (e .low) (e .high)) (ltb (e .high) n) h))))
-
-    fields : fieldsOf s ≡ record { complete = true; fields = fieldsWith n es o }
-    unfolding s chartWith
+    fields : fieldsOf chart ≡ record { complete = true; fields = fieldsWith n es o }
+    unfolding chart chartWith
     fields = fields-read (fieldsWith n es o)
 
-    body : (i : ℕ) → bodyOf s i ≡ getD (fieldsWith n es o) i (fieldOf 0 []) .body
+    body : (i : ℕ) → bodyOf chart i ≡ getD (fieldsWith n es o) i (fieldOf 0 []) .body
     unfolding bodyOf
     body i = ap (λ (fs : Fields). getD (fs .fields) i (fieldOf 0 []) .body) fields
 
-    -- all questions pass
-    accepted : refusal (chartChecks s) ≡ 0
+    even : length (edgeBytes es) % 2 ≡ 0
+    even = ap (λ (k : ℕ). k % 2) (edge-bytes-length es) ∙ mul-mod-right 2 (length es)
+
+    listed : edgesIn (edgeBytes es) ≡ es
+    listed = edge-bytes-read (all-mono (p .within) (λ e h. le-of-lt (edge-rises n e h)))
+
+    -- all pass
+    accepted : refusal (chartChecks chart) ≡ 0
     unfolding refusal chartChecks sizeChecks endChecks repeatChecks placeChecks chartSize chartOrder sameList
     accepted =
         rw (
-          le-leb (length s) 8192 (omega (arith, short)),
+          le-leb (length chart) 8192 short,
           fields,
           body 0,
           body 1,
           body 2,
           le-leb n 64 (p .few),
-          eq-eqb (length (edgeBytes es) % 2) 0 (ap (λ (k : ℕ). k % 2) (edge-bytes-length es) ∙ mul-mod-right 2 (length es)),
-          edges-again,
+          eq-eqb (length (edgeBytes es) % 2) 0 even,
+          listed,
           every-all (p .within),
           p .once,
           eq-eqb (length o) n (p .permutation .size),
           T-true (eachOnce n o) (permutation-eachOnce (p .permutation)),
         )
 
-    layout-read : chartLayout s ≡ record { n = n; order = padded o; adjacency = adjacencyOf es; count = crossings n o (adjacencyOf es) }
-    unfolding chartLayout chartSize chartEdges chartOrder
-    layout-read = rw (body 0, body 1, body 2, edges-again)
+    -- ---- so the layout has the vertices, the order and the edges that were written, and their crossings
 
-    -- so the layout has the vertices, the order and the edges that were written, and their crossings
+    layout-read : chartLayout chart ≡ record { n = n; order = padded o; adjacency = adjacencyOf es; count = crossings n o (adjacencyOf es) }
+    unfolding chartLayout chartSize chartEdges chartOrder
+    layout-read = rw (body 0, body 1, body 2, listed)
+
     pub chart-read : readOf (chartWith n es o)
         ≡ record { refusal = 0; layout = record { n = n; order = padded o; adjacency = adjacencyOf es; count = crossings n o (adjacencyOf es) } }
-    unfolding s
-    chart-read = read-is s (read-number s ∙ accepted) ∙ ap (λ (l : Layout). record { refusal = 0; layout = l }) layout-read
+    unfolding chart
+    chart-read = read-is chart (read-number chart ∙ accepted) ∙ ap (λ (l : Layout). record { refusal = 0; layout = l }) layout-read

@@ -4,7 +4,6 @@ use native.Mathlib.Decide.{decLt}
 use native.Mathlib.Omega.{arith}
 use mathlib.Core.Path.{_≡_, refl, sym, ap, ap₂, _∙_}
 use mathlib.Core.List.{List, flatMap, append-assoc, append-nil}
-use mathlib.Core.Bool.{Bool}
 use lib.ListN.{length, getD, take, length-take, List·getD-eq-default}
 use lib.Seq.{ext-getD, getD-take}
 use lib.Dec.{T}
@@ -17,15 +16,15 @@ use Rattle.model.specs.Layouts.{vertexOrder, crossingsOf, valid}
 use Rattle.model.specs.Checks.{refusal}
 use Rattle.model.specs.Charts.{bodyOf, chartSize, chartEdges, chartOrder, sameEdge, chartChecks, readOf}
 use Rattle.model.specs.WrittenCharts.{chartOf, withTrueCount}
+use Rattle.laws.specs.Sums.Lists.{All}
 use Rattle.laws.specs.Layouts.Sizes.{Sized}
-use Rattle.laws.specs.Layouts.Validity.{Sound, sound}
-use Rattle.bodies.specs.Words.{adjacencyOf}
+use Rattle.laws.specs.Layouts.Validity.{sound}
 use Rattle.chart.specs.Padded.{padded, padded-length, padded-at}
 use Rattle.chart.specs.Laws.{read-valid, read-sized, same-charts}
 use Rattle.chart.specs.Sequence.{Rewritten, rewriting-free}
 use Rattle.roundtrip.specs.Fields.{allBytes}
 use Rattle.roundtrip.specs.EdgeLists.{edges-few, edges-within, edges-once, edges-words}
-use Rattle.roundtrip.specs.Listings.{chartWith, Proper, chart-length, chart-read}
+use Rattle.roundtrip.specs.Listings.{chartWith, Proper, chart-length, chart-bytes, chart-read}
 
 -- ---- what is written, as a listing
 
@@ -47,7 +46,7 @@ padded-again n o long zeros =
           | no l ↦ List·getD-eq-default (take n o) 0 (omega (arith, length-take n o)) ∙ sym (zeros i (omega arith) below)
         ]
 
--- ---- the length
+-- ---- the length, and that each number is a byte
 
 module _ (l : Layout) (t : T (valid l)) where
   proper : Proper (l .n) (edges (l .n) (l .adjacency)) (vertexOrder l)
@@ -60,6 +59,7 @@ module _ (l : Layout) (t : T (valid l)) where
         permutation = sound l t .permutation;
       }
 
+  -- three headers, one byte for n, two for each edge, one for each place
   pub written-size : length (chartOf l) ≡ 10 + 2 * length (edges (l .n) (l .adjacency)) + l .n
   written-size =
       ap length (all-listed l)
@@ -70,6 +70,10 @@ module _ (l : Layout) (t : T (valid l)) where
   pub written-length : length (chartOf l) ≤ 4106
   written-length = omega (arith, written-size, proper .few, proper .fewEdges)
 
+  -- "give the same written bytes": each number is below 256
+  pub written-bytes : All (λ b. b < 256) (chartOf l)
+  written-bytes = rw (all-listed l) (chart-bytes (l .n) (edges (l .n) (l .adjacency)) (vertexOrder l) proper)
+
 -- ---- read back
 
 -- "Reading a written chart gives the ring with its true count."
@@ -78,9 +82,12 @@ unfolding withTrueCount crossingsOf vertexOrder
 written-read l s t =
     ap readOf (all-listed l)
     ∙ chart-read (l .n) (edges (l .n) (l .adjacency)) (vertexOrder l) (proper l t)
-    ∙ ap₂ (λ (o adj : List ℕ). record { refusal = 0; layout = record { n = l .n; order = o; adjacency = adj; count = crossings (l .n) (vertexOrder l) adj } })
+    ∙ ap₂ read-as
     (padded-again (l .n) (l .order) (s .places) (sound l t .places))
     (edges-words (l .n) (l .adjacency) (sound l t .symmetry) (sound l t .bits) (sound l t .unused) (sound l t .small) (s .words))
+  where
+    read-as : List ℕ → List ℕ → ChartRead
+    read-as o adj = record { refusal = 0; layout = record { n = l .n; order = o; adjacency = adj; count = crossings (l .n) (vertexOrder l) adj } }
 
 -- a count that is true already stays
 count-kept : (l : Layout) → l .count ≡ crossingsOf l → withTrueCount l ≡ l
@@ -107,6 +114,11 @@ written-again l s t = ap (λ (r : ChartRead). chartOf (r .layout)) (written-read
 pub written-tells : (l m : Layout) → Sized l → T (valid l) → Sized m → T (valid m) → chartOf l ≡ chartOf m → withTrueCount l ≡ withTrueCount m
 written-tells l m s t r u e =
     ap (λ (x : ChartRead). x .layout) (sym (written-read l s t) ∙ ap readOf e ∙ written-read m r u)
+
+-- so two accepted charts that give the same written bytes give the same layout
+pub written-same : (s t : List ℕ) → readOf s .refusal ≡ 0 → readOf t .refusal ≡ 0
+    → chartOf (readOf s .layout) ≡ chartOf (readOf t .layout) → readOf s ≡ readOf t
+written-same s t p q e = sym (read-again s p) ∙ ap readOf e ∙ read-again t q
 
 -- ---- "Two charts of the same ring, however their links were listed, give the same written bytes."
 
