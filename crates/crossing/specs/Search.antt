@@ -1,224 +1,69 @@
--- The search for a crossing pair: the edges listed in two arrays, the places of the vertices, and how far the search is.
-use Prim.Native.Nat.{ℕ, zero, suc, _+_, _-_, _≤_, _<_}
-use native.Mathlib.Nat.{le-refl, le-trans, not-suc-le-zero, le-antisymm}
+-- The search for a crossing pair: the edges listed in an array, the places of the vertices, and how far the search is.
+use Prim.Native.Nat.{ℕ, suc, _+_, _*_, _/_, _≤_, _<_}
+use native.Mathlib.Nat.{not-suc-le-zero}
 use native.Mathlib.Numerals.{add-one}
 use native.Mathlib.Omega.{arith}
-use mathlib.Core.Path.{_≡_, refl, sym, ap, ap₂, _∙_, subst}
+use mathlib.Core.Path.{_≡_, refl, sym, ap, _∙_, subst}
 use mathlib.Core.Bool.{Bool, true, false, cond, _&&_}
-use mathlib.Core.List.{List, [], _∷_, _++_, map, flatMap, map-append, append-assoc, append-nil}
+use mathlib.Core.List.{List, [], _∷_, _++_, map}
 use lib.ListN.{length, getD, take, drop, set, replicate, length-replicate, length-set, length-map, List·getD-map, drop-of-length-le}
-use lib.Seq.{drop-cons, getD-take, getD-set-same, getD-set-other}
-use lib.Dec.{T, eqb, ltb}
-use borrow.Author.Tests.{le-ltb, lt-ltb}
+use lib.Seq.{ext-getD, drop-cons, getD-take, getD-set-same, getD-set-other}
+use lib.Dec.{T, eqb}
 use Rattle.model.specs.declared.Edge.{Edge}
 use Rattle.model.specs.declared.Layout.{Layout}
-use Rattle.model.specs.Lists.{upto, keep, noRepeats, place}
-use Rattle.model.specs.Crossings.{bit, linked, edges, alternate, crosses}
+use Rattle.model.specs.Lists.{upto, noRepeats, place}
+use Rattle.model.specs.Crossings.{edges, alternate, crosses}
 use Rattle.model.specs.Layouts.{vertexOrder, valid}
 use Rattle.model.specs.Reading.{Shown, pairWith, orElse, firstPair, firstCrossingOf}
+use Rattle.model.specs.WrittenCharts.{edgeBytes}
 use Rattle.laws.specs.Sums.Indicators.{less, same, more, order as which}
-use Rattle.laws.specs.Sums.Ranges.{sum}
-use Rattle.laws.specs.Sums.Lists.{All, keep-append, all-at, flatMap-append, length-upto, upto-at}
+use Rattle.laws.specs.Sums.Lists.{All, all-at, length-upto, upto-at}
 use Rattle.laws.specs.Orders.Permutations.{Permutation, at-lt, at-of-place, place-of-at, place-below}
-use Rattle.laws.specs.Crossings.Bound.{sum-more}
 use Rattle.laws.specs.Crossings.Edges.{Within, all-edges}
+use Rattle.laws.specs.Crossings.Bound.{mostEdges, edges-few}
 use Rattle.laws.specs.Layouts.Validity.{sound}
 use Rattle.laws.specs.Layouts.FirstCrossing.{found, found-valid}
+use Rattle.laws.specs.Buffers.Writing.{Written, written-size, written-whole}
+use Rattle.laws.specs.Buffers.EdgeBytes.{edge-bytes-length, edgeAt, edge-bytes-at}
+use Rattle.text.specs.Room.{Put}
+use Rattle.edge_list.specs.Rows.{listedEdges, listed-few}
 
--- ---- edges listed in two arrays, of their lower and their higher ends
-
-abbrev edgeTo : ℕ → ℕ → Edge
-edgeTo a b = record { low = a; high = b }
-
-unfoldable pub edgeAt : List ℕ → List ℕ → ℕ → Edge
-edgeAt lows highs i = record { low = getD lows i 0; high = getD highs i 0 }
+-- ---- edges listed in an array, two bytes for each
 
 -- the first k of them
-unfoldable pub listed : List ℕ → List ℕ → ℕ → List Edge
-listed lows highs k = map (edgeAt lows highs) (upto k)
+unfoldable pub listed : List ℕ → ℕ → List Edge
+listed ends k = map (edgeAt ends) (upto k)
 
-module _ (lows highs : List ℕ) where
-  pub length-listed : (k : ℕ) → length (listed lows highs k) ≡ k
+module _ (ends : List ℕ) where
+  pub length-listed : (k : ℕ) → length (listed ends k) ≡ k
   unfolding listed
-  length-listed k = length-map (upto k) (edgeAt lows highs) ∙ length-upto k
+  length-listed k = length-map (upto k) (edgeAt ends) ∙ length-upto k
 
-  listed-next : (k : ℕ) → listed lows highs (suc k) ≡ listed lows highs k ++ (edgeAt lows highs k ∷ [])
-  unfolding listed upto
-  listed-next k = map-append (edgeAt lows highs) (upto k) (k ∷ [])
-
-  listed-at : (k i : ℕ) → i < k → getD (listed lows highs k) i (edgeAt lows highs 0) ≡ edgeAt lows highs i
+  listed-at : (k i : ℕ) → i < k → getD (listed ends k) i (edgeAt ends 0) ≡ edgeAt ends i
   unfolding listed
-  listed-at k i h = List·getD-map (edgeAt lows highs) (upto k) i 0 ∙ ap (edgeAt lows highs) (upto-at k i h)
+  listed-at k i h = List·getD-map (edgeAt ends) (upto k) i 0 ∙ ap (edgeAt ends) (upto-at k i h)
 
   -- from place i on
-  listed-from : (k i : ℕ) → i < k → drop i (listed lows highs k) ≡ edgeAt lows highs i ∷ drop (suc i) (listed lows highs k)
+  listed-from : (k i : ℕ) → i < k → drop i (listed ends k) ≡ edgeAt ends i ∷ drop (suc i) (listed ends k)
   listed-from k i h =
-      drop-cons (listed lows highs k) i (edgeAt lows highs 0) (rw (length-listed k) h)
-      ∙ ap (λ (e : Edge). e ∷ drop (suc i) (listed lows highs k)) (listed-at k i h)
+      drop-cons (listed ends k) i (edgeAt ends 0) (rw (length-listed k) h)
+      ∙ ap (λ (e : Edge). e ∷ drop (suc i) (listed ends k)) (listed-at k i h)
 
-  listed-beyond : (k i : ℕ) → k ≤ i → drop i (listed lows highs k) ≡ []
-  listed-beyond k i h = drop-of-length-le (listed lows highs k) {i = i} (omega (arith, length-listed k))
+  listed-beyond : (k i : ℕ) → k ≤ i → drop i (listed ends k) ≡ []
+  listed-beyond k i h = drop-of-length-le (listed ends k) {i = i} (omega (arith, length-listed k))
 
--- one more edge, put behind the first k
-module _ (lows highs : List ℕ) (k a b : ℕ) where
-  kept : (j : ℕ) → j ≤ k → listed (set lows k a) (set highs k b) j ≡ listed lows highs j
-  unfolding listed upto edgeAt
-  kept zero h = refl
-  kept (suc j) h =
-      listed-next (set lows k a) (set highs k b) j
-      ∙ ap₂ (λ (es : List Edge) (e : Edge). es ++ (e ∷ [])) (kept j (omega arith)) at-j
-      ∙ sym (listed-next lows highs j)
-    where
-      at-j : edgeAt (set lows k a) (set highs k b) j ≡ edgeAt lows highs j
-      at-j = rw (getD-set-other lows k j a 0 (λ e. omega arith), getD-set-other highs k j b 0 (λ e. omega arith))
-
-  put : k < length lows → k < length highs → listed (set lows k a) (set highs k b) (suc k) ≡ listed lows highs k ++ (edgeTo a b ∷ [])
-  unfolding edgeAt
-  put h i =
-      listed-next (set lows k a) (set highs k b) k
-      ∙ rw (kept k (le-refl k), getD-set-same lows k a 0 h, getD-set-same highs k b 0 i)
-
--- ---- the edges from a vertex to higher ones, listed one after the other
-
--- v is higher than a, and joined to it by the word of a
-abbrev higher : ℕ → ℕ → ℕ → Bool
-higher word a v = ltb a v && eqb (bit word v) 1
-
--- the edges from a to vertices below b
-unfoldable pub edgesFrom : ℕ → ℕ → ℕ → List Edge
-edgesFrom word a b = map (edgeTo a) (keep (higher word a) (upto b))
-
-module _ (word a : ℕ) where
-  edges-next : (b : ℕ) {t : Bool} → a < b → t ≡ eqb (bit word b) 1 → edgesFrom word a (suc b) ≡ edgesFrom word a b ++ cond t (edgeTo a b ∷ []) []
-  unfolding edgesFrom upto keep
-  edges-next b {t} l e =
-      ap (map (edgeTo a)) (keep-append (higher word a) (upto b) (b ∷ []))
-      ∙ map-append (edgeTo a) (keep (higher word a) (upto b)) (keep (higher word a) (b ∷ []))
-      ∙ rw (lt-ltb a b l, ← e) (by-test t)
-    where
-      by-test : (t : Bool)
-          → edgesFrom word a b ++ map (edgeTo a) (cond t (b ∷ []) []) ≡ edgesFrom word a b ++ cond t (edgeTo a b ∷ []) []
-      by-test true = refl
-      by-test false = refl
-
-  edges-none : (b : ℕ) → b ≤ suc a → edgesFrom word a b ≡ []
-  unfolding edgesFrom upto keep
-  edges-none zero h = refl
-  edges-none (suc b) h =
-      ap (map (edgeTo a)) (keep-append (higher word a) (upto b) (b ∷ []))
-      ∙ map-append (edgeTo a) (keep (higher word a) (upto b)) (keep (higher word a) (b ∷ []))
-      ∙ rw (le-ltb a b (omega arith), edges-none b (omega arith))
-
--- behind the first count entries, the edges from a to vertices below b
-pub record RowListed (word a : ℕ) (lows₀ highs₀ : List ℕ) (count : ℕ) (lows highs : List ℕ) (end b : ℕ) : Type 0 where
-  pub later : a < b
-  pub room : end + suc a ≤ count + b
-  pub lows-size : length lows ≡ length lows₀
-  pub highs-size : length highs ≡ length highs₀
-  pub listing : listed lows highs end ≡ listed lows₀ highs₀ count ++ edgesFrom word a b
-
-module _ {word a : ℕ} {lows₀ highs₀ : List ℕ} {count : ℕ} where
-  pub row-start : RowListed word a lows₀ highs₀ count lows₀ highs₀ count (a + 1)
-  row-start =
-      rw (add-one a)
-      (record {
-        later = omega arith;
-        room = omega arith;
-        lows-size = refl;
-        highs-size = refl;
-        listing = sym (ap (λ (es : List Edge). listed lows₀ highs₀ count ++ es) (edges-none word a (suc a) (le-refl (suc a))) ∙ append-nil _);
-      })
-
-  -- b is not joined to a
-  pub row-skip : {lows highs : List ℕ} {end b : ℕ} {t : Bool} → RowListed word a lows₀ highs₀ count lows highs end b
-      → t ≡ eqb (bit word b) 1 → t ≡ false → RowListed word a lows₀ highs₀ count lows highs end (b + 1)
-  row-skip {lows} {highs} {end} {b} {t} r e f =
-      rw (add-one b)
-      (record {
-        later = omega (arith, r .later);
-        room = omega (arith, r .room);
-        lows-size = r .lows-size;
-        highs-size = r .highs-size;
-        listing =
-            r .listing
-            ∙ ap (λ (es : List Edge). listed lows₀ highs₀ count ++ es) (sym (edges-next word a b (r .later) e ∙ rw f (append-nil (edgesFrom word a b))));
-      })
-
-  -- b is joined to a, and the edge is put behind the others
-  pub row-put : {lows highs : List ℕ} {end b : ℕ} {t : Bool} → RowListed word a lows₀ highs₀ count lows highs end b
-      → end < length lows → end < length highs → t ≡ eqb (bit word b) 1 → t ≡ true
-      → RowListed word a lows₀ highs₀ count (set lows end a) (set highs end b) (end + 1) (b + 1)
-  row-put {lows} {highs} {end} {b} {t} r h i e f =
-      rw (add-one b, add-one end)
-      (record {
-        later = omega (arith, r .later);
-        room = omega (arith, r .room);
-        lows-size = length-set lows end a ∙ r .lows-size;
-        highs-size = length-set highs end b ∙ r .highs-size;
-        listing =
-            put lows highs end a b h i
-            ∙ ap (λ (es : List Edge). es ++ (edgeTo a b ∷ [])) (r .listing)
-            ∙ append-assoc (listed lows₀ highs₀ count) (edgesFrom word a b) (edgeTo a b ∷ [])
-            ∙ ap (λ (es : List Edge). listed lows₀ highs₀ count ++ es) (sym (edges-next word a b (r .later) e ∙ rw f));
-      })
-
-  pub row-end : {lows highs : List ℕ} {end b n : ℕ} → b ≤ n → n ≤ b → RowListed word a lows₀ highs₀ count lows highs end b
-      → RowListed word a lows₀ highs₀ count lows highs end n
-  row-end h l r = rw (← (le-antisymm h l)) r
-
--- ---- all edges, listed vertex by vertex
-
--- the edges with a lower end below a, for n vertices
-pub record EdgesListed (n : ℕ) (adj lows highs : List ℕ) (count a : ℕ) : Type 0 where
-  pub small : n ≤ 64
-  pub inside : a ≤ n
-  pub bounded : count ≤ sum a (λ i. 63 - i)
-  pub lows-size : length lows ≡ 2016
-  pub highs-size : length highs ≡ 2016
-  pub listing : listed lows highs count ≡ flatMap (λ u. edgesFrom (getD adj u 0) u n) (upto a)
-
--- each two of 64 vertices
-pairs-most : (a : ℕ) → a ≤ 64 → sum a (λ i. 63 - i) ≤ 2016
-unfolding sum
-pairs-most a h = sum-more a 64 (λ i. 63 - i) h
-
-module _ {n : ℕ} {adj : List ℕ} where
-  pub list-start : {lows highs : List ℕ} → n ≤ 64 → length lows ≡ 2016 → length highs ≡ 2016 → EdgesListed n adj lows highs 0 0
-  unfolding sum listed upto flatMap
-  list-start small h i = record { small = small; inside = omega arith; bounded = omega arith; lows-size = h; highs-size = i; listing = refl }
-
-  -- there is room for every edge from a
-  pub list-room : {lows highs : List ℕ} {count a : ℕ} → EdgesListed n adj lows highs count a → a < n → count + 63 ≤ 2016 + a
-  unfolding sum
-  list-room {a = a} s l = omega (arith, s .bounded, pairs-most (suc a) (le-trans l (s .small)))
-
-  pub list-next : {lows highs lows' highs' : List ℕ} {count end a : ℕ} → EdgesListed n adj lows highs count a → a < n
-      → RowListed (getD adj a 0) a lows highs count lows' highs' end n → EdgesListed n adj lows' highs' end (a + 1)
-  unfolding sum upto flatMap
-  list-next {a = a} s l r =
-      rw (add-one a)
-      (record {
-        small = s .small;
-        inside = l;
-        bounded = omega (arith, s .bounded, r .room);
-        lows-size = r .lows-size ∙ s .lows-size;
-        highs-size = r .highs-size ∙ s .highs-size;
-        listing =
-            r .listing
-            ∙ ap (λ (es : List Edge). es ++ edgesFrom (getD adj a 0) a n) (s .listing)
-            ∙ sym
-            (flatMap-append (λ u. edgesFrom (getD adj u 0) u n) (upto a) (a ∷ [])
-            ∙ ap (λ (es : List Edge). flatMap (λ u. edgesFrom (getD adj u 0) u n) (upto a) ++ es) (append-nil (edgesFrom (getD adj a 0) a n)));
-      })
-
-  pub list-end : {lows highs : List ℕ} {count a : ℕ} → EdgesListed n adj lows highs count a → n ≤ a
-      → (listed lows highs count ≡ edges n adj) × (count ≤ 2016)
-  unfolding edges edgesFrom linked
-  list-end {a = a} s l =
-      let end : a ≡ n = le-antisymm (s .inside) l in (
-        s .listing ∙ ap (λ (k : ℕ). flatMap (λ u. edgesFrom (getD adj u 0) u n) (upto k)) end,
-        le-trans (s .bounded) (pairs-most a (le-trans (s .inside) (s .small))),
-      )
+-- what was written as the bytes of some edges lists them
+pub listed-bytes : (es : List Edge) {start ends : List ℕ} {end : ℕ} → Written start 0 (edgeBytes es) ends end → listed ends (end / 2) ≡ es
+listed-bytes es {start} {ends} {end} w =
+    let rest = drop (length (edgeBytes es)) start in
+    let whole : ends ≡ edgeBytes es ++ rest = written-whole w .0 in
+    let number : end / 2 ≡ length es = omega (arith, written-whole w .1, edge-bytes-length es) in
+    let d = edgeAt ends 0 in
+    rw number
+    (ext-getD d (listed ends (length es)) es (length-listed ends (length es))
+    (λ i l.
+    (let below : i < length es = rw (length-listed ends (length es)) at l in
+    listed-at ends (length es) i below ∙ ap (λ (xs : List ℕ). edgeAt xs i) whole ∙ edge-bytes-at d es rest i below)))
 
 -- ---- the place of each vertex
 
@@ -302,111 +147,121 @@ unfolding crossAt crosses
 cross-places {e = e} {f = f} p i j = rw (p .stands (e .low) (i .0), p .stands (e .high) (i .1), p .stands (f .low) (j .0), p .stands (f .high) (j .1))
 
 -- count edges are listed, between vertices that stand in the order once
-pub record Searchable (n : ℕ) (order : List ℕ) (count : ℕ) (lows highs : List ℕ) : Type 0 where
+pub record Searchable (n : ℕ) (order : List ℕ) (count : ℕ) (ends : List ℕ) : Type 0 where
   pub small : n ≤ 64
   pub order-size : length order ≡ 64
   pub permutation : Permutation n (take n order)
-  pub fits : count ≤ 2016
-  pub lows-size : length lows ≡ 2016
-  pub highs-size : length highs ≡ 2016
-  pub within : (i : ℕ) → i < count → Within n (edgeAt lows highs i)
+  pub fits : 2 * count ≤ length ends
+  pub within : (i : ℕ) → i < count → Within n (edgeAt ends i)
 
-module _ {n : ℕ} {order : List ℕ} {count : ℕ} {lows highs : List ℕ} (s : Searchable n order count lows highs) {i : ℕ} (h : i < count) where
-  pub in-arrays : (i < length lows) × (i < length highs)
-  in-arrays = (omega (arith, s .fits, s .lows-size), omega (arith, s .fits, s .highs-size))
+module _ {n : ℕ} {order : List ℕ} {count : ℕ} {ends : List ℕ} (s : Searchable n order count ends) {i : ℕ} (h : i < count) where
+  pub in-array : 2 * i + 1 < length ends
+  in-array = omega (arith, s .fits)
 
-  pub ends-below : {e : Edge} → e ≡ edgeAt lows highs i → (e .low < 64) × (e .high < 64)
+  pub ends-below : {e : Edge} → e ≡ edgeAt ends i → (e .low < 64) × (e .high < 64)
   ends-below {e} at-i =
       let ends : Within n e = rw at-i (s .within i h) in
       (omega (arith, s .small), omega (arith, s .small))
 
 -- no edge before place first crosses one behind it
-pub record FirstsPassed (n : ℕ) (order : List ℕ) (count : ℕ) (lows highs : List ℕ) (first : ℕ) : Type 0 where
+pub record FirstsPassed (n : ℕ) (order : List ℕ) (count : ℕ) (ends : List ℕ) (first : ℕ) : Type 0 where
   pub inside : first ≤ count
-  pub rest : firstPair (take n order) (listed lows highs count) ≡ firstPair (take n order) (drop first (listed lows highs count))
+  pub rest : firstPair (take n order) (listed ends count) ≡ firstPair (take n order) (drop first (listed ends count))
 
 -- the edge at place first crosses none between it and place second
-pub record SecondsPassed (n : ℕ) (order : List ℕ) (count : ℕ) (lows highs : List ℕ) (first second : ℕ) : Type 0 where
+pub record SecondsPassed (n : ℕ) (order : List ℕ) (count : ℕ) (ends : List ℕ) (first second : ℕ) : Type 0 where
   pub later : first < second
   pub inside : second ≤ count
-  pub rest : pairWith (take n order) (edgeAt lows highs first) (drop (suc first) (listed lows highs count))
-      ≡ pairWith (take n order) (edgeAt lows highs first) (drop second (listed lows highs count))
+  pub rest : pairWith (take n order) (edgeAt ends first) (drop (suc first) (listed ends count))
+      ≡ pairWith (take n order) (edgeAt ends first) (drop second (listed ends count))
 
-module _ {n : ℕ} {order : List ℕ} {count : ℕ} {lows highs : List ℕ} where
-  pub firsts-start : FirstsPassed n order count lows highs 0
+module _ {n : ℕ} {order : List ℕ} {count : ℕ} {ends : List ℕ} where
+  pub firsts-start : FirstsPassed n order count ends 0
   firsts-start = record { inside = omega arith; rest = refl }
 
-  pub firsts-end : {first : ℕ} → FirstsPassed n order count lows highs first → count ≤ first
-      → firstPair (take n order) (listed lows highs count) ≡ []
+  pub firsts-end : {first : ℕ} → FirstsPassed n order count ends first → count ≤ first
+      → firstPair (take n order) (listed ends count) ≡ []
   unfolding firstPair
-  firsts-end {first} r h = r .rest ∙ ap (firstPair (take n order)) (listed-beyond lows highs count first h)
+  firsts-end {first} r h = r .rest ∙ ap (firstPair (take n order)) (listed-beyond ends count first h)
 
-  pub seconds-start : {first : ℕ} → first < count → SecondsPassed n order count lows highs first (first + 1)
+  pub seconds-start : {first : ℕ} → first < count → SecondsPassed n order count ends first (first + 1)
   seconds-start {first} h = rw (add-one first) (record { later = omega arith; inside = h; rest = refl })
 
   -- what is left, by whether the edge at place first crosses one that is left for it
-  row-left : {first second : ℕ} → FirstsPassed n order count lows highs first → SecondsPassed n order count lows highs first second → first < count
-      → let es = listed lows highs count in
+  row-left : {first second : ℕ} → FirstsPassed n order count ends first → SecondsPassed n order count ends first second → first < count
+      → let es = listed ends count in
       firstPair (take n order) es
-      ≡ orElse (pairWith (take n order) (edgeAt lows highs first) (drop second es)) (firstPair (take n order) (drop (suc first) es))
+      ≡ orElse (pairWith (take n order) (edgeAt ends first) (drop second es)) (firstPair (take n order) (drop (suc first) es))
   unfolding firstPair
   row-left {first} r q h =
       r .rest
-      ∙ ap (firstPair (take n order)) (listed-from lows highs count first h)
-      ∙ ap (λ (es : List Edge). orElse es (firstPair (take n order) (drop (suc first) (listed lows highs count)))) (q .rest)
+      ∙ ap (firstPair (take n order)) (listed-from ends count first h)
+      ∙ ap (λ (es : List Edge). orElse es (firstPair (take n order) (drop (suc first) (listed ends count)))) (q .rest)
 
-  pub firsts-next : {first second : ℕ} → FirstsPassed n order count lows highs first → SecondsPassed n order count lows highs first second
-      → first < count → count ≤ second → FirstsPassed n order count lows highs (first + 1)
+  pub firsts-next : {first second : ℕ} → FirstsPassed n order count ends first → SecondsPassed n order count ends first second
+      → first < count → count ≤ second → FirstsPassed n order count ends (first + 1)
   unfolding pairWith orElse
   firsts-next {first} {second} r q h l =
-      rw (add-one first) (record { inside = h; rest = row-left r q h ∙ rw (listed-beyond lows highs count second l) })
+      rw (add-one first) (record { inside = h; rest = row-left r q h ∙ rw (listed-beyond ends count second l) })
 
-  module _ (s : Searchable n order count lows highs) {places : List ℕ} (p : PlacesOf n order places) {first second : ℕ} (i : first < count) (j : second < count)
-      {e f : Edge} (at-first : e ≡ edgeAt lows highs first) (at-second : f ≡ edgeAt lows highs second) {t : Bool} (test : t ≡ crossAt places e f) where
+  module _ (s : Searchable n order count ends) {places : List ℕ} (p : PlacesOf n order places) {first second : ℕ} (i : first < count) (j : second < count)
+      {e f : Edge} (at-first : e ≡ edgeAt ends first) (at-second : f ≡ edgeAt ends second) {t : Bool} (test : t ≡ crossAt places e f) where
     -- the edge at second is the first that crosses, or not
-    second-tested : pairWith (take n order) e (drop second (listed lows highs count))
-        ≡ cond t (e ∷ f ∷ []) (pairWith (take n order) e (drop (suc second) (listed lows highs count)))
+    second-tested : pairWith (take n order) e (drop second (listed ends count))
+        ≡ cond t (e ∷ f ∷ []) (pairWith (take n order) e (drop (suc second) (listed ends count)))
     unfolding pairWith
     second-tested =
         ap (pairWith (take n order) e)
-        (listed-from lows highs count second j ∙ ap (λ (g : Edge). g ∷ drop (suc second) (listed lows highs count)) (sym at-second))
+        (listed-from ends count second j ∙ ap (λ (g : Edge). g ∷ drop (suc second) (listed ends count)) (sym at-second))
         ∙ rw (test ∙ cross-places p (rw at-first (s .within first i)) (rw at-second (s .within second j)))
 
-    pub seconds-next : SecondsPassed n order count lows highs first second → t ≡ false → SecondsPassed n order count lows highs first (second + 1)
+    pub seconds-next : SecondsPassed n order count ends first second → t ≡ false → SecondsPassed n order count ends first (second + 1)
     seconds-next q z =
         rw (add-one second)
         (record { later = omega (arith, q .later); inside = j; rest = q .rest ∙ rw (← at-first) (second-tested ∙ rw z) })
 
-    pub pair-found : FirstsPassed n order count lows highs first → SecondsPassed n order count lows highs first second → t ≡ true
-        → firstPair (take n order) (listed lows highs count) ≡ e ∷ f ∷ []
+    pub pair-found : FirstsPassed n order count ends first → SecondsPassed n order count ends first second → t ≡ true
+        → firstPair (take n order) (listed ends count) ≡ e ∷ f ∷ []
     unfolding orElse
     pair-found r q z = row-left r q i ∙ rw (← at-first, second-tested, z)
 
 -- ---- the edges of a layout, listed
 
 -- their ends are vertices
-listed-within : (n : ℕ) (adj lows highs : List ℕ) {count : ℕ} → listed lows highs count ≡ edges n adj
-    → (i : ℕ) → i < count → Within n (edgeAt lows highs i)
-listed-within n adj lows highs {count} e i h =
-    subst (Within n) (listed-at lows highs count i h)
-    (all-at (edgeAt lows highs 0) (subst (All (Within n)) (sym e) (all-edges n adj)) i (rw (length-listed lows highs count) h))
+listed-within : (n : ℕ) (adj ends : List ℕ) {count : ℕ} → listed ends count ≡ edges n adj
+    → (i : ℕ) → i < count → Within n (edgeAt ends i)
+listed-within n adj ends {count} e i h =
+    subst (Within n) (listed-at ends count i h)
+    (all-at (edgeAt ends 0) (subst (All (Within n)) (sym e) (all-edges n adj)) i (rw (length-listed ends count) h))
 
-module _ (l : Layout) (t : T (valid l)) where
-  pub searchable : {lows highs : List ℕ} {count : ℕ} → listed lows highs count ≡ edges (l .n) (l .adjacency)
-      → length (l .order) ≡ 64 → count ≤ 2016 → length lows ≡ 2016 → length highs ≡ 2016 → Searchable (l .n) (l .order) count lows highs
+-- they were put into an array that has room for the most
+module _ (l : Layout) (t : T (valid l)) {start ends : List ℕ} {end : ℕ} (size : length start ≡ 2 * mostEdges)
+    (put : let es = listedEdges (l .n) (l .adjacency) in Put (2 * length es) start 0 (edgeBytes es) ends end) where
+  few : length (edges (l .n) (l .adjacency)) ≤ mostEdges
+  few = edges-few (l .n) (l .adjacency) (sound l t .small)
+
+  all-put : Written start 0 (edgeBytes (edges (l .n) (l .adjacency))) ends end
+  all-put =
+      let es = listed-few (l .n) (l .adjacency) (sound l t .small) in
+      rw es at (put .fits (omega (arith, few, size, ap length es)))
+
+  all-listed : listed ends (end / 2) ≡ edges (l .n) (l .adjacency)
+  all-listed = listed-bytes (edges (l .n) (l .adjacency)) all-put
+
+  inside : end ≤ length start
+  inside = omega (arith, written-whole all-put .1, edge-bytes-length (edges (l .n) (l .adjacency)), few, size)
+
+  pub searchable : length (l .order) ≡ 64 → Searchable (l .n) (l .order) (end / 2) ends
   unfolding vertexOrder
-  searchable {lows} {highs} listing size fits lows-size highs-size =
+  searchable places =
       record {
         small = sound l t .small;
-        order-size = size;
+        order-size = places;
         permutation = sound l t .permutation;
-        fits = fits;
-        lows-size = lows-size;
-        highs-size = highs-size;
-        within = listed-within (l .n) (l .adjacency) lows highs listing;
+        fits = omega (arith, inside, written-size all-put inside);
+        within = listed-within (l .n) (l .adjacency) ends all-listed;
       }
 
-  pub search-shown : {es : List Edge} {s : Shown} → es ≡ edges (l .n) (l .adjacency) → s ≡ found (firstPair (take (l .n) (l .order)) es)
-      → s ≡ firstCrossingOf l
+  pub search-shown : {s : Shown} → s ≡ found (firstPair (take (l .n) (l .order)) (listed ends (end / 2))) → s ≡ firstCrossingOf l
   unfolding vertexOrder
-  search-shown listing e = e ∙ ap (λ (es : List Edge). found (firstPair (vertexOrder l) es)) listing ∙ found-valid l t
+  search-shown e = e ∙ ap (λ (es : List Edge). found (firstPair (vertexOrder l) es)) all-listed ∙ found-valid l t

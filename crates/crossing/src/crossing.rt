@@ -1,12 +1,12 @@
 // The shown crossing pair: the edges in their sequence, and a search over each two of them.
 ghost use mathlib.Core.Path.{_≡_};
-ghost use Prim.Native.Nat.{_+_, _≤_, _<_};
+ghost use Prim.Native.Nat.{_+_, _*_, _≤_, _<_};
 ghost use lib.ListN.{length, take};
-ghost use Rattle.model.specs.Crossings.{edges};
 ghost use Rattle.model.specs.Reading.{shown, firstPair, firstCrossingOf};
+ghost use Rattle.laws.specs.Buffers.EdgeBytes.{edgeAt};
 ghost use Rattle.laws.specs.Orders.Permutations.{Permutation};
 ghost use Rattle.laws.specs.Layouts.FirstCrossing.{found};
-ghost use Rattle.crossing.specs.Search.{edgeAt, listed, RowListed, PlacesOf, crossAt, Searchable};
+ghost use Rattle.crossing.specs.Search.{listed, PlacesOf, crossAt, Searchable};
 use model::Edge;
 use model::FirstCrossing;
 use model::Layout;
@@ -21,16 +21,15 @@ pub fn first_crossing(l: Layout) -> FirstCrossing
     let n = l.n;
     let order = l.order;
     let adjacency = l.adjacency;
-    let mut lows = [0u8; 2016];
-    let mut highs = [0u8; 2016];
-    let count = list_edges(n, &adjacency, &mut lows, &mut highs);
-    first_pair(n, &order, count, &lows, &highs)
+    let mut ends = [0u8; 4032];
+    let end = edge_list::put_edges(&mut ends, 0, n, &adjacency);
+    first_pair(n, &order, end / 2, &ends)
 }
 
 // Of the listed edges, the first pair that crosses.
-fn first_pair(n: usize, order: &[u8], count: usize, lows: &[u8], highs: &[u8]) -> FirstCrossing
-    requires { ⌜ Searchable n (now order) count (now lows) (now highs) ⌝ }
-    ensures { λ r. ⌜ shown r ≡ found (firstPair (take n (now (order .entry))) (listed (now (lows .entry)) (now (highs .entry)) count)) ⌝ }
+fn first_pair(n: usize, order: &[u8], count: usize, ends: &[u8]) -> FirstCrossing
+    requires { ⌜ Searchable n (now order) count (now ends) ⌝ }
+    ensures { λ r. ⌜ shown r ≡ found (firstPair (take n (now (order .entry))) (listed (now (ends .entry)) count)) ⌝ }
 {
     let places = places_of(n, order);
     let mut first = 0;
@@ -38,10 +37,10 @@ fn first_pair(n: usize, order: &[u8], count: usize, lows: &[u8], highs: &[u8]) -
         if count <= first {
             break 'search FirstCrossing::Nothing;
         }
-        let e = edge_at(lows, highs, first);
+        let e = edge_at(ends, first);
         let mut second = first + 1;
         while second < count {
-            let f = edge_at(lows, highs, second);
+            let f = edge_at(ends, second);
             if cross(&places, e, f) {
                 break 'search FirstCrossing::Pair(e, f);
             }
@@ -51,45 +50,14 @@ fn first_pair(n: usize, order: &[u8], count: usize, lows: &[u8], highs: &[u8]) -
     }
 }
 
-// Lists the edges, sorted by lower, then higher end, and answers how many there are.
-fn list_edges(n: usize, adjacency: &[u64], lows: &mut [u8], highs: &mut [u8]) -> usize
-    requires { ⌜ (n ≤ 64) × (length (now adjacency) ≡ 64) × (length (now lows) ≡ 2016) × (length (now highs) ≡ 2016) ⌝ }
-    ensures { λ r. ⌜ (listed (now (lows .exit)) (now (highs .exit)) r ≡ edges n (now (adjacency .entry))) × (r ≤ 2016) ⌝ }
-{
-    let mut count = 0;
-    let mut a = 0;
-    while a < n {
-        count = list_row(n, adjacency[a], a, count, lows, highs);
-        a += 1;
-    }
-    count
-}
-
-// The edges from a to higher vertices, behind the first count. Answers how many are listed then.
-fn list_row(n: usize, word: u64, a: usize, count: usize, lows: &mut [u8], highs: &mut [u8]) -> usize
-    requires { ⌜ (n ≤ 64) × (a < n) × (count + 63 ≤ 2016 + a) × (length (now lows) ≡ 2016) × (length (now highs) ≡ 2016) ⌝ }
-    ensures { λ r. ⌜ RowListed word a (now (lows .entry)) (now (highs .entry)) count (now (lows .exit)) (now (highs .exit)) r n ⌝ }
-{
-    let mut end = count;
-    let mut b = a + 1;
-    while b < n {
-        if words::is_set(word, b) {
-            lows[end] = a as u8;
-            highs[end] = b as u8;
-            end += 1;
-        }
-        b += 1;
-    }
-    end
-}
-
-fn edge_at(lows: &[u8], highs: &[u8], i: usize) -> Edge
-    requires { ⌜ (i < length (now lows)) × (i < length (now highs)) ⌝ }
-    ensures { λ r. ⌜ r ≡ edgeAt (now (lows .entry)) (now (highs .entry)) i ⌝ }
+// The edge whose ends are the bytes at twice i and behind it.
+fn edge_at(ends: &[u8], i: usize) -> Edge
+    requires { ⌜ 2 * i + 1 < length (now ends) ⌝ }
+    ensures { λ r. ⌜ r ≡ edgeAt (now (ends .entry)) i ⌝ }
 {
     Edge {
-        low: lows[i] as usize,
-        high: highs[i] as usize,
+        low: ends[2 * i] as usize,
+        high: ends[2 * i + 1] as usize,
     }
 }
 

@@ -1,6 +1,6 @@
 -- The list of all edges of a graph: each edge is in it once, the words of its edges are the graph's, and its bytes are read as it.
 use Prim.Native.Nat.{ℕ, _*_, _^_, _≤_, _<_, min, max}
-use native.Mathlib.Nat.{zero-mul, one-mul, mul-one, lt-trans, lt-of-lt-of-le, le-of-lt, min-eq-left, min-eq-right, max-eq-left, max-eq-right}
+use native.Mathlib.Nat.{zero-mul, one-mul, lt-trans, lt-of-lt-of-le, le-of-lt, min-eq-left, min-eq-right, max-eq-left, max-eq-right}
 use native.Mathlib.Decide.{decLt}
 use native.Mathlib.Omega.{arith}
 use mathlib.Core.Path.{_≡_, refl, sym, ap, ap₂, _∙_}
@@ -16,11 +16,10 @@ use Rattle.model.specs.Crossings.{bit, linked, edges}
 use Rattle.model.specs.Charts.{edgesIn, sameEdge, edgeWithin}
 use Rattle.model.specs.WrittenCharts.{edgeBytes}
 use Rattle.laws.specs.Sums.Indicators.{Order, less, same, more, order, one-and, one-le, one-lt, one-ge, one-ne, both-left, both-right}
-use Rattle.laws.specs.Sums.Ranges.{sum, sum-ext, sum-zero, sum-const, sum-at}
-use Rattle.laws.specs.Sums.Lists.{All, none, also, sumOver-places, all-upto, all-kept, all-map, all-flatMap}
-use Rattle.laws.specs.Sums.Pairs.{pairSum, pairSum-ext, Symmetric}
+use Rattle.laws.specs.Sums.Ranges.{sum, sum-ext, sum-zero, sum-at}
+use Rattle.laws.specs.Sums.Lists.{All, none, also, all-upto, all-kept, all-map, all-flatMap}
+use Rattle.laws.specs.Sums.Pairs.{pairSum, Symmetric}
 use Rattle.laws.specs.Sums.Bits.{bit-beyond}
-use Rattle.laws.specs.Crossings.Bound.{pairSum-mono}
 use Rattle.laws.specs.Crossings.Edges.{weight, edge as rising, sumOver-edges}
 use Rattle.laws.specs.Crossings.Masks.{weight-bit}
 use Rattle.pairs.specs.Edges.{edge, edge-within, edge-outside}
@@ -39,12 +38,6 @@ module _ (n : ℕ) (e : Edge) (h : edgeWithin n e ≡ true) where
   edge-below = ltb-true (e .high) n (both-right (ltb (e .low) (e .high)) (ltb (e .high) n) h)
 
 -- ---- the bytes of some edges
-
--- two bytes for each
-pub edge-bytes-length : (es : List Edge) → length (edgeBytes es) ≡ 2 * length es
-unfolding edgeBytes flatMap
-edge-bytes-length [] = refl
-edge-bytes-length (e ∷ es) = omega (arith, edge-bytes-length es)
 
 -- what the ends have, the bytes have
 pub edge-bytes-all : {P : ℕ → Type 0} {es : List Edge} → All (λ e. P (e .low) × P (e .high)) es → All P (edgeBytes es)
@@ -140,22 +133,6 @@ edges-within n adj =
   where
     higher : ℕ → ℕ → Bool
     higher a b = ltb a b && linked adj a b
-
--- ---- how many there are
-
-edges-number : (n : ℕ) (adj : List ℕ) → length (edges n adj) ≡ pairSum n (weight adj)
-edges-number n adj =
-    sym (sumOver-places (λ e. 1) (rising 0 0) (edges n adj) ∙ sum-const (length (edges n adj)) 1 ∙ mul-one (length (edges n adj)))
-    ∙ sumOver-edges n adj (λ e. 1)
-    ∙ pairSum-ext n (λ a b. weight adj a b * 1) (weight adj) (λ a b l m. mul-one (weight adj a b))
-
--- each two of 64 vertices
-abbrev pub mostEdges : ℕ
-mostEdges = 2016
-
-pub edges-few : (n : ℕ) (adj : List ℕ) → n ≤ 64 → length (edges n adj) ≤ mostEdges
-unfolding pairSum sum one
-edges-few n adj h = rw (edges-number n adj) (pairSum-mono n 64 (weight adj) (λ a b. 1) h (λ a b l m. one-le (linked adj a b)))
 
 -- ---- the words of all edges
 

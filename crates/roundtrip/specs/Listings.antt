@@ -21,11 +21,13 @@ use Rattle.laws.specs.Sums.Lists.{All, none, also, all-append, all-mono, all-pl
 use Rattle.laws.specs.Sums.Every.{every-all}
 use Rattle.laws.specs.Orders.Permutations.{Permutation, at-lt}
 use Rattle.laws.specs.Layouts.Validity.{permutation-eachOnce}
+use Rattle.laws.specs.Crossings.Bound.{mostEdges}
+use Rattle.laws.specs.Buffers.EdgeBytes.{edge-bytes-length}
 use Rattle.bodies.specs.Words.{adjacencyOf}
 use Rattle.chart.specs.Padded.{padded}
 use Rattle.chart.specs.Laws.{read-number, read-is}
 use Rattle.roundtrip.specs.Fields.{fieldOf, field-bytes, allBytes, fields-read}
-use Rattle.roundtrip.specs.EdgeLists.{mostEdges, edge-rises, edge-below, edge-bytes-length, edge-bytes-all, edge-bytes-read}
+use Rattle.roundtrip.specs.EdgeLists.{edge-rises, edge-below, edge-bytes-all, edge-bytes-read}
 
 -- the three fields
 abbrev fieldsWith : ℕ → List Edge → List ℕ → List Field

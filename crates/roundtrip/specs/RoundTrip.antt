@@ -17,13 +17,14 @@ use Rattle.model.specs.Checks.{refusal}
 use Rattle.model.specs.Charts.{bodyOf, chartSize, chartEdges, chartOrder, sameEdge, chartChecks, readOf}
 use Rattle.model.specs.WrittenCharts.{chartOf, withTrueCount}
 use Rattle.laws.specs.Sums.Lists.{All}
+use Rattle.laws.specs.Crossings.Bound.{edges-few}
 use Rattle.laws.specs.Layouts.Sizes.{Sized}
 use Rattle.laws.specs.Layouts.Validity.{sound}
 use Rattle.chart.specs.Padded.{padded, padded-length, padded-at}
 use Rattle.chart.specs.Laws.{read-valid, read-sized, same-charts}
 use Rattle.chart.specs.Sequence.{Rewritten, rewriting-free}
 use Rattle.roundtrip.specs.Fields.{allBytes}
-use Rattle.roundtrip.specs.EdgeLists.{edges-few, edges-within, edges-once, edges-words}
+use Rattle.roundtrip.specs.EdgeLists.{edges-within, edges-once, edges-words}
 use Rattle.roundtrip.specs.Listings.{chartWith, Proper, chart-length, chart-bytes, chart-read}
 
 -- ---- what is written, as a listing
@@ -70,7 +71,7 @@ module _ (l : Layout) (t : T (valid l)) where
   pub written-length : length (chartOf l) ≤ 4106
   written-length = omega (arith, written-size, proper .few, proper .fewEdges)
 
-  -- "give the same written bytes": each number is below 256
+  -- each number is a byte
   pub written-bytes : All (λ b. b < 256) (chartOf l)
   written-bytes = rw (all-listed l) (chart-bytes (l .n) (edges (l .n) (l .adjacency)) (vertexOrder l) proper)
 
@@ -122,13 +123,16 @@ written-same s t p q e = sym (read-again s p) ∙ ap readOf e ∙ read-again t q
 
 -- ---- "Two charts of the same ring, however their links were listed, give the same written bytes."
 
+-- two layouts that differ in the carried count alone, and so two charts that give the same layout
 pub same-written : (l m : Layout) → withTrueCount l ≡ withTrueCount m → chartOf l ≡ chartOf m
 same-written l m e = sym (count-unwritten l) ∙ ap chartOf e ∙ count-unwritten m
 
+-- two accepted charts of the same vertices, order and edges
 pub listed-anyhow : (s t : List ℕ) → readOf s .refusal ≡ 0 → readOf t .refusal ≡ 0 → chartSize s ≡ chartSize t → chartOrder s ≡ chartOrder t
     → ((e : Edge) → any (sameEdge e) (chartEdges s) ≡ any (sameEdge e) (chartEdges t)) → chartOf (readOf s .layout) ≡ chartOf (readOf t .layout)
 listed-anyhow s t p q sizes orders links = ap (λ (r : ChartRead). chartOf (r .layout)) (same-charts s t p q sizes orders links)
 
+-- links in another sequence, ends either way round
 pub rewritten-written : (s t : List ℕ) → refusal (take 3 (chartChecks s)) ≡ 0 → refusal (take 3 (chartChecks t)) ≡ 0
     → bodyOf s 0 ≡ bodyOf t 0 → Rewritten (bodyOf s 1) (bodyOf t 1) → bodyOf s 2 ≡ bodyOf t 2
     → chartOf (readOf s .layout) ≡ chartOf (readOf t .layout)

@@ -1,14 +1,19 @@
--- How many crossings a layout of n vertices can have, and that complete graphs have as many. Over any weight of at most c.
+-- How many crossings a layout of n vertices can have, and that complete graphs have as many, over any weight of at most c. How many edges it can have.
 use Prim.Native.Nat.{ℕ, suc, _+_, _*_, _-_, _≤_, _<_}
-use native.Mathlib.Nat.{le-refl, le-trans, le-of-eq, le-antisymm, mul-le-mul, mul-le-mul-left, add-sub-of-le, le-add-right}
+use native.Mathlib.Nat.{le-refl, le-trans, le-of-eq, le-antisymm, mul-le-mul, mul-le-mul-left, mul-one, add-sub-of-le, le-add-right}
 use native.Mathlib.Omega.{arith}
 use mathlib.Core.Path.{_≡_, refl, sym, ap, ap₂, _∙_}
+use mathlib.Core.List.{List}
+use lib.ListN.{length}
 use lib.Dec.{ltb}
 use Rattle.model.specs.Lists.{one}
-use Rattle.laws.specs.Sums.Indicators.{less, same, more, order, one-ge}
+use Rattle.model.specs.Crossings.{linked, edges}
+use Rattle.laws.specs.Sums.Indicators.{less, same, more, order, one-ge, one-le}
 use Rattle.laws.specs.Sums.Ranges.{sum, sum-const, sum-cut, sum-below, sum-above, sum-mono}
+use Rattle.laws.specs.Sums.Lists.{sumOver-places}
 use Rattle.laws.specs.Sums.Pairs.{pairSum, pairSum-ext, pairSum-scale}
 use Rattle.laws.specs.Crossings.Counting.{crossingSum, crossingSum-counted}
+use Rattle.laws.specs.Crossings.Edges.{weight, edge, sumOver-edges}
 
 -- more terms make no less
 pub sum-more : (n m : ℕ) (f : ℕ → ℕ) → n ≤ m → sum n f ≤ sum m f
@@ -90,3 +95,19 @@ crossingSum-complete c w h =
     le-antisymm (crossingSum-mono 64 w (λ i j. c) (λ i j l b. le-of-eq (h i j l b))) (crossingSum-mono 64 (λ i j. c) w (λ i j l b. le-of-eq (sym (h i j l b))))
     ∙ complete-sum 64 c
     ∙ ap (λ (x : ℕ). c * c * x) quadruples-most
+
+-- ---- the most edges
+
+edges-number : (n : ℕ) (adj : List ℕ) → length (edges n adj) ≡ pairSum n (weight adj)
+edges-number n adj =
+    sym (sumOver-places (λ e. 1) (edge 0 0) (edges n adj) ∙ sum-const (length (edges n adj)) 1 ∙ mul-one (length (edges n adj)))
+    ∙ sumOver-edges n adj (λ e. 1)
+    ∙ pairSum-ext n (λ a b. weight adj a b * 1) (weight adj) (λ a b l m. mul-one (weight adj a b))
+
+-- each two of 64 vertices
+abbrev pub mostEdges : ℕ
+mostEdges = 2016
+
+pub edges-few : (n : ℕ) (adj : List ℕ) → n ≤ 64 → length (edges n adj) ≤ mostEdges
+unfolding pairSum sum one
+edges-few n adj h = rw (edges-number n adj) (pairSum-mono n 64 (weight adj) (λ a b. 1) h (λ a b l m. one-le (linked adj a b)))

@@ -3,26 +3,26 @@ use native.Mathlib.Omega.{arith}
 use mathlib.Core.Path.{sym}
 use Rattle.model.specs.Reading.{shown}
 use Rattle.laws.specs.Layouts.FirstCrossing.{found}
-use Rattle.crossing.specs.Search.{FirstsPassed, SecondsPassed, in-arrays, ends-below, firsts-start, firsts-end, firsts-next}
+use Rattle.crossing.specs.Search.{FirstsPassed, SecondsPassed, in-array, ends-below, firsts-start, firsts-end, firsts-next}
 use Rattle.crossing.specs.Search.{seconds-start, seconds-next, pair-found}
 use Rattle.crossing.proofs.crossing.first_pair.Statement.{statement}
 use Rattle.crossing.proofs.crossing.first_pair.Tie as tie
 
 abbrev Inv-loop : tie.InvT-loop
-Inv-loop n order count lows highs places first e second₀ second = SecondsPassed n order count lows highs first second
+Inv-loop n order count ends places first e second₀ second = SecondsPassed n order count ends first second
 
 abbrev μ-loop : tie.MeasureT-loop
-μ-loop n order count lows highs places first e second₀ second = count - second
+μ-loop n order count ends places first e second₀ second = count - second
 
 abbrev Inv-search : tie.InvT-search
-Inv-search n order count lows highs places first₀ first = FirstsPassed n order count lows highs first
+Inv-search n order count ends places first₀ first = FirstsPassed n order count ends first
 
 abbrev μ-search : tie.MeasureT-search
-μ-search n order count lows highs places first₀ first = count - first
+μ-search n order count ends places first₀ first = count - first
 
 -- the function's start
 abbrev start : tie.At-search Inv-loop μ-loop Inv-search μ-search → tie.Start Inv-loop μ-loop Inv-search μ-search
-start c = c .before .before .before .before .before
+start c = c .before .before .before .before
 
 -- from the inner loop to the test that the outer one goes on
 abbrev row-of : tie.At-loop Inv-loop μ-loop Inv-search μ-search → tie.Else1 Inv-loop μ-loop Inv-search μ-search
@@ -30,14 +30,14 @@ row-of c = c .before .before
 
 places-of-requires : tie.Need-places-of-requires Inv-loop μ-loop Inv-search μ-search
 places-of-requires c κs =
-    let given = c .before .before .before .pre in
+    let given = c .before .before .pre in
     (given .small, given .order-size, given .permutation)
 
 search-holds : tie.Need-search-holds Inv-loop μ-loop Inv-search μ-search
 search-holds c = firsts-start
 
 edge-at-requires : tie.Need-edge-at-requires Inv-loop μ-loop Inv-search μ-search
-edge-at-requires c κs = in-arrays (start (c .before) .pre) (c .if1 .left)
+edge-at-requires c κs = in-array (start (c .before) .pre) (c .if1 .left)
 
 add-second : tie.Need-add-second Inv-loop μ-loop Inv-search μ-search
 add-second c = omega arith
@@ -46,7 +46,7 @@ loop-holds : tie.Need-loop-holds Inv-loop μ-loop Inv-search μ-search
 loop-holds c = seconds-start (c .before .if1 .left)
 
 edge-at-requires-2 : tie.Need-edge-at-requires-2 Inv-loop μ-loop Inv-search μ-search
-edge-at-requires-2 c κs = in-arrays (start (row-of (c .before) .before) .pre) (c .loop-test .taken)
+edge-at-requires-2 c κs = in-array (start (row-of (c .before) .before) .pre) (c .loop-test .taken)
 
 slice-aggregate-cross : tie.Need-slice-aggregate-cross Inv-loop μ-loop Inv-search μ-search
 slice-aggregate-cross c =
