@@ -1,11 +1,11 @@
--- A chart written from n, a list of edges in any sequence, and an order: how long it is, and what reading it gives.
-use Prim.Native.Nat.{ℕ, _+_, _*_, _%_, _≤_, _<_}
+-- A chart written from n, a list of edges in any sequence, and an order: it is of bytes, and what reading it gives.
+use Prim.Native.Nat.{ℕ, _%_, _≤_, _<_}
 use native.Mathlib.Nat.{mul-mod-right, le-of-lt}
 use native.Mathlib.Omega.{arith}
 use mathlib.Core.Path.{_≡_, ap, _∙_}
 use mathlib.Core.Bool.{true}
-use mathlib.Core.List.{List, [], _∷_, flatMap}
-use lib.ListN.{length, getD, length-append}
+use mathlib.Core.List.{List, [], _∷_, flatMap, append-assoc, append-nil}
+use lib.ListN.{length, getD}
 use borrow.Author.Tests.{le-leb, eq-eqb}
 use Rattle.model.specs.declared.Edge.{Edge}
 use Rattle.model.specs.declared.Layout.{Layout}
@@ -15,7 +15,7 @@ use Rattle.model.specs.Layouts.{eachOnce}
 use Rattle.model.specs.Checks.{refusal}
 use Rattle.model.specs.Charts.{Field, Fields, fieldsOf, bodyOf, chartSize, chartEdges, chartOrder, edgesIn, sameList, sameEdge, edgeWithin}
 use Rattle.model.specs.Charts.{chartChecks, sizeChecks, endChecks, repeatChecks, placeChecks, chartLayout, readOf}
-use Rattle.model.specs.WrittenCharts.{fieldBytes, edgeBytes}
+use Rattle.model.specs.WrittenCharts.{edgeBytes}
 use Rattle.laws.specs.Sums.Indicators.{T-true}
 use Rattle.laws.specs.Sums.Lists.{All, none, also, all-append, all-mono, all-places}
 use Rattle.laws.specs.Sums.Every.{every-all}
@@ -23,6 +23,7 @@ use Rattle.laws.specs.Orders.Permutations.{Permutation, at-lt}
 use Rattle.laws.specs.Layouts.Validity.{permutation-eachOnce}
 use Rattle.laws.specs.Crossings.Bound.{mostEdges}
 use Rattle.laws.specs.Buffers.EdgeBytes.{edge-bytes-length}
+use Rattle.laws.specs.Buffers.Charts.{chartWith, chart-length}
 use Rattle.bodies.specs.Words.{adjacencyOf}
 use Rattle.chart.specs.Padded.{padded}
 use Rattle.chart.specs.Laws.{read-number, read-is}
@@ -33,8 +34,9 @@ use Rattle.roundtrip.specs.EdgeLists.{edge-rises, edge-below, edge-bytes
 abbrev fieldsWith : ℕ → List Edge → List ℕ → List Field
 fieldsWith n es o = fieldOf 0x44 (n ∷ []) ∷ fieldOf 0x4C (edgeBytes es) ∷ fieldOf 0x52 o ∷ []
 
-unfoldable pub chartWith : ℕ → List Edge → List ℕ → List ℕ
-chartWith n es o = allBytes (fieldsWith n es o)
+fields-written : (n : ℕ) (es : List Edge) (o : List ℕ) → chartWith n es o ≡ allBytes (fieldsWith n es o)
+unfolding chartWith allBytes flatMap
+fields-written n es o = simp (append-assoc, append-nil)
 
 -- what the questions ask of them
 pub record Proper (n : ℕ) (es : List Edge) (o : List ℕ) : Type 0 where
@@ -45,22 +47,18 @@ pub record Proper (n : ℕ) (es : List Edge) (o : List ℕ) : Type 0 where
   pub permutation : Permutation n o
 
 module _ (n : ℕ) (es : List Edge) (o : List ℕ) where
-  -- three headers, one byte for n, two for each edge, and one for each place of the order
-  pub chart-length : length (chartWith n es o) ≡ 10 + 2 * length es + length o
-  unfolding chartWith allBytes flatMap fieldBytes
-  chart-length = simp length-append (omega (arith, edge-bytes-length es))
-
   module _ (p : Proper n es o) where
     chart : List ℕ
     chart = chartWith n es o
 
     -- each number is a byte
     pub chart-bytes : All (λ b. b < 256) (chartWith n es o)
-    unfolding chartWith allBytes flatMap
+    unfolding chartWith
     chart-bytes =
-        all-append (field-bytes 0x44 (omega arith) (omega arith) (also (omega (arith, p .few)) none))
-        (all-append (field-bytes 0x4C (omega arith) (omega (arith, edge-bytes-length es, p .fewEdges)) (edge-bytes-all (all-mono (p .within) ends)))
-        (all-append (field-bytes 0x52 (omega arith) (omega (arith, p .permutation .size, p .few)) (all-places o places)) none))
+        all-append
+        (all-append (field-bytes 0x44 (omega arith) (omega arith) (also (omega (arith, p .few)) none))
+        (field-bytes 0x4C (omega arith) (omega (arith, edge-bytes-length es, p .fewEdges)) (edge-bytes-all (all-mono (p .within) ends))))
+        (field-bytes 0x52 (omega arith) (omega (arith, p .permutation .size, p .few)) (all-places o places))
       where
         ends : (e : Edge) → edgeWithin n e ≡ true → (e .low < 256) × (e .high < 256)
         ends e h = (omega (arith, p .few, edge-rises n e h, edge-below n e h), omega (arith, p .few, edge-below n e h))
@@ -72,11 +70,11 @@ module _ (n : ℕ) (es : List Edge) (o : List ℕ) where
 
     short : length chart ≤ 8192
     unfolding chart
-    short = omega (arith, chart-length, p .fewEdges, p .few, p .permutation .size)
+    short = omega (arith, chart-length n es o, p .fewEdges, p .few, p .permutation .size)
 
     fields : fieldsOf chart ≡ record { complete = true; fields = fieldsWith n es o }
-    unfolding chart chartWith
-    fields = fields-read (fieldsWith n es o)
+    unfolding chart
+    fields = ap fieldsOf (fields-written n es o) ∙ fields-read (fieldsWith n es o)
 
     body : (i : ℕ) → bodyOf chart i ≡ getD (fieldsWith n es o) i (fieldOf 0 []) .body
     unfolding bodyOf

@@ -3,7 +3,7 @@ use Prim.Native.Nat.{ℕ, _+_, _*_, _≤_, _<_}
 use native.Mathlib.Decide.{decLt}
 use native.Mathlib.Omega.{arith}
 use mathlib.Core.Path.{_≡_, refl, sym, ap, ap₂, _∙_}
-use mathlib.Core.List.{List, flatMap, append-assoc, append-nil}
+use mathlib.Core.List.{List}
 use lib.ListN.{length, getD, take, length-take, List·getD-eq-default}
 use lib.Seq.{ext-getD, getD-take}
 use lib.Dec.{T}
@@ -18,21 +18,14 @@ use Rattle.model.specs.Charts.{bodyOf, chartSize, chartEdges, chartOrder, sameE
 use Rattle.model.specs.WrittenCharts.{chartOf, withTrueCount}
 use Rattle.laws.specs.Sums.Lists.{All}
 use Rattle.laws.specs.Crossings.Bound.{edges-few}
+use Rattle.laws.specs.Buffers.Charts.{chart-edges, chart-length}
 use Rattle.laws.specs.Layouts.Sizes.{Sized}
 use Rattle.laws.specs.Layouts.Validity.{sound}
 use Rattle.chart.specs.Padded.{padded, padded-length, padded-at}
 use Rattle.chart.specs.Laws.{read-valid, read-sized, same-charts}
 use Rattle.chart.specs.Sequence.{Rewritten, rewriting-free}
-use Rattle.roundtrip.specs.Fields.{allBytes}
 use Rattle.roundtrip.specs.EdgeLists.{edges-within, edges-once, edges-words}
-use Rattle.roundtrip.specs.Listings.{chartWith, Proper, chart-length, chart-bytes, chart-read}
-
--- ---- what is written, as a listing
-
--- the chart of a layout lists all its edges
-all-listed : (l : Layout) → chartOf l ≡ chartWith (l .n) (edges (l .n) (l .adjacency)) (vertexOrder l)
-unfolding chartOf chartWith allBytes flatMap
-all-listed l = simp (append-assoc, append-nil)
+use Rattle.roundtrip.specs.Listings.{Proper, chart-bytes, chart-read}
 
 -- a list that is 0 from place n on is its first n entries, filled up with 0
 padded-again : (n : ℕ) (o : List ℕ) → length o ≡ 64 → ((i : ℕ) → n ≤ i → i < 64 → getD o i 0 ≡ 0) → padded (take n o) ≡ o
@@ -63,7 +56,7 @@ module _ (l : Layout) (t : T (valid l)) where
   -- three headers, one byte for n, two for each edge, one for each place
   pub written-size : length (chartOf l) ≡ 10 + 2 * length (edges (l .n) (l .adjacency)) + l .n
   written-size =
-      ap length (all-listed l)
+      ap length (chart-edges l)
       ∙ chart-length (l .n) (edges (l .n) (l .adjacency)) (vertexOrder l)
       ∙ ap (λ (k : ℕ). 10 + 2 * length (edges (l .n) (l .adjacency)) + k) (proper .permutation .size)
 
@@ -73,7 +66,7 @@ module _ (l : Layout) (t : T (valid l)) where
 
   -- each number is a byte
   pub written-bytes : All (λ b. b < 256) (chartOf l)
-  written-bytes = rw (all-listed l) (chart-bytes (l .n) (edges (l .n) (l .adjacency)) (vertexOrder l) proper)
+  written-bytes = rw (chart-edges l) (chart-bytes (l .n) (edges (l .n) (l .adjacency)) (vertexOrder l) proper)
 
 -- ---- read back
 
@@ -81,7 +74,7 @@ module _ (l : Layout) (t : T (valid l)) where
 pub written-read : (l : Layout) → Sized l → T (valid l) → readOf (chartOf l) ≡ record { refusal = 0; layout = withTrueCount l }
 unfolding withTrueCount crossingsOf vertexOrder
 written-read l s t =
-    ap readOf (all-listed l)
+    ap readOf (chart-edges l)
     ∙ chart-read (l .n) (edges (l .n) (l .adjacency)) (vertexOrder l) (proper l t)
     ∙ ap₂ read-as
     (padded-again (l .n) (l .order) (s .places) (sound l t .places))

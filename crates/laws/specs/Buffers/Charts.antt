@@ -1,0 +1,25 @@
+-- The bytes of a chart, from n, a list of edges in any sequence and an order.
+use Prim.Native.Nat.{ℕ, _+_, _*_}
+use native.Mathlib.Omega.{arith}
+use mathlib.Core.Path.{_≡_, refl}
+use mathlib.Core.List.{List, [], _∷_, _++_}
+use lib.ListN.{length, length-append}
+use Rattle.model.specs.declared.Edge.{Edge}
+use Rattle.model.specs.declared.Layout.{Layout}
+use Rattle.model.specs.Crossings.{edges}
+use Rattle.model.specs.Layouts.{vertexOrder}
+use Rattle.model.specs.WrittenCharts.{fieldBytes, edgeBytes, chartOf}
+use Rattle.laws.specs.Buffers.EdgeBytes.{edge-bytes-length}
+
+unfoldable pub chartWith : ℕ → List Edge → List ℕ → List ℕ
+chartWith n es o = fieldBytes 0x44 (n ∷ []) ++ fieldBytes 0x4C (edgeBytes es) ++ fieldBytes 0x52 o
+
+-- the chart of a layout has all its edges
+pub chart-edges : (l : Layout) → chartOf l ≡ chartWith (l .n) (edges (l .n) (l .adjacency)) (vertexOrder l)
+unfolding chartOf chartWith
+chart-edges l = refl
+
+-- three headers, one byte for n, two for each edge, and one for each place of the order
+pub chart-length : (n : ℕ) (es : List Edge) (o : List ℕ) → length (chartWith n es o) ≡ 10 + 2 * length es + length o
+unfolding chartWith fieldBytes
+chart-length n es o = simp length-append (omega (arith, edge-bytes-length es))

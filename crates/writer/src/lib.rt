@@ -1,0 +1,86 @@
+// Writing the chart of a layout (ring) into a lent buffer (document 02, Note 1).
+ghost use mathlib.Core.Path.{_≡_};
+ghost use mathlib.Core.List.{[], _∷_};
+ghost use Prim.Native.Nat.{_+_, _*_, _/_, _%_, _≤_, _<_};
+ghost use lib.ListN.{length};
+ghost use Rattle.model.specs.Crossings.{edges};
+ghost use Rattle.model.specs.WrittenCharts.{fieldBytes, edgeBytes, writeOf, writtenBytes};
+ghost use Rattle.laws.specs.Buffers.Writing.{Written};
+ghost use Rattle.laws.specs.Buffers.Charts.{chartWith};
+ghost use Rattle.text.specs.Room.{Put};
+ghost use Rattle.writer.specs.Fields.{ChartFits};
+use edge_list::edge_count;
+use edge_list::put_edges;
+use model::ChartWritten;
+use model::Layout;
+use text::put_text;
+use validity::is_valid;
+
+// Writes the chart to the start of the buffer, and answers its length. The bytes beyond it keep
+// their contents.
+pub fn write(l: Layout, buffer: &mut [u8]) -> ChartWritten
+    ensures { λ r. ⌜ r ≡ writeOf l (now (buffer .entry)) ⌝ }
+    ensures { λ r. ⌜ now (buffer .exit) ≡ writtenBytes l (now (buffer .entry)) ⌝ }
+{
+    if !is_valid(l) {
+        return refused(11);
+    }
+    let n = l.n;
+    let adjacency = l.adjacency;
+    let links = 2 * edge_count(n, &adjacency) as usize;
+    let length = 10 + links + n;
+    if buffer.len() < length {
+        return refused(19);
+    }
+    let order = l.order;
+    put_chart(buffer, links, &adjacency, &order[..n]);
+    ChartWritten { refusal: 0, length }
+}
+
+fn refused(code: u8) -> ChartWritten
+    ensures { λ r. ⌜ r ≡ record { refusal = code; length = 0 } ⌝ }
+{
+    ChartWritten {
+        refusal: code,
+        length: 0,
+    }
+}
+
+// The fields 44, 4C and 52 of as many vertices as the order has, with links bytes for the edges.
+// Answers where they end.
+fn put_chart(out: &mut [u8], links: usize, adjacency: &[u64; 64], order: &[u8]) -> usize
+    requires { ⌜ ChartFits (length (now order)) links (now adjacency) (now out) ⌝ }
+    ensures { λ r. let o = now (order .entry) in
+        ⌜ Written (now (out .entry)) 0 (chartWith (length o) (edges (length o) (now (adjacency .entry))) o) (now (out .exit)) r ⌝ }
+{
+    let n = order.len();
+    let size = [n as u8];
+    let links_field = put_field(out, 0, 0x44, &size);
+    let order_field = put_links(out, links_field, n, links, adjacency);
+    put_field(out, order_field, 0x52, order)
+}
+
+// Field 4C, with a body of links bytes.
+fn put_links(out: &mut [u8], at: usize, n: usize, links: usize, adjacency: &[u64; 64]) -> usize
+    requires { ⌜ (n ≤ 64) × (links ≡ 2 * length (edges n (now adjacency))) × (at + 3 + links ≤ length (now out)) ⌝ }
+    ensures { λ r. ⌜ Written (now (out .entry)) at (fieldBytes 0x4C (edgeBytes (edges n (now (adjacency .entry))))) (now (out .exit)) r ⌝ }
+{
+    let body = put_header(out, at, 0x4C, links);
+    put_edges(out, body, n, adjacency)
+}
+
+fn put_field(out: &mut [u8], at: usize, tag: u8, body: &[u8]) -> usize
+    requires { ⌜ (length (now body) < 65536) × (at + 3 + length (now body) ≤ length (now out)) ⌝ }
+    ensures { λ r. ⌜ Written (now (out .entry)) at (fieldBytes tag (now (body .entry))) (now (out .exit)) r ⌝ }
+{
+    let start = put_header(out, at, tag, body.len());
+    put_text(out, start, body)
+}
+
+// The tag, and the length of the body, the high byte first.
+fn put_header(out: &mut [u8], at: usize, tag: u8, size: usize) -> usize
+    ensures { λ r. ⌜ Put 3 (now (out .entry)) at (tag ∷ size / 256 % 256 ∷ size % 256 ∷ []) (now (out .exit)) r ⌝ }
+{
+    let header = [tag, (size / 256 % 256) as u8, (size % 256) as u8];
+    put_text(out, at, &header)
+}
