@@ -3,6 +3,8 @@ ghost use mathlib.Core.Path.{_≡_};
 ghost use Rattle.model.specs.Layouts.{valid};
 ghost use Rattle.model.specs.Reading.{countOf, orderRefusal, orderBytes};
 ghost use Rattle.model.specs.Reports.{readOver, crossingReportOf};
+ghost use Rattle.model.specs.WrittenCharts.{writeOf, writtenBytes};
+use model::ChartWritten;
 use model::Counted;
 use model::CrossingReport;
 use model::Layout;
@@ -47,4 +49,13 @@ pub extern "C" fn rl_order(l: &Layout, buffer: &mut [u8]) -> u8
         × (now (buffer .exit) ≡ orderBytes (now (l .entry)) (now (buffer .entry))) ⌝ }
 {
     reads::order(*l, buffer)
+}
+
+// Writes the layout's chart to the start of the buffer, and answers its length.
+#[no_mangle]
+pub extern "C" fn rl_write_chart(l: &Layout, buffer: &mut [u8]) -> ChartWritten
+    ensures { λ r. ⌜ (r ≡ writeOf (now (l .entry)) (now (buffer .entry)))
+        × (now (buffer .exit) ≡ writtenBytes (now (l .entry)) (now (buffer .entry))) ⌝ }
+{
+    writer::write(*l, buffer)
 }
