@@ -37,7 +37,7 @@ fn play_next(l: Layout) -> Played {
     if player::starts_chart(&record[..got]) {
         return play_chart(l, player::number(&record[..got], 8));
     }
-    let mut line = io::buffer();
+    let mut line = io::large_buffer();
     let played = player::play(l, &record[..got], &mut line);
     let written = played.written;
     io::write_all(STDOUT_FILENO, &line[..written]);
@@ -52,7 +52,7 @@ fn play_chart(l: Layout, length: u64) -> Played {
 
 fn play_kept(l: Layout, length: u64, chart: &mut [u8]) -> Played {
     let is_whole = read_chart(length, chart);
-    let mut line = io::buffer();
+    let mut line = io::large_buffer();
     let played = player::play_chart(l, chart, is_whole, &mut line);
     let written = played.written;
     io::write_all(STDOUT_FILENO, &line[..written]);

@@ -7,5 +7,5 @@ use lib.ListN.{length}
 use lib.Seq.{length-take-le}
 use Rattle.io.specs.Counts.{Counts}
 
-pub counted : (n : ℕ) (line : List ℕ) → n ≤ 4096 → length line ≡ 4096 → Counts n line
+pub counted : (n : ℕ) (line : List ℕ) → n ≤ 65536 → length line ≡ 65536 → Counts n line
 counted n line few size = let fits : n ≤ length line = omega arith in (fits, sym (length-take-le n line fits))

@@ -11,7 +11,7 @@ use replies::play_call;
 use text::put_text;
 
 // Plays a record that starts from no chart, and ends the list at one that is cut short.
-pub fn play(l: Layout, record: &[u8], line: &mut [u8; 4096]) -> Played
+pub fn play(l: Layout, record: &[u8], line: &mut [u8; 65536]) -> Played
     ensures { λ r. ⌜ Counts (r .written) (now (line .exit)) ⌝ }
 {
     if record.len() < 32 {
@@ -32,7 +32,7 @@ pub fn starts_chart(record: &[u8]) -> bool {
 }
 
 // Starts from the bytes kept of a chart, and ends the list at one that is cut short.
-pub fn play_chart(l: Layout, bytes: &[u8], is_whole: bool, line: &mut [u8; 4096]) -> Played
+pub fn play_chart(l: Layout, bytes: &[u8], is_whole: bool, line: &mut [u8; 65536]) -> Played
     ensures { λ r. ⌜ Counts (r .written) (now (line .exit)) ⌝ }
 {
     if !is_whole {
@@ -43,7 +43,7 @@ pub fn play_chart(l: Layout, bytes: &[u8], is_whole: bool, line: &mut [u8; 4096]
 
 // What the table of ops says, but for charts.
 fn play_op(l: Layout, op: u64, a: u64, b: u64, line: &mut [u8]) -> Played
-    ensures { λ r. ⌜ r .written ≤ 4096 ⌝ }
+    ensures { λ r. ⌜ r .written ≤ 65536 ⌝ }
 {
     match op {
         0 => starts::empty(l, line),
@@ -54,13 +54,14 @@ fn play_op(l: Layout, op: u64, a: u64, b: u64, line: &mut [u8]) -> Played
         24 => views::count(l, line),
         25 => views::order(l, a, b, line),
         26 => views::pair(l, line),
+        27 => views::write(l, a, b, line),
         _ => play_decoded(l, encoding::call_of(op, a as usize, b as usize), line),
     }
 }
 
 // A call, or the end of the list.
 fn play_decoded(l: Layout, decoded: Decoded, line: &mut [u8]) -> Played
-    ensures { λ r. ⌜ r .written ≤ 4096 ⌝ }
+    ensures { λ r. ⌜ r .written ≤ 65536 ⌝ }
 {
     let Decoded::Next(c) = decoded else {
         return end(l, line);
@@ -70,7 +71,7 @@ fn play_decoded(l: Layout, decoded: Decoded, line: &mut [u8]) -> Played
 
 // The list ends here.
 fn end(l: Layout, line: &mut [u8]) -> Played
-    ensures { λ r. ⌜ r .written ≤ 4096 ⌝ }
+    ensures { λ r. ⌜ r .written ≤ 65536 ⌝ }
 {
     let written = put_text(line, 0, b"end\n");
     Played {

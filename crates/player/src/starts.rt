@@ -6,14 +6,14 @@ use answers::told;
 use model::Layout;
 
 pub(crate) fn empty(l: Layout, line: &mut [u8]) -> Played
-    ensures { λ r. ⌜ r .written ≤ 4096 ⌝ }
+    ensures { λ r. ⌜ r .written ≤ 65536 ⌝ }
 {
     let at = put_head(line, b"empty", 0);
     told(line, at, l, layout::empty())
 }
 
 pub(crate) fn read_chart(l: Layout, bytes: &[u8], line: &mut [u8]) -> Played
-    ensures { λ r. ⌜ r .written ≤ 4096 ⌝ }
+    ensures { λ r. ⌜ r .written ≤ 65536 ⌝ }
 {
     let answer = chart::read(bytes);
     let after = answer.layout;

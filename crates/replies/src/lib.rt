@@ -12,7 +12,7 @@ use text::put_text;
 
 // Makes the call and writes its line.
 pub fn play_call(l: Layout, c: Call, line: &mut [u8]) -> Played
-    ensures { λ r. ⌜ r .written ≤ 4096 ⌝ }
+    ensures { λ r. ⌜ r .written ≤ 65536 ⌝ }
 {
     let answer = steps::step(l, c);
     let after = answer.layout;

@@ -1,5 +1,5 @@
 // The calls that only read a layout, each with its answer line.
-ghost use Prim.Native.Nat.{_+_, _≤_};
+ghost use Prim.Native.Nat.{_+_, _*_, _≤_};
 ghost use mathlib.Core.Path.{_≡_};
 ghost use lib.ListN.{length};
 use answers::Played;
@@ -7,13 +7,14 @@ use answers::put_head;
 use answers::told;
 use decimals::put_bytes;
 use decimals::put_number;
+use model::ChartWritten;
 use model::Edge;
 use model::FirstCrossing;
 use model::Layout;
 use text::put_text;
 
 pub fn count(l: Layout, line: &mut [u8]) -> Played
-    ensures { λ r. ⌜ r .written ≤ 4096 ⌝ }
+    ensures { λ r. ⌜ r .written ≤ 65536 ⌝ }
 {
     let answer = reads::count(l);
     let at = put_head(line, b"count", answer.refusal);
@@ -24,26 +25,60 @@ pub fn count(l: Layout, line: &mut [u8]) -> Played
 // Reads the order into a buffer of size bytes, or 255 if that is less, each of which holds fill
 // modulo 256 before the call.
 pub fn order(l: Layout, size: u64, fill: u64, line: &mut [u8]) -> Played
-    ensures { λ r. ⌜ r .written ≤ 4096 ⌝ }
+    ensures { λ r. ⌜ r .written ≤ 65536 ⌝ }
 {
     let mut buffer = filled((fill % 256) as u8);
-    let lent = at_most_255(size);
+    let lent = at_most(size, 255);
     order_into(l, line, &mut buffer[..lent])
 }
 
 fn order_into(l: Layout, line: &mut [u8], buffer: &mut [u8]) -> Played
     requires { ⌜ length (now buffer) ≤ 255 ⌝ }
-    ensures { λ r. ⌜ r .written ≤ 4096 ⌝ }
+    ensures { λ r. ⌜ r .written ≤ 65536 ⌝ }
 {
     let refusal = reads::order(l, buffer);
     let head_end = put_head(line, b"order", refusal);
-    let name_end = put_text(line, head_end, b" buffer");
-    let end = put_bytes(line, name_end, buffer);
+    let end = put_buffer(line, head_end, buffer);
     told(line, end, l, l)
 }
 
+// Writes the chart into a buffer of size bytes, or 8,192 if that is less, each of which holds fill
+// modulo 256 before the call.
+pub fn write(l: Layout, size: u64, fill: u64, line: &mut [u8]) -> Played
+    ensures { λ r. ⌜ r .written ≤ 65536 ⌝ }
+{
+    let mut buffer = filled((fill % 256) as u8);
+    let lent = at_most(size, 8192);
+    write_into(l, line, &mut buffer[..lent])
+}
+
+fn write_into(l: Layout, line: &mut [u8], buffer: &mut [u8]) -> Played
+    requires { ⌜ length (now buffer) ≤ 8192 ⌝ }
+    ensures { λ r. ⌜ r .written ≤ 65536 ⌝ }
+{
+    let answer = writer::write(l, buffer);
+    let length_end = put_written(line, answer);
+    let end = put_buffer(line, length_end, buffer);
+    told(line, end, l, l)
+}
+
+fn put_written(line: &mut [u8], answer: ChartWritten) -> usize
+    ensures { λ r. ⌜ r ≤ 30 ⌝ }
+{
+    let head_end = put_head(line, b"write", answer.refusal);
+    put_number(line, head_end, answer.length as u64)
+}
+
+// Each byte of the buffer after the call.
+fn put_buffer(line: &mut [u8], at: usize, buffer: &[u8]) -> usize
+    ensures { λ r. ⌜ r ≤ at + 7 + 4 * length (now (buffer .entry)) ⌝ }
+{
+    let name_end = put_text(line, at, b" buffer");
+    put_bytes(line, name_end, buffer)
+}
+
 pub fn pair(l: Layout, line: &mut [u8]) -> Played
-    ensures { λ r. ⌜ r .written ≤ 4096 ⌝ }
+    ensures { λ r. ⌜ r .written ≤ 65536 ⌝ }
 {
     let answer = crossing::first_crossing(l);
     let end = put_crossing(line, answer);
@@ -74,14 +109,18 @@ fn put_edge(line: &mut [u8], at: usize, edge: Edge) -> usize
     put_number(line, end, edge.high as u64)
 }
 
-fn filled(byte: u8) -> [u8; 255]
-    ensures { λ r. ⌜ 255 ≡ length r ⌝ }
+fn filled(byte: u8) -> [u8; 8192]
+    ensures { λ r. ⌜ 8192 ≡ length r ⌝ }
 {
-    [byte; 255]
+    [byte; 8192]
 }
 
-fn at_most_255(size: u64) -> usize
-    ensures { λ r. ⌜ r ≤ 255 ⌝ }
+fn at_most(size: u64, most: usize) -> usize
+    ensures { λ r. ⌜ r ≤ most ⌝ }
 {
-    if size < 255 { size as usize } else { 255 }
+    if size < most as u64 {
+        size as usize
+    } else {
+        most
+    }
 }

@@ -11,17 +11,17 @@ cast-filled c = search needs
 filled-requires : tie.Need-filled-requires
 filled-requires c κs = search needs
 
-at-most-255-requires : tie.Need-at-most-255-requires
-at-most-255-requires c κs = search needs
+at-most-requires : tie.Need-at-most-requires
+at-most-requires c κs = search needs
 
 array-borrow-prefix-buffer : tie.Need-array-borrow-prefix-buffer
 array-borrow-prefix-buffer c = search needs
 
 slice-aggregate-order-into : tie.Need-slice-aggregate-order-into
-slice-aggregate-order-into c = sym (length-take-le (c .before .before .at-most-255 .result) (c .before .before .before .filled .result) (omega arith))
+slice-aggregate-order-into c = sym (length-take-le (c .before .before .at-most .result) (c .before .before .before .filled .result) (omega arith))
 
 order-into-requires : tie.Need-order-into-requires
-order-into-requires c κs = omega (arith, length-take-le (c .before .before .at-most-255 .result) (c .before .before .before .filled .result) (omega arith))
+order-into-requires c κs = omega (arith, length-take-le (c .before .before .at-most .result) (c .before .before .before .filled .result) (omega arith))
 
 same-length : tie.Need-same-length
 same-length c = search needs
@@ -35,7 +35,7 @@ order-spec =
     (tie.spec
     cast-filled
     filled-requires
-    at-most-255-requires
+    at-most-requires
     array-borrow-prefix-buffer
     slice-aggregate-order-into
     order-into-requires
