@@ -1,66 +1,98 @@
 -- What the call that writes a chart answers, and leaves in the buffer, by its checks.
-use Prim.Native.Nat.{ℕ, _+_, _*_, _≤_, _<_}
+use Prim.Native.Nat.{ℕ, _+_, _*_, _≤_}
 use native.Mathlib.Omega.{arith}
-use mathlib.Core.Path.{_≡_, refl, sym, ap, ap₂, _∙_, subst}
-use mathlib.Core.Bool.{true, false}
-use mathlib.Core.List.{List, _++_}
-use lib.ListN.{length, take, drop}
+use mathlib.Core.Path.{_≡_, refl, sym, ap, _∙_, subst}
+use mathlib.Core.Bool.{Bool, true, false, cond}
+use mathlib.Core.List.{List, [], _∷_}
+use lib.ListN.{length, take}
 use lib.Seq.{length-take-le}
-use lib.Dec.{T}
-use borrow.Author.Tests.{le-leb, lt-leb}
+use lib.Dec.{T, leb, lit<}
+use borrow.Author.Tests.{le-leb, leb-true}
 use Rattle.model.specs.declared.Layout.{Layout}
 use Rattle.model.specs.declared.ChartWritten.{ChartWritten}
 use Rattle.model.specs.Crossings.{edges}
 use Rattle.model.specs.Layouts.{vertexOrder, valid}
-use Rattle.model.specs.Checks.{refusal, byRefusal, checked, isValid}
+use Rattle.model.specs.Checks.{Check, refusal, checked, isValid}
 use Rattle.model.specs.WrittenCharts.{chartOf, writeChecks, writeOf, writtenBytes}
+use Rattle.laws.specs.Sums.Lists.{All, none, also}
 use Rattle.laws.specs.Layouts.Validity.{sound}
+use Rattle.laws.specs.Layouts.Refusals.{Numbered, all-pass, when-accepted, when-refused}
 use Rattle.laws.specs.Buffers.Writing.{Written, written-whole}
 use Rattle.laws.specs.Buffers.Charts.{chartWith, chart-edges, chart-length}
-use Rattle.edge_list.specs.Rows.{listedEdges, listed-few}
 use Rattle.writer.specs.Fields.{ChartFits}
 
-abbrev pub refusedWrite : ℕ → ChartWritten
-refusedWrite code = record { refusal = code; length = 0 }
+-- the checks, from what the call asks
+abbrev pub asks : Bool → ℕ → ℕ → List Check
+asks passed long size = record { passes = passed; code = 11 } ∷ record { passes = leb long size; code = 19 } ∷ []
 
-module _ (l : Layout) (buffer : List ℕ) where
-  pub invalid : valid l ≡ false → (refusedWrite 11 ≡ writeOf l buffer) × (buffer ≡ writtenBytes l buffer)
-  unfolding writeOf writtenBytes writeChecks checked byRefusal refusal isValid
-  invalid e = (rw e, rw e)
+-- how many bytes the chart has, by what the call counts
+abbrev pub counted : Layout → ℕ
+counted l = cond (leb (l .n) 64) (10 + 2 * length (edges (l .n) (l .adjacency)) + l .n) 0
 
-module _ (l : Layout) (t : valid l ≡ true) {count : ℕ} (e : count ≡ length (listedEdges (l .n) (l .adjacency))) where
-  pub few : l .n ≤ 64
-  few = sound l (subst T (sym t) tt) .small
+-- of a valid layout
+module _ (l : Layout) (t : T (valid l)) where
+  few : l .n ≤ 64
+  few = sound l t .small
 
-  edges-counted : count ≡ length (edges (l .n) (l .adjacency))
-  edges-counted = e ∙ ap length (listed-few (l .n) (l .adjacency) few)
-
-  -- how many bytes the chart has
-  size : 10 + 2 * count + l .n ≡ length (chartOf l)
-  unfolding vertexOrder
-  size =
-      sym
+  counted-is : counted l ≡ length (chartOf l)
+  counted-is =
+      rw (le-leb (l .n) 64 few)
+      (sym
       (ap length (chart-edges l)
       ∙ chart-length (l .n) (edges (l .n) (l .adjacency)) (vertexOrder l)
-      ∙ ap₂ (λ (m k : ℕ). 10 + 2 * m + k) (sym edges-counted) (sound l (subst T (sym t) tt) .permutation .size))
+      ∙ ap (λ (k : ℕ). 10 + 2 * length (edges (l .n) (l .adjacency)) + k) (sound l t .permutation .size)))
 
-  module _ (buffer : List ℕ) where
-    pub short : length buffer < 10 + 2 * count + l .n → (refusedWrite 19 ≡ writeOf l buffer) × (buffer ≡ writtenBytes l buffer)
-    unfolding writeOf writtenBytes writeChecks checked byRefusal refusal isValid
-    short h = let less = lt-leb (length (chartOf l)) (length buffer) (rw size at h) in (rw (t, less), rw (t, less))
+-- what the call has asked: the chart has long bytes, and code is the first check that fails, or 0
+pub record Asked (l : Layout) (buffer : List ℕ) (long code : ℕ) : Type 0 where
+  pub measured : long ≡ counted l
+  pub told : code ≡ refusal (asks (valid l) long (length buffer))
 
-    module _ (h : 10 + 2 * count + l .n ≤ length buffer) (places : length (l .order) ≡ 64) where
-      order-size : length (take (l .n) (l .order)) ≡ l .n
-      order-size = length-take-le (l .n) (l .order) (omega (arith, few, places))
+module _ {l : Layout} {buffer : List ℕ} {long code : ℕ} (a : Asked l buffer long code) where
+  -- the code is that of the checks: the length counts only where the layout is valid
+  number : code ≡ refusal (writeChecks l buffer)
+  unfolding writeChecks isValid refusal
+  number = a .told ∙ rw (a .measured) (by-test (valid l) refl)
+    where
+      by-test : (b : Bool) → valid l ≡ b → refusal (asks b (counted l) (length buffer)) ≡ refusal (asks b (length (chartOf l)) (length buffer))
+      by-test true e = ap (λ (k : ℕ). refusal (asks true k (length buffer))) (counted-is l (subst T (sym e) tt))
+      by-test false e = refl
 
-      pub fits : ChartFits (length (take (l .n) (l .order))) (2 * count) (l .adjacency) buffer
-      fits = rw order-size (record { few = few; counted = ap (λ (k : ℕ). 2 * k) edges-counted; room = h })
+  pub refused : (code ≡ 0 → ⊥) → (record { refusal = code; length = 0 } ≡ writeOf l buffer) × (buffer ≡ writtenBytes l buffer)
+  unfolding writeOf writtenBytes
+  refused d = (sym (when-refused (writeChecks l buffer) _ _ number d), sym (when-refused (writeChecks l buffer) _ (λ r. buffer) number d))
 
-      pub written : {after : List ℕ} {end : ℕ}
-          → (let o = take (l .n) (l .order) in Written buffer 0 (chartWith (length o) (edges (length o) (l .adjacency)) o) after end)
-          → (record { refusal = 0; length = 10 + 2 * count + l .n } ≡ writeOf l buffer) × (after ≡ writtenBytes l buffer)
-      unfolding writeOf writtenBytes writeChecks checked byRefusal refusal isValid vertexOrder
-      written w =
-          let more = le-leb (length (chartOf l)) (length buffer) (rw size at h) in
-          let bytes = written-whole (rw (order-size, ← (chart-edges l)) at w) .0 in
-          (rw (t, more) (ap (λ (k : ℕ). record { refusal = 0; length = k }) size), rw (t, more) bytes)
+  module _ (z : code ≡ 0) (places : length (l .order) ≡ 64) where
+    -- both checks pass
+    passed-both : (valid l ≡ true) × (leb (length (chartOf l)) (length buffer) ≡ true)
+    unfolding writeChecks isValid
+    passed-both = from (all-pass (also (lit< tt) (also (lit< tt) none)) (sym number ∙ z))
+      where
+        from : All (λ c. c .passes ≡ true) (writeChecks l buffer) → (valid l ≡ true) × (leb (length (chartOf l)) (length buffer) ≡ true)
+        from (also p (also q none)) = (p, q)
+
+    is-valid : T (valid l)
+    is-valid = subst T (sym (passed-both .0)) tt
+
+    -- the vertices have places in the order
+    pub inside : l .n ≤ length (l .order)
+    inside = omega (arith, few l is-valid, places)
+
+    order-size : length (take (l .n) (l .order)) ≡ l .n
+    order-size = length-take-le (l .n) (l .order) inside
+
+    pub fits : ChartFits (length (take (l .n) (l .order))) (l .adjacency) buffer
+    fits =
+        let long = rw (le-leb (l .n) 64 (few l is-valid)) at (counted-is l is-valid) in
+        rw order-size (record { few = few l is-valid; room = rw long (leb-true (length (chartOf l)) (length buffer) (passed-both .1)) })
+
+    pub written : {after : List ℕ} {end : ℕ}
+        → (let o = take (l .n) (l .order) in Written buffer 0 (chartWith (length o) (edges (length o) (l .adjacency)) o) after end)
+        → (record { refusal = 0; length = long } ≡ writeOf l buffer) × (after ≡ writtenBytes l buffer)
+    unfolding writeOf writtenBytes vertexOrder
+    written w =
+        let accepted = sym number ∙ z in
+        let bytes = written-whole (rw (order-size, ← (chart-edges l)) at w) .0 in (
+          ap (λ (k : ℕ). record { refusal = 0; length = k }) (a .measured ∙ counted-is l is-valid)
+              ∙ sym (when-accepted (writeChecks l buffer) _ _ accepted),
+          bytes ∙ sym (when-accepted (writeChecks l buffer) _ (λ r. buffer) accepted),
+        )

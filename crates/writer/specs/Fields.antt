@@ -2,7 +2,7 @@
 use Prim.Native.Nat.{ℕ, _+_, _*_, _/_, _%_, _≤_, _<_}
 use native.Mathlib.Nat.{mod-eq-of-lt}
 use native.Mathlib.Omega.{arith}
-use mathlib.Core.Path.{_≡_, sym, ap, _∙_}
+use mathlib.Core.Path.{_≡_, ap, _∙_}
 use mathlib.Core.List.{List, [], _∷_, _++_}
 use lib.ListN.{length}
 use Rattle.model.specs.Crossings.{edges}
@@ -36,38 +36,40 @@ module _ {start : List ℕ} {at tag size : ℕ} {bytes : List ℕ} {to : ℕ} (h
       let headed = h .fits (omega arith) in
       rw (← (header-body tag body e small)) (put-behind headed p (omega (arith, headed .place)))
 
-  -- the edges behind it
-  pub links-put : (n : ℕ) (adj : List ℕ) {next : List ℕ} {end : ℕ} → n ≤ 64 → size ≡ 2 * length (edges n adj) → at + 3 + size ≤ length start
+  -- the edges behind it, counted before
+  pub links-put : (n : ℕ) (adj : List ℕ) {count : ℕ} {next : List ℕ} {end : ℕ} → n ≤ 64 → at + 3 + 2 * length (edges n adj) ≤ length start
+      → count ≡ length (listedEdges n adj) → size ≡ 2 * count
       → (let es = listedEdges n adj in Put (2 * length es) bytes to (edgeBytes es) next end)
       → Written start at (fieldBytes tag (edgeBytes (edges n adj))) next end
-  links-put n adj few e fits p =
-      field-put (e ∙ sym (edge-bytes-length (edges n adj))) (omega (arith, e, edges-few n adj few)) (omega (arith, e)) (rw (listed-few n adj few) at p)
+  links-put n adj few fits e twice p =
+      let counted = e ∙ ap length (listed-few n adj few) in
+      let bytes-long = edge-bytes-length (edges n adj) in
+      field-put (omega (arith, twice, counted, bytes-long)) (omega (arith, twice, counted, edges-few n adj few)) fits (rw (listed-few n adj few) at p)
 
 -- ---- a chart
 
--- n vertices, whose edges take links bytes, and room for their chart
-pub record ChartFits (n links : ℕ) (adj start : List ℕ) : Type 0 where
+-- n vertices, and room for their chart
+pub record ChartFits (n : ℕ) (adj start : List ℕ) : Type 0 where
   pub few : n ≤ 64
-  pub counted : links ≡ 2 * length (edges n adj)
-  pub room : 10 + links + n ≤ length start
+  pub room : 10 + 2 * length (edges n adj) + n ≤ length start
 
-module _ {n links : ℕ} {adj start : List ℕ} (f : ChartFits n links adj start) {bytes : List ℕ} {at : ℕ}
+module _ {n : ℕ} {adj start : List ℕ} (f : ChartFits n adj start) {bytes : List ℕ} {at : ℕ}
     (size : Written start 0 (fieldBytes 0x44 (n ∷ [])) bytes at) where
   at-four : at ≡ 4
   unfolding fieldBytes
   at-four = size .place
 
   -- there is room for field 4C
-  pub links-room : at + 3 + links ≤ length bytes
+  pub links-room : at + 3 + 2 * length (edges n adj) ≤ length bytes
   links-room = omega (arith, f .room, at-four, written-size size (omega (arith, f .room, at-four)))
 
-  module _ {next : List ℕ} {to : ℕ} (links-field : Written bytes at (fieldBytes 0x4C (edgeBytes (edges n adj))) next to) where
+  module _ {next : List ℕ} {to : ℕ} (links : Written bytes at (fieldBytes 0x4C (edgeBytes (edges n adj))) next to) where
     both : Written start 0 (fieldBytes 0x44 (n ∷ []) ++ fieldBytes 0x4C (edgeBytes (edges n adj))) next to
-    both = behind size links-field (omega (arith, f .room, at-four))
+    both = behind size links (omega (arith, f .room, at-four))
 
-    to-is : to ≡ 7 + links
+    to-is : to ≡ 7 + 2 * length (edges n adj)
     unfolding fieldBytes
-    to-is = omega (arith, links-field .place, at-four, f .counted, edge-bytes-length (edges n adj))
+    to-is = omega (arith, links .place, at-four, edge-bytes-length (edges n adj))
 
     -- there is room for field 52
     pub order-room : to + 3 + n ≤ length next

@@ -1,9 +1,12 @@
 // Writing the chart of a layout (ring) into a lent buffer (document 02, Note 1).
 ghost use mathlib.Core.Path.{_≡_};
+ghost use mathlib.Core.Bool.{cond};
 ghost use mathlib.Core.List.{[], _∷_};
 ghost use Prim.Native.Nat.{_+_, _*_, _/_, _%_, _≤_, _<_};
 ghost use lib.ListN.{length};
+ghost use lib.Dec.{leb};
 ghost use Rattle.model.specs.Crossings.{edges};
+ghost use Rattle.model.specs.Checks.{refusal};
 ghost use Rattle.model.specs.WrittenCharts.{fieldBytes, edgeBytes, writeOf, writtenBytes};
 ghost use Rattle.laws.specs.Buffers.Writing.{Written};
 ghost use Rattle.laws.specs.Buffers.Charts.{chartWith};
@@ -22,50 +25,63 @@ pub fn write(l: Layout, buffer: &mut [u8]) -> ChartWritten
     ensures { λ r. ⌜ r ≡ writeOf l (now (buffer .entry)) ⌝ }
     ensures { λ r. ⌜ now (buffer .exit) ≡ writtenBytes l (now (buffer .entry)) ⌝ }
 {
-    if !is_valid(l) {
-        return refused(11);
-    }
     let n = l.n;
     let adjacency = l.adjacency;
-    let links = 2 * edge_count(n, &adjacency) as usize;
-    let length = 10 + links + n;
-    if buffer.len() < length {
-        return refused(19);
+    let length = chart_length(n, &adjacency);
+    let refusal = write_refusal(is_valid(l), length, buffer.len());
+    if refusal != 0 {
+        return ChartWritten { refusal, length: 0 };
     }
     let order = l.order;
-    put_chart(buffer, links, &adjacency, &order[..n]);
+    put_chart(buffer, &adjacency, &order[..n]);
     ChartWritten { refusal: 0, length }
 }
 
-fn refused(code: u8) -> ChartWritten
-    ensures { λ r. ⌜ r ≡ record { refusal = code; length = 0 } ⌝ }
+// The checks of the call: is the layout valid, and has a buffer of size bytes room for a chart of
+// length bytes?
+fn write_refusal(valid: bool, length: usize, size: usize) -> u8
+    ensures { λ r. ⌜ r ≡ refusal (record { passes = valid; code = 11 } ∷ record { passes = leb length size; code = 19 } ∷ []) ⌝ }
 {
-    ChartWritten {
-        refusal: code,
-        length: 0,
+    if !valid {
+        return 11;
     }
+    if size < length {
+        return 19;
+    }
+    0
 }
 
-// The fields 44, 4C and 52 of as many vertices as the order has, with links bytes for the edges.
-// Answers where they end.
-fn put_chart(out: &mut [u8], links: usize, adjacency: &[u64; 64], order: &[u8]) -> usize
-    requires { ⌜ ChartFits (length (now order)) links (now adjacency) (now out) ⌝ }
+// How many bytes the chart of n vertices has: three headers, n itself, the edges and the order. 0
+// above 64 vertices, which no chart has.
+fn chart_length(n: usize, adjacency: &[u64; 64]) -> usize
+    ensures { λ r. ⌜ r ≡ cond (leb n 64) (10 + 2 * length (edges n (now (adjacency .entry))) + n) 0 ⌝ }
+{
+    if 64 < n {
+        return 0;
+    }
+    10 + 2 * edge_count(n, adjacency) as usize + n
+}
+
+// The fields 44, 4C and 52 of as many vertices as the order has. Answers where they end.
+fn put_chart(out: &mut [u8], adjacency: &[u64; 64], order: &[u8]) -> usize
+    requires { ⌜ ChartFits (length (now order)) (now adjacency) (now out) ⌝ }
     ensures { λ r. let o = now (order .entry) in
         ⌜ Written (now (out .entry)) 0 (chartWith (length o) (edges (length o) (now (adjacency .entry))) o) (now (out .exit)) r ⌝ }
 {
     let n = order.len();
     let size = [n as u8];
-    let links_field = put_field(out, 0, 0x44, &size);
-    let order_field = put_links(out, links_field, n, links, adjacency);
-    put_field(out, order_field, 0x52, order)
+    let links = put_field(out, 0, 0x44, &size);
+    let places = put_links(out, links, n, adjacency);
+    put_field(out, places, 0x52, order)
 }
 
-// Field 4C, with a body of links bytes.
-fn put_links(out: &mut [u8], at: usize, n: usize, links: usize, adjacency: &[u64; 64]) -> usize
-    requires { ⌜ (n ≤ 64) × (links ≡ 2 * length (edges n (now adjacency))) × (at + 3 + links ≤ length (now out)) ⌝ }
+// Field 4C.
+fn put_links(out: &mut [u8], at: usize, n: usize, adjacency: &[u64; 64]) -> usize
+    requires { ⌜ (n ≤ 64) × (at + 3 + 2 * length (edges n (now adjacency)) ≤ length (now out)) ⌝ }
     ensures { λ r. ⌜ Written (now (out .entry)) at (fieldBytes 0x4C (edgeBytes (edges n (now (adjacency .entry))))) (now (out .exit)) r ⌝ }
 {
-    let body = put_header(out, at, 0x4C, links);
+    let count = edge_count(n, adjacency) as usize;
+    let body = put_header(out, at, 0x4C, 2 * count);
     put_edges(out, body, n, adjacency)
 }
 

@@ -4,8 +4,8 @@ use Rattle.writer.specs.Fields.{links-room, order-room, chart-put}
 use Rattle.writer.proofs.put_chart.Statement.{statement}
 use Rattle.writer.proofs.put_chart.Tie as tie
 
-cast-t9 : tie.Need-cast-t9
-cast-t9 c = search needs
+cast-t8 : tie.Need-cast-t8
+cast-t8 c = search needs
 
 slice-aggregate-put-field : tie.Need-slice-aggregate-put-field
 slice-aggregate-put-field c = search needs
@@ -23,7 +23,7 @@ start c = let size = c .before in size .before .before .before .before
 put-links-requires : tie.Need-put-links-requires
 put-links-requires c κs =
     let given = start (first c) .pre in
-    (given .few, given .counted, links-room given (first c .put-field .ensures))
+    (given .few, links-room given (first c .put-field .ensures))
 
 -- from the order to the links
 abbrev links : tie.After-put-field-arg2 → tie.After-put-links
@@ -49,7 +49,7 @@ pub put-chart-spec : {M : Type 1} → statement M
 put-chart-spec =
     tie.close
     (tie.spec
-    cast-t9
+    cast-t8
     slice-aggregate-put-field
     put-field-requires
     put-links-requires
