@@ -97,6 +97,8 @@ fn put_field(out: &mut [u8], at: usize, tag: u8, body: &[u8]) -> usize
 fn put_header(out: &mut [u8], at: usize, tag: u8, size: usize) -> usize
     ensures { λ r. ⌜ Put 3 (now (out .entry)) at (tag ∷ size / 256 % 256 ∷ size % 256 ∷ []) (now (out .exit)) r ⌝ }
 {
-    let header = [tag, (size / 256 % 256) as u8, (size % 256) as u8];
+    let high = (size / 256 % 256) as u8;
+    let low = (size % 256) as u8;
+    let header = [tag, high, low];
     put_text(out, at, &header)
 }
