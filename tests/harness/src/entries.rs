@@ -43,7 +43,7 @@ fn take<'a>(list: &mut &'a [u8]) -> Entry<'a> {
     }
     match record[0] {
         CHART => take_chart(list, record[1]),
-        EMPTY | SET_N..=SET_COUNT | ADD..=PAIR => Entry::Record(record),
+        EMPTY | SET_N..=SET_COUNT | ADD..=WRITE => Entry::Record(record),
         op => Entry::Unknown(op),
     }
 }
@@ -98,7 +98,8 @@ fn record_text([op, a, b, _]: Record) -> String {
         SETTLE => format!("settle with limit {a}"),
         COUNT => "count".to_string(),
         ORDER => format!("order into {a} bytes of {b}"),
-        _ => "pair".to_string(),
+        PAIR => "pair".to_string(),
+        _ => format!("write into {a} bytes of {b}"),
     }
 }
 
@@ -115,7 +116,12 @@ mod tests {
 
     #[test]
     fn records_are_told_in_words() {
-        let records = [[LINK, 3, 7, 0], [ORDER, 12, 255, 0], [SET_ORDER, 4, 9, 0]];
+        let records = [
+            [LINK, 3, 7, 0],
+            [ORDER, 12, 255, 0],
+            [SET_ORDER, 4, 9, 0],
+            [WRITE, 18, 0, 0],
+        ];
         let mut list = records.map(bytes).concat();
         list.extend(chart(&[0x44, 0, 1]));
         list.extend(bytes([SETTLE, 1000, 0, 0]));
@@ -123,21 +129,22 @@ mod tests {
             "link 3 7",
             "order into 12 bytes of 255",
             "set place 4 of the order to 9",
+            "write into 18 bytes of 0",
             "chart of 3 bytes",
             "settle with limit 1000",
         ];
         assert_eq!(texts(&list), due);
         let says: Vec<bool> = entries(&list).iter().map(Entry::says).collect();
-        assert_eq!(says, [true, true, false, true, true]);
+        assert_eq!(says, [true, true, false, true, true, true]);
     }
 
     #[test]
     fn nothing_is_read_behind_the_end() {
         let add = bytes([ADD, 0, 0, 0]);
-        let unknown = bytes([27, 0, 0, 0]);
+        let unknown = bytes([28, 0, 0, 0]);
         assert_eq!(
             texts(&[&add[..], &unknown, &add].concat()),
-            ["add", "unknown op 27"]
+            ["add", "unknown op 28"]
         );
         assert_eq!(texts(&add[..31]), ["a record cut short"]);
         let long = bytes([CHART, u64::MAX, 0, 0]);

@@ -1,6 +1,7 @@
-//! The calls of document 01: a layout goes in and comes back as a value.
+//! The calls of documents 01 and 02: a layout goes in and comes back as a value.
 
 use crate::append;
+use crate::chart;
 use crate::circle::{Circle, Edge};
 use crate::crossings;
 use crate::layout::{Layout, PLACES};
@@ -149,6 +150,20 @@ pub fn order(layout: Layout, buffer: &mut [u8]) -> Answer<()> {
     answer(layout, &[(long_enough, 18)], |layout| {
         let n = layout.n as usize;
         buffer[..n].copy_from_slice(&layout.order[..n]);
+    })
+}
+
+/// The chart, written to the first bytes of a lent buffer. Answers its length.
+pub fn write_chart(layout: Layout, buffer: &mut [u8]) -> Answer<usize> {
+    let chart = if layout.is_valid() {
+        chart::bytes(&layout)
+    } else {
+        Vec::new()
+    };
+    let length = chart.len();
+    answer(layout, &[(length <= buffer.len(), 19)], |_| {
+        buffer[..length].copy_from_slice(&chart);
+        length
     })
 }
 

@@ -1,4 +1,4 @@
-//! Reading chart files.
+//! Reading and writing chart files.
 
 use std::collections::BTreeSet;
 
@@ -9,6 +9,11 @@ use crate::layout::{Layout, PLACES};
 /// The longest input that passes the first check.
 pub const MAX_BYTES: usize = 8192;
 
+/// The tags of a chart's three fields.
+const SIZE: u8 = 0x44;
+const EDGES: u8 = 0x4C;
+const ORDER: u8 = 0x52;
+
 /// Reads a chart into a layout that carries its crossings, or gives the number
 /// of the first check (document 01: question) that fails.
 pub fn read(input: &[u8]) -> Result<Layout, u8> {
@@ -16,7 +21,7 @@ pub fn read(input: &[u8]) -> Result<Layout, u8> {
         return Err(1);
     }
     let fields = fields(input).ok_or(2)?;
-    let [(0x44, size), (0x4C, edges), (0x52, order)] = fields[..] else {
+    let [(SIZE, size), (EDGES, edges), (ORDER, order)] = fields[..] else {
         return Err(3);
     };
     let n = match *size {
@@ -61,4 +66,25 @@ fn read_edges(body: &[u8], n: u8) -> Result<Vec<(u8, u8)>, u8> {
         return Err(7);
     }
     Ok(edges)
+}
+
+/// The chart of a valid layout: its edges lower end first, sorted by lower,
+/// then by higher end.
+pub fn bytes(layout: &Layout) -> Vec<u8> {
+    let circle = Circle::new(layout);
+    let edges = circle.edges().into_iter();
+    let ends: Vec<usize> = edges.flat_map(|(a, b)| [a, b]).collect();
+    [
+        field(SIZE, &[circle.n()]),
+        field(EDGES, &ends),
+        field(ORDER, circle.order()),
+    ]
+    .concat()
+}
+
+/// A field: its tag, the length of its body, and the body.
+fn field(tag: u8, body: &[usize]) -> Vec<u8> {
+    let length = (body.len() as u16).to_be_bytes();
+    let body = body.iter().map(|&number| number as u8);
+    [tag].into_iter().chain(length).chain(body).collect()
 }

@@ -1,4 +1,4 @@
-//! A second program, written from documents 004 and 01 alone, with sorted
+//! A second program, written from documents 004, 01 and 02 alone, with sorted
 //! adjacency lists and the published algorithms. It stands beside the proved
 //! one so that the two can be compared.
 //!

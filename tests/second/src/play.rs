@@ -117,16 +117,36 @@ fn call(layout: Layout, [op, a, b, _]: Record) -> Option<Told> {
         24 => told("count", calls::count(layout), |c| format!(" {c}")),
         25 => read_order(layout, a, b),
         26 => told("pair", calls::first_crossing(layout), pair_text),
+        27 => write_chart(layout, a, b),
         _ => return None,
     })
 }
 
-/// The call `order`, into a buffer filled beforehand.
+/// The call `order`, into a buffer of at most 255 bytes.
 fn read_order(layout: Layout, length: u64, fill: u64) -> Told {
-    let mut buffer = vec![fill as u8; length.min(255) as usize];
-    let answer = calls::order(layout, &mut buffer);
+    let read = |buffer: &mut [u8]| calls::order(layout, buffer);
+    lent("order", length.min(255), fill, read, |()| String::new())
+}
+
+/// The call `write`, into a buffer of at most as many bytes as a chart may have.
+fn write_chart(layout: Layout, length: u64, fill: u64) -> Told {
+    let length = length.min(chart::MAX_BYTES as u64);
+    let write = |buffer: &mut [u8]| calls::write_chart(layout, buffer);
+    lent("write", length, fill, write, |l| format!(" {l}"))
+}
+
+/// A call that is lent a buffer of so many bytes, filled beforehand.
+fn lent<T>(
+    name: &'static str,
+    length: u64,
+    fill: u64,
+    call: impl FnOnce(&mut [u8]) -> Answer<T>,
+    text: impl FnOnce(T) -> String,
+) -> Told {
+    let mut buffer = vec![fill as u8; length as usize];
+    let answer = call(&mut buffer);
     let bytes = numbers(buffer);
-    told("order", answer, |()| format!(" buffer{bytes}"))
+    told(name, answer, |value| text(value) + " buffer" + &bytes)
 }
 
 fn pair_text(crossing: Crossing) -> String {

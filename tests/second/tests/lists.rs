@@ -69,6 +69,11 @@ fn each_call_has_its_answers() {
     let buffer = last_line(&[&[25, 6, 0x1FF]]);
     assert_eq!(buffer, line("order 0 buffer 0 1 2 3 255 255"));
     assert_eq!(last_line(&[&[25, 3, 7]]), line("order 18 buffer 7 7 7"));
+    let chart = "68 0 1 4 76 0 4 0 2 1 3 82 0 4 0 1 2 3";
+    let written = last_line(&[&[27, 20, 0x1FF]]);
+    assert_eq!(written, line(&format!("write 0 18 buffer {chart} 255 255")));
+    assert_eq!(last_line(&[&[27, 3, 7]]), line("write 19 0 buffer 7 7 7"));
+    assert_eq!(last_line(&[&[27, 0, 7]]), line("write 19 0 buffer"));
     let turned = places("1 0 2 3");
     let rest = format!("n 4 order {turned} count 0 words");
     assert_eq!(last_line(&[&[22]]), format!("round 0 1 1 {rest}"));
@@ -80,11 +85,36 @@ fn each_call_has_its_answers() {
     assert_eq!(last_line(&[&[16]]), added);
 }
 
+/// How many bytes a buffer has that a call with some op is lent.
+fn buffer_length(op: u64, length: u64) -> usize {
+    let line = last_line(&[&[op, length, 5]]);
+    let (_, behind) = line.split_once(" buffer ").expect("a buffer");
+    behind.split(' ').take_while(|&word| word != "n").count()
+}
+
 #[test]
-fn a_buffer_has_at_most_255_bytes() {
-    let line = last_line(&[&[25, u64::MAX, 5]]);
-    let buffer = line.split(" n ").next().expect("a buffer");
-    assert_eq!(buffer.split(' ').count(), 3 + 255);
+fn an_order_gets_a_buffer_of_at_most_255_bytes() {
+    let lengths = [254, 255, 256, u64::MAX].map(|length| buffer_length(25, length));
+    assert_eq!(lengths, [254, 255, 255, 255]);
+}
+
+#[test]
+fn a_chart_gets_a_buffer_of_at_most_8192_bytes() {
+    let wide = (1 << 32) + 18;
+    let lengths = [8191, 8192, 8193, wide, u64::MAX].map(|length| buffer_length(27, length));
+    assert_eq!(lengths, [8191, 8192, 8192, 8192, 8192]);
+}
+
+#[test]
+fn what_is_written_can_be_read_behind_it() {
+    let written = common::chart(&[4], &[0, 2, 1, 3], &rising(4));
+    let calls = records(&[&[5, 9], &[27, 18], &[24]]);
+    let lines = play(&[first_ring(), calls, chart(&written)].concat());
+    let order = places("0 1 2 3");
+    let counts = |count: u32| format!("n 4 order {order} count {count} words");
+    let lines: Vec<&str> = lines.lines().collect();
+    assert!(lines[1].starts_with("write 0 18 ") && lines[1].ends_with(&counts(9)));
+    assert_eq!(lines[3], format!("chart 0 {}", counts(1)));
 }
 
 #[test]
@@ -124,7 +154,7 @@ fn a_start_shows_the_words_that_differ_from_those_before() {
 fn a_list_ends_at_an_unknown_op_or_where_it_is_cut() {
     assert_eq!(play(&[]), "");
     assert_eq!(play(&record(&[6])), "end\n");
-    assert_eq!(play(&records(&[&[27], &[24]])), "end\n");
+    assert_eq!(play(&records(&[&[28], &[24]])), "end\n");
     assert_eq!(play(&record(&[256 + 24])), "end\n");
     assert_eq!(play(&record(&[24])[..31]), "end\n");
     assert_eq!(play(&record(&[1, 1])), "end\n");

@@ -189,7 +189,7 @@ impl Maker {
     fn end(&mut self) {
         match self.rng.below(8) {
             0 => {
-                let ops = [6, 15, 27, 255, 256 + ADD, (1 << 32) + COUNT, u64::MAX];
+                let ops = [6, 15, 28, 255, 256 + ADD, (1 << 32) + COUNT, u64::MAX];
                 let op = self.rng.pick(&ops);
                 self.record([op, 0, 0, 0]);
                 self.record([ADD, 0, 0, 0]);

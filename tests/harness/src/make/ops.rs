@@ -21,6 +21,7 @@ pub const SETTLE: u64 = 23;
 pub const COUNT: u64 = 24;
 pub const ORDER: u64 = 25;
 pub const PAIR: u64 = 26;
+pub const WRITE: u64 = 27;
 
 /// A call's name, its op, and the refusal numbers that it can answer.
 type Call = (&'static str, u64, &'static [u8]);

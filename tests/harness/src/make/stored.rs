@@ -248,7 +248,7 @@ impl List<'_> {
 
     /// An unknown op, with a record behind it that isn't played.
     fn end(&mut self) {
-        self.bytes.extend(bytes([27, 0, 0, 0]));
+        self.bytes.extend(bytes([28, 0, 0, 0]));
         self.bytes.extend(bytes([ADD, 0, 0, 0]));
     }
 }

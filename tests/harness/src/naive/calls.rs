@@ -1,5 +1,6 @@
-//! The calls of document 01, each with its questions in their order.
+//! The calls of documents 01 and 02, each with its questions in their order.
 
+use super::chart::written;
 use super::layout::{crossings, edges, first_pair, joined, list, valid, Edge, Layout};
 
 /// The refusal number and the answers. Only an accepted call changes the
@@ -239,4 +240,19 @@ pub fn pair(layout: &Layout) -> Reply<Option<(Edge, Edge)>> {
         return (11, None);
     }
     (0, first_pair(&list(layout), &edges(layout)))
+}
+
+/// Writes the chart into a lent buffer. Answers its length.
+pub fn write(layout: &Layout, buffer: &mut [u8]) -> Reply<usize> {
+    if !valid(layout) {
+        return (11, 0);
+    }
+    let chart = written(layout);
+    if buffer.len() < chart.len() {
+        return (19, 0);
+    }
+    for (i, &byte) in chart.iter().enumerate() {
+        buffer[i] = byte;
+    }
+    (0, chart.len())
 }

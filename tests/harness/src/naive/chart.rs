@@ -1,4 +1,5 @@
 //! The chart reader: the eight questions of document 01, one after the other.
+//! The chart writer: Note 1 of document 02.
 
 use super::layout::{crossings, edges, empty, list, Layout};
 
@@ -70,8 +71,9 @@ fn links(fields: &[Field]) -> Vec<[u8; 2]> {
 }
 
 fn no_pair_twice(links: &[[u8; 2]]) -> bool {
-    let same = |&[a, b]: &[u8; 2], &[c, d]: &[u8; 2]| a == c && b == d || a == d && b == c;
-    (0..links.len()).all(|i| (0..i).all(|j| !same(&links[i], &links[j])))
+    let pair = |&[a, b]: &[u8; 2]| u16::from(a.min(b)) * 256 + u16::from(a.max(b));
+    let pairs: Vec<u16> = links.iter().map(pair).collect();
+    (0..pairs.len()).all(|i| !pairs[..i].contains(&pairs[i]))
 }
 
 fn each_once(body: &[u8], n: u8) -> bool {
@@ -91,4 +93,24 @@ fn build(fields: &[Field]) -> Layout {
     }
     layout.count = crossings(&list(&layout), &edges(&layout));
     layout
+}
+
+/// The chart of a valid layout: fields 44, 4C and 52, the edges (links) lower
+/// end first, sorted by lower and then higher end.
+pub fn written(layout: &Layout) -> Vec<u8> {
+    let links = edges(layout).into_iter();
+    let ends: Vec<usize> = links.flat_map(|(v, w)| [v, w]).collect();
+    let mut chart = field(0x44, &[layout.n as usize]);
+    chart.extend(field(0x4C, &ends));
+    chart.extend(field(0x52, &list(layout)));
+    chart
+}
+
+/// One-byte tag, two-byte length (high byte first), body.
+fn field(tag: u8, body: &[usize]) -> Vec<u8> {
+    let mut bytes = vec![tag, (body.len() / 256) as u8, (body.len() % 256) as u8];
+    for &number in body {
+        bytes.push(number as u8);
+    }
+    bytes
 }

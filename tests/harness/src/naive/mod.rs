@@ -1,5 +1,5 @@
-//! The reference side: document 01 word by word, nothing clever. Candidates
-//! are built as lists, and crossings are counted pair by pair.
+//! The reference side: documents 01 and 02 word by word, nothing clever.
+//! Candidates are built as lists, and crossings are counted pair by pair.
 
 pub mod calls;
 pub mod chart;

@@ -67,7 +67,7 @@ impl Player<'_> {
                 self.set(op, a, b);
                 Step::Quiet
             }
-            16..=26 => Step::Said(self.call(op, a, b)),
+            16..=27 => Step::Said(self.call(op, a, b)),
             _ => Step::End,
         }
     }
@@ -117,7 +117,8 @@ impl Player<'_> {
             }
             24 => one("count", calls::count(layout)),
             25 => order(layout, a, b),
-            _ => pair(layout),
+            26 => pair(layout),
+            _ => write(layout, a, b),
         }
     }
 }
@@ -128,14 +129,30 @@ fn one<T: std::fmt::Display>(name: &str, (refusal, answer): (u8, T)) -> String {
 }
 
 fn order(layout: &Layout, length: u64, fill: u64) -> String {
-    let length = if length > 255 { 255 } else { length };
-    let mut buffer = vec![(fill % 256) as u8; length as usize];
+    let mut buffer = lent(length, 255, fill);
     let refusal = calls::order(layout, &mut buffer);
-    let mut said = format!("order {refusal} buffer");
+    format!("order {refusal} {}", shown(&buffer))
+}
+
+/// What the call `write` says.
+pub fn write(layout: &Layout, length: u64, fill: u64) -> String {
+    let mut buffer = lent(length, 8192, fill);
+    let (refusal, written) = calls::write(layout, &mut buffer);
+    format!("write {refusal} {written} {}", shown(&buffer))
+}
+
+/// A buffer of so many bytes, or of the most if there are more.
+fn lent(length: u64, most: u64, fill: u64) -> Vec<u8> {
+    let length = if length > most { most } else { length };
+    vec![(fill % 256) as u8; length as usize]
+}
+
+fn shown(buffer: &[u8]) -> String {
+    let mut shown = "buffer".to_string();
     for byte in buffer {
-        said += &format!(" {byte}");
+        shown += &format!(" {byte}");
     }
-    said
+    shown
 }
 
 fn pair(layout: &Layout) -> String {

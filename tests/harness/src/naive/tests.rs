@@ -1,8 +1,9 @@
 //! The naive model on the rings worked by hand in document 01, on the points
-//! that it leaves open of lay, and on random graphs.
+//! that it leaves open of lay, on charts written out again, and on random
+//! graphs.
 
 use super::calls;
-use super::chart::read;
+use super::chart::{read, written};
 use super::layout::{crossings, edges, empty, list, Edge, Layout};
 use super::list::listing;
 use super::play::play;
@@ -154,8 +155,68 @@ fn refused_calls() {
     assert_eq!(calls::set_edge(&mut full, 1, 0, false), 15);
     assert_eq!(full.count, crossings(&list(&full), &edges(&full)));
     assert_eq!(calls::order(&full, &mut [0; 63]), 18);
+    assert_eq!(calls::write(&full, &mut [0; 4103]), (19, 0));
+    assert_eq!(calls::write(&full, &mut [0; 4104]), (0, 4104));
     full.words[0] ^= 1;
     assert_eq!(calls::count(&full), (11, 0));
+    assert_eq!(calls::write(&full, &mut [0; 4103]), (11, 0));
+}
+
+#[test]
+fn the_first_ring_is_written_however_its_edges_were_listed() {
+    let due = [
+        0x44, 0, 1, 4, 0x4C, 0, 4, 0, 2, 1, 3, 0x52, 0, 4, 0, 1, 2, 3,
+    ];
+    for edges in [FIRST, [(3, 1), (0, 2)], [(1, 3), (2, 0)]] {
+        let mut buffer = [9; 20];
+        let ring = layout(&[0, 1, 2, 3], &edges);
+        assert_eq!(calls::write(&ring, &mut buffer), (0, 18));
+        assert_eq!(buffer[..18], due);
+        assert_eq!(buffer[18..], [9, 9]);
+        let mut short = [9; 17];
+        assert_eq!(calls::write(&ring, &mut short), (19, 0));
+        assert_eq!(short, [9; 17]);
+    }
+}
+
+#[test]
+fn charts_of_no_vertex_and_about_a_high_byte() {
+    let due = [0x44, 0, 1, 0, 0x4C, 0, 0, 0x52, 0, 0];
+    assert_eq!(written(&empty()), due);
+    for (m, length) in [(127, [0, 254]), (128, [1, 0])] {
+        let ring = layout(&vertices(17), &all_pairs(17)[..m]);
+        assert_eq!(written(&ring)[4..7], [0x4C, length[0], length[1]]);
+    }
+    assert_eq!(written(&complete(64)).len(), 4106);
+}
+
+/// Reading a written chart gives the layout with its true count, whatever
+/// count it carried.
+#[test]
+fn what_is_written_is_read_back() {
+    for index in 0..300 {
+        let mut rng = Rng::new(1, "written", index);
+        let graph = Graph::random(&mut rng, index % 65, usize::MAX);
+        let ring = layout(&graph.order, &graph.edges);
+        let mut carrying = ring.clone();
+        carrying.count = rng.word() as u32;
+        assert_eq!(read(&written(&carrying)), (0, ring));
+    }
+}
+
+#[test]
+fn a_write_is_played_into_at_most_8192_bytes() {
+    let said = |length, fill| super::play::write(&empty(), length, fill);
+    assert_eq!(said(9, 0), format!("write 19 0 buffer{}", " 0".repeat(9)));
+    let chart = "68 0 1 0 76 0 0 82 0 0";
+    assert_eq!(said(11, 256 + 5), format!("write 0 10 buffer {chart} 5"));
+    for length in [8192, 8193, u64::MAX] {
+        let rest = " 255".repeat(8182);
+        assert_eq!(
+            said(length, 255),
+            format!("write 0 10 buffer {chart}{rest}")
+        );
+    }
 }
 
 #[test]

@@ -1,0 +1,156 @@
+//! Charts written out again: Note 1 of document 02.
+
+mod common;
+
+use common::{all_edges, all_graphs, complete, first_ring, layout, rising, Random};
+use second::calls::{self, Answer};
+use second::chart;
+use second::layout::Layout;
+
+/// What a buffer of so many bytes gets, each of which holds 7 before the call.
+fn written(layout: Layout, length: usize) -> (Answer<usize>, Vec<u8>) {
+    let mut buffer = vec![7; length];
+    let answer = calls::write_chart(layout, &mut buffer);
+    assert_eq!(answer.layout, layout);
+    (answer, buffer)
+}
+
+/// The chart of a layout, in a buffer that is longer.
+fn chart_of(layout: Layout) -> Vec<u8> {
+    let (answer, mut buffer) = written(layout, chart::MAX_BYTES);
+    assert_eq!(answer.refusal, 0);
+    let behind = buffer.split_off(answer.value);
+    assert!(behind.iter().all(|&byte| byte == 7));
+    buffer
+}
+
+/// The chart is read back as the layout with its true count, whatever count it
+/// carried.
+fn comes_back(layout: Layout) {
+    for count in [layout.count, 0, layout.count + 1, u32::MAX] {
+        let carrying = Layout { count, ..layout };
+        assert_eq!(chart::read(&chart_of(carrying)), Ok(layout));
+    }
+}
+
+#[test]
+fn the_first_ring_is_written_byte_for_byte() {
+    let due = [
+        0x44, 0, 1, 4, 0x4C, 0, 4, 0, 2, 1, 3, 0x52, 0, 4, 0, 1, 2, 3,
+    ];
+    assert_eq!(chart_of(first_ring()), due);
+    assert_eq!(chart::bytes(&first_ring()), due);
+}
+
+#[test]
+fn edges_in_any_sequence_either_way_round_give_the_same_bytes() {
+    let due = chart_of(first_ring());
+    for edges in [
+        [0, 2, 1, 3],
+        [0, 2, 3, 1],
+        [2, 0, 1, 3],
+        [2, 0, 3, 1],
+        [1, 3, 0, 2],
+        [1, 3, 2, 0],
+        [3, 1, 0, 2],
+        [3, 1, 2, 0],
+    ] {
+        let ring = chart::read(&common::chart(&[4], &edges, &rising(4)));
+        assert_eq!(chart_of(ring.expect("a chart")), due);
+    }
+    let backwards: Vec<(u8, u8)> = all_edges(64).iter().rev().map(|&(a, b)| (b, a)).collect();
+    let full = common::chart(&[64], &common::edge_bytes(&backwards), &rising(64));
+    let ring = chart::read(&full).expect("a chart");
+    assert_eq!(chart_of(ring), chart_of(complete(64)));
+}
+
+#[test]
+fn edges_are_sorted_by_number_not_by_place() {
+    let edges = [(0, 1), (0, 3), (1, 2), (2, 3)];
+    let ring = layout(&[2, 0, 3, 1], &edges);
+    let due = common::chart(&[4], &common::edge_bytes(&edges), &[2, 0, 3, 1]);
+    assert_eq!(chart_of(ring), due);
+}
+
+#[test]
+fn a_turned_list_is_another_chart() {
+    let turned = calls::move_after(first_ring(), 0, 3).layout;
+    assert_ne!(chart_of(turned), chart_of(first_ring()));
+}
+
+#[test]
+fn every_graph_of_five_vertices_comes_back() {
+    for edges in all_graphs(5) {
+        comes_back(layout(&[3, 1, 4, 0, 2], &edges));
+    }
+}
+
+#[test]
+fn random_layouts_come_back() {
+    for seed in 0..200 {
+        comes_back(Random(seed).layout());
+    }
+}
+
+#[test]
+fn a_buffer_is_long_enough_or_untouched() {
+    for (ring, length) in [
+        (Layout::EMPTY, 10),
+        (first_ring(), 18),
+        (complete(64), 4106),
+    ] {
+        let chart = chart_of(ring);
+        assert_eq!(chart.len(), length);
+        for longer in 0..3 {
+            let (answer, buffer) = written(ring, length + longer);
+            assert_eq!((answer.refusal, answer.value), (0, length));
+            assert_eq!(buffer, [&chart[..], &vec![7; longer]].concat());
+        }
+        for shorter in [length - 1, length - 2, 1, 0] {
+            let (answer, buffer) = written(ring, shorter);
+            assert_eq!((answer.refusal, answer.value), (19, 0));
+            assert_eq!(buffer, vec![7; shorter]);
+        }
+    }
+}
+
+#[test]
+fn validity_is_asked_before_the_length() {
+    let mut ring = first_ring();
+    ring.adjacency[3] = 0;
+    for length in [0, 17, 18, 8192] {
+        let (answer, buffer) = written(ring, length);
+        assert_eq!((answer.refusal, answer.value), (11, 0));
+        assert_eq!(buffer, vec![7; length]);
+    }
+}
+
+#[test]
+fn the_empty_layout_has_a_chart_of_ten_bytes() {
+    let due = [0x44, 0, 1, 0, 0x4C, 0, 0, 0x52, 0, 0];
+    assert_eq!(chart_of(Layout::EMPTY), due);
+    comes_back(Layout::EMPTY);
+    assert_eq!(
+        chart_of(layout(&[0], &[]))[3..],
+        [1, 0x4C, 0, 0, 0x52, 0, 1, 0]
+    );
+}
+
+#[test]
+fn from_128_edges_on_the_length_has_its_high_byte() {
+    for (m, length) in [(127, [0, 254]), (128, [1, 0]), (129, [1, 2])] {
+        let ring = layout(&rising(17), &all_edges(17)[..m]);
+        assert_eq!(chart_of(ring)[5..7], length);
+        comes_back(ring);
+    }
+}
+
+#[test]
+fn the_longest_chart() {
+    let chart = chart_of(complete(64));
+    assert_eq!(chart.len(), 4106);
+    assert_eq!(chart[4..7], [0x4C, 0x0F, 0xC0]);
+    let due = common::chart(&[64], &common::edge_bytes(&all_edges(64)), &rising(64));
+    assert_eq!(chart, due);
+    comes_back(complete(64));
+}
