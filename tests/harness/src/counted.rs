@@ -1,60 +1,49 @@
 //! What the naive model still counts where playing is too dear for it: the
 //! crossings of each layout that a program printed.
 
-use crate::entries::{entries, Entry};
-use crate::followed::Followed;
+use crate::entries::Entry;
+use crate::followed::Step;
 use crate::naive::chart::read;
 use crate::naive::layout::{crossings, edges, list, valid, Layout};
 
 /// The calls whose first answer is the saving.
 const SAVING: [&str; 3] = ["sift", "round", "settle"];
 
-/// Whether in the answer lines of a list each accepted chart is read as it is
-/// due, each accepted call leaves a valid layout and changes the carried count
-/// by crossings after less crossings before, and each saving is their
-/// difference. Tells the first line, counted from 1, in which it isn't so.
-pub fn check_lines(bytes: &[u8], lines: &str) -> Result<(), (usize, String)> {
-    let mut followed = Followed::new();
-    let mut lines = lines.lines().enumerate();
-    for entry in entries(bytes) {
-        followed.set(&entry);
-        let Some((i, line)) = entry.says().then(|| lines.next()).flatten() else {
-            continue;
-        };
-        let before = followed.0.clone();
-        followed.line(line);
-        let checked = match entry {
-            Entry::Chart(chart) if followed.0 != read(chart).1 => Err("not what is read".into()),
-            Entry::Record(_) if is_accepted_call(line) => check_call(line, &before, &followed.0),
-            _ => Ok(()),
-        };
-        checked.map_err(|text| (i + 1, text))?;
+/// Whether an accepted chart is read as it is due, and an accepted call leaves
+/// a valid layout and changes the carried count by crossings after less
+/// crossings before, and its saving is their difference.
+pub fn check_line(step: &Step) -> Result<(), String> {
+    match (&step.entry, step.answer()) {
+        (Entry::Chart(chart), _) if step.after != read(chart).1 => {
+            Err("not what is read".to_string())
+        }
+        (Entry::Record(_), Some((name, 0))) if name != "empty" => check_call(name, step),
+        _ => Ok(()),
     }
-    Ok(())
 }
 
-fn is_accepted_call(line: &str) -> bool {
-    let mut words = line.split(' ');
-    words.next() != Some("empty") && words.next() == Some("0")
-}
-
-fn check_call(line: &str, before: &Layout, after: &Layout) -> Result<(), String> {
+fn check_call(name: &str, step: &Step) -> Result<(), String> {
+    let Step { before, after, .. } = step;
     if !valid(before) || !valid(after) {
         return Err("accepted, but not valid".to_string());
     }
-    let [had, has] = [before, after].map(|layout| crossings(&list(layout), &edges(layout)));
+    let [had, has] = [before, after].map(true_count);
     if after.count.wrapping_sub(before.count) != has.wrapping_sub(had) {
         let (from, to) = (before.count, after.count);
         return Err(format!(
             "count from {from} to {to}, crossings from {had} to {has}"
         ));
     }
-    let words: Vec<&str> = line.split(' ').collect();
     let saving = had.wrapping_sub(has).to_string();
-    if SAVING.contains(&words[0]) && words.get(2) != Some(&&saving[..]) {
+    if SAVING.contains(&name) && step.line.split(' ').nth(2) != Some(&saving) {
         return Err(format!("crossings from {had} to {has}, another saving"));
     }
     Ok(())
+}
+
+/// The crossings of a valid layout, whatever count it carries.
+pub fn true_count(layout: &Layout) -> u32 {
+    crossings(&list(layout), &edges(layout))
 }
 
 /// Whether a listing has the edges and the crossings of its chart, and the
@@ -95,6 +84,7 @@ pub fn check_listing(chart: &[u8], listing: &str) -> Result<(), String> {
 #[cfg(test)]
 mod tests {
     use super::*;
+    use crate::followed::check_lines;
     use crate::make::charts::Chart;
     use crate::make::graph::Graph;
     use crate::make::lists;
@@ -114,7 +104,8 @@ mod tests {
         let known = Known::all();
         for made in (0..40).map(|index| lists::list(7, index, &known)) {
             if made.naive {
-                assert_eq!(check_lines(&made.bytes, &play(&made.bytes)), Ok(()));
+                let lines = play(&made.bytes);
+                assert_eq!(check_lines(&made.bytes, &lines, check_line), Ok(()));
             }
         }
         assert_eq!(check_listing(&square(), &listing(&square())), Ok(()));
@@ -126,7 +117,7 @@ mod tests {
         let calls = [[SIFT, 0, 0, 0], [SETTLE, 9, 0, 0]].map(records::bytes);
         let list = [records::chart(&square()), calls.concat()].concat();
         let lines = play(&list);
-        assert_eq!(check_lines(&list, &lines), Ok(()));
+        assert_eq!(check_lines(&list, &lines, check_line), Ok(()));
         for (line, from, to) in [
             (1, "count 1 words", "count 2 words"),
             (1, "words 0 4 1 8 2 1 3 2", "words 0 4 2 1"),
@@ -137,7 +128,7 @@ mod tests {
         ] {
             let wrong = lines.replacen(from, to, 1);
             assert_ne!(wrong, lines, "{from}");
-            let found = check_lines(&list, &wrong).map_err(|(line, _)| line);
+            let found = check_lines(&list, &wrong, check_line).map_err(|(line, _)| line);
             assert_eq!(found, Err(line), "{to}");
         }
     }

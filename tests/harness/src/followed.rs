@@ -1,60 +1,103 @@
 //! A layout, followed through a list of calls by its records and its answer
 //! lines.
 
-use crate::entries::Entry;
+use crate::entries::{entries, Entry};
 use crate::make::ops::{SET_COUNT, SET_N, SET_ORDER, SET_WORD};
 use crate::naive::layout::{empty, Layout};
 
-/// The layout as records set it and lines tell it.
-pub struct Followed(pub Layout);
+/// An answer line, its record, and the layout before and behind it.
+pub struct Step<'a> {
+    pub entry: Entry<'a>,
+    pub line: &'a str,
+    pub before: Layout,
+    pub after: Layout,
+}
 
-impl Followed {
-    pub fn new() -> Followed {
-        Followed(empty())
+/// The answer lines of a list with their records.
+pub fn steps<'a>(list: &'a [u8], lines: &'a str) -> impl Iterator<Item = Step<'a>> {
+    let mut lines = lines.lines();
+    let mut layout = empty();
+    entries(list).into_iter().filter_map(move |entry| {
+        set(&mut layout, &entry);
+        let line = entry.says().then(|| lines.next()).flatten()?;
+        let before = layout.clone();
+        take_in(&mut layout, line);
+        let after = layout.clone();
+        Some(Step {
+            entry,
+            line,
+            before,
+            after,
+        })
+    })
+}
+
+/// Puts a check to each line of a list. Tells the first line, counted from 1,
+/// that fails it.
+pub fn check_lines(
+    list: &[u8],
+    lines: &str,
+    check: impl Fn(&Step) -> Result<(), String>,
+) -> Result<(), (usize, String)> {
+    for (i, step) in steps(list, lines).enumerate() {
+        check(&step).map_err(|text| (i + 1, text))?;
+    }
+    Ok(())
+}
+
+impl Step<'_> {
+    /// The name and the refusal number; the line `end` has none.
+    pub fn answer(&self) -> Option<(&str, u8)> {
+        let mut words = self.line.split(' ');
+        let (name, refusal) = (words.next()?, words.next()?);
+        Some((name, refusal.parse().ok()?))
     }
 
+    /// The number of vertices behind the line.
     pub fn n(&self) -> usize {
-        usize::try_from(self.0.n).unwrap_or(usize::MAX)
+        usize::try_from(self.after.n).unwrap_or(usize::MAX)
     }
 
-    /// How many edges there are, in a valid layout.
-    pub fn edges(&self) -> usize {
-        let ends: u32 = self.0.words.iter().map(|word| word.count_ones()).sum();
-        ends as usize / 2
+    /// The number of edges behind the line, in a valid layout.
+    pub fn m(&self) -> usize {
+        edge_count(&self.after)
     }
+}
 
-    /// Sets a field, if that is what the record does.
-    pub fn set(&mut self, entry: &Entry) {
-        let Followed(layout) = self;
-        match *entry {
-            Entry::Record([SET_N, n, ..]) => layout.n = n,
-            Entry::Record([SET_ORDER, place, v, _]) => put(&mut layout.order, place, v as u8),
-            Entry::Record([SET_WORD, v, word, _]) => put(&mut layout.words, v, word),
-            Entry::Record([SET_COUNT, count, ..]) => layout.count = count as u32,
-            _ => {}
-        }
+fn edge_count(layout: &Layout) -> usize {
+    let ends: u32 = layout.words.iter().map(|word| word.count_ones()).sum();
+    ends as usize / 2
+}
+
+/// Sets a field, if that is what the record does.
+fn set(layout: &mut Layout, entry: &Entry) {
+    match *entry {
+        Entry::Record([SET_N, n, ..]) => layout.n = n,
+        Entry::Record([SET_ORDER, place, v, _]) => put(&mut layout.order, place, v as u8),
+        Entry::Record([SET_WORD, v, word, _]) => put(&mut layout.words, v, word),
+        Entry::Record([SET_COUNT, count, ..]) => layout.count = count as u32,
+        _ => {}
     }
+}
 
-    /// Takes in what an answer line says of the layout.
-    pub fn line(&mut self, line: &str) {
-        let Followed(layout) = self;
-        if let Some(&n) = numbers(line, " n ").first() {
-            layout.n = n;
-        }
-        for (place, v) in numbers(line, " order ").into_iter().enumerate() {
-            put(&mut layout.order, place as u64, v as u8);
-        }
-        if let Some(&count) = numbers(line, " count ").first() {
-            layout.count = count as u32;
-        }
-        for changed in numbers(line, " words ").chunks_exact(2) {
-            put(&mut layout.words, changed[0], changed[1]);
-        }
+/// Takes in what an answer line says of the layout.
+fn take_in(layout: &mut Layout, line: &str) {
+    if let Some(&n) = numbers(line, " n ").first() {
+        layout.n = n;
+    }
+    for (place, v) in numbers(line, " order ").into_iter().enumerate() {
+        put(&mut layout.order, place as u64, v as u8);
+    }
+    if let Some(&count) = numbers(line, " count ").first() {
+        layout.count = count as u32;
+    }
+    for changed in numbers(line, " words ").chunks_exact(2) {
+        put(&mut layout.words, changed[0], changed[1]);
     }
 }
 
 /// The numbers behind a word of a line.
-fn numbers(line: &str, word: &str) -> Vec<u64> {
+pub fn numbers(line: &str, word: &str) -> Vec<u64> {
     let behind = line.split_once(word).map_or("", |(_, behind)| behind);
     let numbers = behind.split(' ').map_while(|word| word.parse().ok());
     numbers.collect()
@@ -70,28 +113,51 @@ fn put<T>(places: &mut [T], place: u64, value: T) {
 #[cfg(test)]
 mod tests {
     use super::*;
-    use crate::entries::entries;
     use crate::make::lists;
-    use crate::make::ops::Known;
+    use crate::make::ops::{Known, PAIR, UNLINK};
+    use crate::make::records;
     use crate::naive::play::play;
 
     #[test]
     fn a_layout_is_followed_by_records_and_lines() {
-        let mut followed = Followed::new();
-        followed.line("chart 0 n 4 order 0 1 2 3 count 1 words 0 4 1 8 2 1 3 2");
-        assert_eq!((followed.n(), followed.edges()), (4, 2));
-        followed.line("unlink 0 n 4 order 0 1 2 3 count 0 words 0 0 2 0");
-        assert_eq!((followed.n(), followed.edges()), (4, 1));
-        followed.set(&Entry::Record([SET_N, 5, 0, 0]));
-        followed.set(&Entry::Record([SET_WORD, 4, 3, 0]));
-        followed.set(&Entry::Record([SET_WORD, 64, 3, 0]));
-        followed.set(&Entry::Record([SET_ORDER, 4, 256 + 4, 0]));
-        followed.set(&Entry::Record([SET_COUNT, (1 << 32) + 9, 0, 0]));
-        let layout = &followed.0;
+        let mut list = records::chart(&[0x44]);
+        for record in [
+            [UNLINK, 0, 2, 0],
+            [SET_N, 5, 0, 0],
+            [SET_WORD, 4, 3, 0],
+            [SET_WORD, 64, 3, 0],
+            [SET_ORDER, 4, 256 + 4, 0],
+            [SET_COUNT, (1 << 32) + 9, 0, 0],
+            [PAIR, 0, 0, 0],
+        ] {
+            list.extend(records::bytes(record));
+        }
+        let lines = "chart 0 n 4 order 0 1 2 3 count 1 words 0 4 1 8 2 1 3 2\n\
+                     unlink 0 n 4 order 0 1 2 3 count 0 words 0 0 2 0\n\
+                     end\n";
+        let steps: Vec<Step> = steps(&list, lines).collect();
+        let sizes: Vec<(usize, usize)> = steps.iter().map(|step| (step.n(), step.m())).collect();
+        assert_eq!(sizes, [(4, 2), (4, 1), (5, 2)]);
+        let layout = &steps[2].before;
         assert_eq!((layout.n, layout.words[4], layout.count), (5, 3, 9));
         assert_eq!(layout.order[..6], [0, 1, 2, 3, 4, 0]);
-        followed.line("end");
-        assert_eq!(followed.n(), 5);
+        assert_eq!(*layout, steps[2].after);
+        let answers: Vec<Option<(&str, u8)>> = steps.iter().map(Step::answer).collect();
+        assert_eq!(answers, [Some(("chart", 0)), Some(("unlink", 0)), None]);
+    }
+
+    #[test]
+    fn the_first_line_that_fails_is_told() {
+        let list = [[UNLINK, 0, 2, 0], [SET_N, 5, 0, 0], [PAIR, 0, 0, 0]];
+        let list = list.map(records::bytes).concat();
+        let lines = "unlink 12 n 0\npair 11 refused n 5\n";
+        let check = |step: &Step| match step.n() {
+            0 => Ok(()),
+            n => Err(format!("{n} vertices")),
+        };
+        let due = Err((2, "5 vertices".to_string()));
+        assert_eq!(check_lines(&list, lines, check), due);
+        assert_eq!(check_lines(&list, lines, |_| Ok(())), Ok(()));
     }
 
     /// An accepted link adds an edge, an accepted unlink takes one away.
@@ -99,23 +165,13 @@ mod tests {
     fn edges_are_followed_through_lists() {
         let made = (0..40).map(|index| lists::list(3, index, &Known::all()));
         for list in made.filter(|made| made.naive) {
-            let mut followed = Followed::new();
-            let lines = play(&list.bytes);
-            let mut lines = lines.lines();
-            for entry in entries(&list.bytes) {
-                followed.set(&entry);
-                let before = followed.edges();
-                let Some(line) = entry.says().then(|| lines.next()).flatten() else {
-                    continue;
-                };
-                followed.line(line);
-                let after = followed.edges();
-                let mut words = line.split(' ');
-                match (words.next(), words.next()) {
-                    (Some("link"), Some("0")) => assert_eq!(after, before + 1),
-                    (Some("unlink"), Some("0")) => assert_eq!(after + 1, before),
-                    (Some("chart" | "empty"), _) => {}
-                    _ => assert_eq!(after, before, "{line}"),
+            for step in steps(&list.bytes, &play(&list.bytes)) {
+                let (before, after) = (edge_count(&step.before), step.m());
+                match step.answer() {
+                    Some(("link", 0)) => assert_eq!(after, before + 1),
+                    Some(("unlink", 0)) => assert_eq!(after + 1, before),
+                    Some(("chart" | "empty", _)) => {}
+                    _ => assert_eq!(after, before, "{}", step.line),
                 }
             }
         }

@@ -1,6 +1,7 @@
 //! A run: makes every chart and list, and compares the sides on it.
 
-use crate::counted::{check_lines, check_listing};
+use crate::counted::{self, check_listing};
+use crate::followed::check_lines;
 use crate::input::{record_of, Failure, Input, Model};
 use crate::label::Output;
 use crate::make::{charts, five, lists};
@@ -87,7 +88,7 @@ fn compare_list(
     if naive {
         return Ok(());
     }
-    check_lines(&made.bytes, &lines).map_err(|(line, text)| {
+    check_lines(&made.bytes, &lines, counted::check_line).map_err(|(line, text)| {
         let record = record_of(&made.bytes, line);
         input.failure(format!("{record}: {text}"))
     })

@@ -4,8 +4,7 @@ mod missing;
 
 use std::collections::{BTreeMap, BTreeSet};
 
-use crate::entries::{entries, Entry};
-use crate::followed::Followed;
+use crate::followed::{numbers, steps, Step};
 use crate::make::charts;
 use crate::make::density::{quarter, LARGE, QUARTERS};
 use crate::make::lists;
@@ -77,44 +76,27 @@ impl Tally {
         for graph in &made.graphs {
             add(&mut self.list_graphs, graph);
         }
-        self.lines(&entries(&made.bytes), lines);
-    }
-
-    fn lines(&mut self, entries: &[Entry], lines: &str) {
-        let mut followed = Followed::new();
-        let mut lines = lines.lines();
-        for entry in entries {
-            followed.set(entry);
-            let said = entry.says().then(|| lines.next());
-            if let Some(line) = said.flatten() {
-                followed.line(line);
-                self.line(line, &followed);
-            }
+        for step in steps(&made.bytes, lines) {
+            self.line(&step);
         }
     }
 
     /// Takes in an answer line and the layout behind it.
-    fn line(&mut self, line: &str, followed: &Followed) {
-        let words: Vec<&str> = line.split(' ').collect();
-        let [name, refusal, ..] = words[..] else {
-            return;
-        };
-        let Ok(refusal) = refusal.parse() else {
+    fn line(&mut self, step: &Step) {
+        let Some((name, refusal)) = step.answer() else {
             return;
         };
         let answers = self.answers.entry(name.to_string()).or_default();
         *answers.entry(refusal).or_default() += 1;
-        let n = followed.n();
         if refusal != NOT_VALID {
-            self.list_sizes.insert(n);
+            self.list_sizes.insert(step.n());
         }
         if refusal == 0 {
             let quarters = self.call_quarters.entry(name.to_string()).or_default();
-            add_quarter(quarters, n, followed.edges());
+            add_quarter(quarters, step.n(), step.m());
         }
         if name == "order" {
-            let length = words.iter().skip(3).take_while(|&&word| word != "n");
-            self.buffers.insert(length.count());
+            self.buffers.insert(numbers(step.line, " buffer ").len());
         }
     }
 
