@@ -198,6 +198,20 @@ mod tests {
     }
 
     #[test]
+    fn a_length_and_a_byte_are_told() {
+        let one = "write 0 10 buffer 68 0 1 0 n 0 order 0 count 0 words\n";
+        let other = one.replace("10 buffer 68 0 1", "11 buffer 68 1 1");
+        let due = [
+            "word 3, the length: 10 against 11",
+            "word 6, byte 1 of the buffer: 0 against 1",
+        ];
+        assert_eq!(
+            found(Answers, one, &other),
+            (1, due.map(String::from).to_vec())
+        );
+    }
+
+    #[test]
     fn another_name_is_all_that_is_told() {
         let line = "add 0 0 n 1 order 0 count 0 words\n";
         let due = vec!["word 1, the name: add against end".to_string()];

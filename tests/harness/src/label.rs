@@ -17,7 +17,7 @@ pub struct Labelled<'a> {
 }
 
 /// The answers of each call.
-const ANSWERS: [(&str, &[&str]); 7] = [
+const ANSWERS: [(&str, &[&str]); 8] = [
     ("add", &["the new vertex"]),
     ("lay", &["the tally"]),
     ("sift", &["the saving"]),
@@ -34,6 +34,7 @@ const ANSWERS: [(&str, &[&str]); 7] = [
             "the second edge's higher end",
         ],
     ),
+    ("write", &["the length"]),
 ];
 
 /// The words of a line with what they are. The numbers of neighbour words are
@@ -81,7 +82,7 @@ fn label(words: &[&str], i: usize, part: &str, in_part: usize) -> Option<String>
 /// the beginning of the part before.
 fn begins(part: &str, behind: usize, word: &str) -> bool {
     match word {
-        "buffer" => part.is_empty() && behind == 2,
+        "buffer" => part.is_empty() && matches!(behind, 2 | 3),
         "n" => part.is_empty() || part == "buffer",
         "order" => part == "n",
         "count" => part == "order",
@@ -133,13 +134,22 @@ mod tests {
     }
 
     #[test]
-    fn the_words_of_an_order_and_of_a_pair() {
+    fn the_words_of_buffers_and_of_a_pair() {
         let order = labels(Output::Answers, "order 0 buffer 1 0 7 n 2 order 1 0");
         assert_eq!(
             order[2..5],
             ["`buffer`", "byte 0 of the buffer", "byte 1 of the buffer"]
         );
         assert_eq!(order[10], "place 1 of the order");
+        let write = labels(Output::Answers, "write 0 1 buffer 68 7 n 2 order 1 0");
+        let due = [
+            "the length",
+            "`buffer`",
+            "byte 0 of the buffer",
+            "byte 1 of the buffer",
+            "`n`",
+        ];
+        assert_eq!(write[2..7], due);
         let pair = labels(Output::Answers, "pair 0 pair 1 2 3 4 n 5");
         let due = ["what is found", "the first edge's lower end"];
         assert_eq!(pair[2..4], due);

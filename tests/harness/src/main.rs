@@ -14,6 +14,7 @@ mod rng;
 mod run;
 mod side;
 mod tally;
+mod written;
 
 use std::io::Write;
 use std::process::ExitCode;

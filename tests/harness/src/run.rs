@@ -1,7 +1,7 @@
 //! A run: makes every chart and list, and compares the sides on it.
 
 use crate::counted::{self, check_listing};
-use crate::followed::check_lines;
+use crate::followed::{check_lines, Step};
 use crate::input::{record_of, Failure, Input, Model};
 use crate::label::Output;
 use crate::make::{charts, five, lists};
@@ -9,6 +9,7 @@ use crate::naive;
 use crate::options::Options;
 use crate::rng::Rng;
 use crate::tally::Tally;
+use crate::written;
 
 /// Compares all sides on all charts, unless lists are to be of some calls only,
 /// on all lists, and on all graphs on five vertices.
@@ -85,10 +86,14 @@ fn compare_list(
     let model = naive.then_some(naive::play::play as Model);
     let lines = input.compare(&options.play, model, plant)?;
     tally.list(&made, &lines);
-    if naive {
-        return Ok(());
-    }
-    check_lines(&made.bytes, &lines, counted::check_line).map_err(|(line, text)| {
+    let check = |step: &Step| {
+        written::check_line(step)?;
+        if naive {
+            return Ok(());
+        }
+        counted::check_line(step)
+    };
+    check_lines(&made.bytes, &lines, check).map_err(|(line, text)| {
         let record = record_of(&made.bytes, line);
         input.failure(format!("{record}: {text}"))
     })

@@ -14,7 +14,8 @@ impl Maker {
             UNLINK | MOVE => self.two_vertices(),
             LAY | SIFT => (self.vertex(), 0),
             SETTLE => (self.limit(), 0),
-            ORDER => (self.buffer(), self.rng.below(300) as u64),
+            ORDER => (self.buffer(), self.fill()),
+            WRITE => (self.any_length(), self.fill()),
             _ => (0, 0),
         }
     }

@@ -38,6 +38,12 @@ impl Chart {
     }
 }
 
+/// The length of a chart of n vertices and m edges: three headers, the size,
+/// two bytes an edge and one a vertex.
+pub fn length(n: usize, m: usize) -> u64 {
+    (3 * 3 + 1 + 2 * m + n) as u64
+}
+
 pub fn field(tag: u8, body: &[u8]) -> Vec<u8> {
     let length = [(body.len() / 256) as u8, (body.len() % 256) as u8];
     [&[tag], &length[..], body].concat()
@@ -167,6 +173,15 @@ mod tests {
             assert_eq!(families.len(), families::all().len(), "seed {seed}");
             assert_eq!(quarters.len(), QUARTERS, "seed {seed}");
         }
+    }
+
+    #[test]
+    fn charts_have_their_length() {
+        for (n, m) in [(0, 0), (17, 127), (17, 128), (64, 2016)] {
+            let graph = Graph::with_edges(&mut Rng::new(1, "length", m), n, m);
+            assert_eq!(Chart::of(&graph).bytes().len() as u64, length(n, m));
+        }
+        assert_eq!((length(0, 0), length(64, 2016)), (10, 4106));
     }
 
     #[test]

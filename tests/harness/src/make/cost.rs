@@ -13,6 +13,11 @@ pub fn count(m: usize) -> u64 {
     (m * m / 2 + 64 * m + 4096) as u64
 }
 
+/// Reading a chart of m edges, each of which is compared with those before it.
+pub fn read(m: usize) -> u64 {
+    2 * count(m)
+}
+
 /// Greedy append, without the counts before and after.
 pub fn lay(n: usize, m: usize) -> u64 {
     (n * n * (4 * m + 512)) as u64

@@ -118,7 +118,7 @@ impl Maker {
                 self.call(LAY);
                 self.some_calls(&[SIFT, SIFT, ROUND, SETTLE]);
                 let edit = self.rng.pick(&[ADD, LINK, UNLINK, MOVE]);
-                self.some_calls(&[edit, COUNT, PAIR]);
+                self.some_calls(&[edit, COUNT, PAIR, WRITE]);
             }
         }
     }
@@ -166,14 +166,15 @@ impl Maker {
     }
 
     /// What takes its turn from list to list: each size with some density, each
-    /// refusal number of each call, each length of a buffer, and each special
-    /// chart.
+    /// length of a buffer, each number of edges that is written, each refusal
+    /// number of each call, and each special chart.
     fn in_turn(&mut self, seed: u64, index: usize) {
         let n = ((seed % 65) as usize + 7 * index) % 65;
         let graph = Graph::in_quarter(&mut self.rng, n, index % QUARTERS);
         self.write_graph(&graph);
         self.any_calls(2, 5);
         self.emit(ORDER, index as u64 % 66, 7);
+        self.call_write_in_turn(&graph, index);
         let refused = self.known.refused();
         let (_, op, number) = refused[index % refused.len()];
         self.refused_call(op, number);
@@ -218,10 +219,12 @@ impl Maker {
 mod tests {
     use super::*;
     use crate::entries::{entries, Entry};
+    use crate::followed::{steps, Step};
     use crate::make::density::quarter;
-    use crate::naive::chart::read;
+    use crate::naive::chart::{read, written};
     use crate::naive::layout::empty;
     use crate::naive::play::play;
+    use crate::written::is_read_back;
 
     /// Some lists of a kind.
     fn lists(kind: &str) -> Vec<Made> {
@@ -241,11 +244,15 @@ mod tests {
         line.starts_with("empty ") || line.starts_with("chart ")
     }
 
+    /// What is read back behind its write is no new start.
     #[test]
     fn several_hundred_calls_stand_behind_one_start() {
-        for lines in lines("several hundred calls") {
-            let behind = lines.lines().skip(1).take_while(|line| !is_start(line));
-            assert!(behind.count() >= 200);
+        for made in lists("several hundred calls") {
+            let lines = play(&made.bytes);
+            let steps: Vec<Step> = steps(&made.bytes, &lines).collect();
+            let goes_on =
+                |pair: &&[Step]| !is_start(pair[1].line) || is_read_back(&pair[0], &pair[1]);
+            assert!(steps.windows(2).take_while(goes_on).count() >= 200);
         }
     }
 
@@ -276,12 +283,17 @@ mod tests {
         }
     }
 
-    /// The numbers of vertices and edges of the layouts that calls start from.
+    /// The numbers of vertices and edges of the layouts that calls start from,
+    /// those left out that are read back.
     fn starts(list: &[u8]) -> Vec<(usize, usize)> {
         let mut starts = Vec::new();
         let (mut ring, mut started) = (empty(), false);
+        let mut wrote = false;
         for entry in entries(list) {
+            let read_back = matches!(entry, Entry::Chart(chart) if wrote && is_written(chart));
+            wrote = matches!(entry, Entry::Record([WRITE, ..]));
             match entry {
+                _ if read_back => {}
                 Entry::Chart(chart) => (ring, started) = (read(chart).1, true),
                 Entry::Record([EMPTY, ..]) => (ring, started) = (empty(), true),
                 Entry::Record([SET_N, n, ..]) => ring.n = n,
@@ -295,6 +307,11 @@ mod tests {
             }
         }
         starts
+    }
+
+    /// Whether a chart is as it would be written.
+    fn is_written(chart: &[u8]) -> bool {
+        written(&read(chart).1) == chart
     }
 
     #[test]

@@ -3,14 +3,15 @@
 use super::charts::Chart;
 use super::cost;
 use super::graph::{Edge, Graph};
+use super::held::Held;
 use super::ops::*;
 use super::records;
 use crate::rng::Rng;
 
 /// The calls, those oftener that are to come oftener.
-const CALLS: [u64; 25] = [
+const CALLS: [u64; 27] = [
     ADD, ADD, LINK, LINK, LINK, LINK, LINK, UNLINK, UNLINK, UNLINK, MOVE, MOVE, MOVE, LAY, LAY,
-    SIFT, SIFT, SIFT, ROUND, SETTLE, SETTLE, COUNT, ORDER, ORDER, PAIR,
+    SIFT, SIFT, SIFT, ROUND, SETTLE, SETTLE, COUNT, ORDER, ORDER, PAIR, WRITE, WRITE,
 ];
 
 /// What the naive model may do for the calls of one list that are chosen by it.
@@ -34,6 +35,8 @@ pub struct Maker {
     pub calls: usize,
     pub n: usize,
     pub edges: Vec<Edge>,
+    /// The layout itself, as long as that is known.
+    held: Held,
     budget: Budget,
     /// What the naive model would have to do for all of it.
     naive: u64,
@@ -57,6 +60,7 @@ impl Maker {
             calls: 0,
             n: 0,
             edges: Vec::new(),
+            held: Held::new(),
             budget: Budget::Naive(NAIVE),
             naive: 0,
         }
@@ -74,11 +78,19 @@ impl Maker {
     }
 
     pub fn record(&mut self, record: Record) {
+        let cost = self.naive_cost(record[0], record[1]);
+        self.held.record(record, cost);
         self.bytes.extend(records::bytes(record));
     }
 
     pub fn chart(&mut self, bytes: &[u8]) {
+        self.held.chart(bytes);
         self.bytes.extend(records::chart(bytes));
+    }
+
+    /// The chart that is written of the layout, if that is known and valid.
+    pub fn written_chart(&self) -> Option<Vec<u8>> {
+        self.held.written()
     }
 
     /// Starts from the empty layout.
@@ -142,10 +154,14 @@ impl Maker {
         self.call(op);
     }
 
-    /// A call with any arguments, if it is known.
+    /// A call with any arguments, if it is known. What is written is often read
+    /// back.
     pub fn call(&mut self, op: u64) {
         let (a, b) = self.arguments(op);
         self.emit(op, a, b);
+        if op == WRITE && self.rng.once_in(2) {
+            self.read_back(a);
+        }
     }
 
     /// Puts a call into the list, if it is known.
@@ -194,6 +210,7 @@ impl Maker {
             SIFT => cost::sift(n, m),
             ROUND => cost::rounds(n, m, 1),
             SETTLE if a <= 1000 => cost::rounds(n, m, a),
+            WRITE => 2 * cost::read(m),
             _ => 0,
         }
     }

@@ -26,7 +26,7 @@ pub const WRITE: u64 = 27;
 /// A call's name, its op, and the refusal numbers that it can answer.
 type Call = (&'static str, u64, &'static [u8]);
 
-const CALLS: [Call; 12] = [
+const CALLS: [Call; 13] = [
     ("chart", CHART, &[1, 2, 3, 4, 5, 6, 7, 8]),
     ("add", ADD, &[11, 16]),
     ("link", LINK, &[11, 12, 13, 14]),
@@ -39,20 +39,23 @@ const CALLS: [Call; 12] = [
     ("count", COUNT, &[11]),
     ("order", ORDER, &[11, 18]),
     ("pair", PAIR, &[11]),
+    ("write", WRITE, &[11, 19]),
 ];
 
 /// Names for several calls at once.
 const SETS: [(&str, &[&str]); 3] = [
     (
         "layout",
-        &["add", "link", "unlink", "move", "count", "order", "pair"],
+        &[
+            "add", "link", "unlink", "move", "count", "order", "pair", "write",
+        ],
     ),
     ("sifting", &["sift", "round", "settle"]),
     (
         "all",
         &[
             "chart", "add", "link", "unlink", "move", "lay", "sift", "round", "settle", "count",
-            "order", "pair",
+            "order", "pair", "write",
         ],
     ),
 ];
@@ -124,7 +127,7 @@ mod tests {
     #[test]
     fn names_and_sets_are_read() {
         let known = Known::parse("layout,sift").expect("known names");
-        assert!(known.has(MOVE) && known.has(SIFT) && known.has(SET_N));
+        assert!(known.has(MOVE) && known.has(WRITE) && known.has(SIFT) && known.has(SET_N));
         assert!(!known.has(SETTLE) && !known.has(CHART));
         assert!(Known::parse("layout,shift").is_none());
         assert!(Known::parse("").is_none());
@@ -143,10 +146,10 @@ mod tests {
     #[test]
     fn all_calls_have_all_refusal_numbers() {
         let answers = Known::all().answers();
-        for number in (0..=8).chain(11..=18) {
+        for number in (0..=8).chain(11..=19) {
             assert!(answers.iter().any(|answer| answer.1 == number), "{number}");
         }
-        assert_eq!(answers.len(), 12 + 8 + 24);
+        assert_eq!(answers.len(), 13 + 8 + 26);
     }
 
     #[test]

@@ -103,7 +103,7 @@ impl Maker {
     }
 
     /// Now and then a carried count that is not the true one.
-    fn any_count(&mut self) {
+    pub fn any_count(&mut self) {
         if self.rng.once_in(3) {
             let word = self.rng.word();
             let count = self.rng.pick(&[0, 1, u64::from(u32::MAX), word]);

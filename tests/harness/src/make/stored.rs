@@ -24,6 +24,7 @@ pub fn list(known: &Known) -> Vec<u8> {
     list.full_layout();
     list.invalid_layouts();
     list.any_count();
+    list.read_back();
     list.charts();
     list.end();
     list.bytes
@@ -63,6 +64,7 @@ impl List<'_> {
             [COUNT, 0, 0, 0],
             [ORDER, 3, 7, 0],
             [PAIR, 0, 0, 0],
+            [WRITE, 20, 7, 0],
         ]);
     }
 
@@ -80,6 +82,10 @@ impl List<'_> {
             [ORDER, 0, 7, 0],
             [ORDER, 2, 256 + 7, 0],
             [PAIR, 0, 0, 0],
+            [WRITE, 0, 7, 0],
+            [WRITE, 9, 7, 0],
+            [WRITE, 10, 7, 0],
+            [WRITE, 12, 256 + 7, 0],
         ]);
     }
 
@@ -96,6 +102,9 @@ impl List<'_> {
             [LINK, 5, 2, 0],
             [COUNT, 0, 0, 0],
             [PAIR, 0, 0, 0],
+            [WRITE, 23, 9, 0],
+            [WRITE, 24, 9, 0],
+            [WRITE, 25, 9, 0],
             [UNLINK, 0, 1, 0],
             [UNLINK, 4, 4, 0],
             [UNLINK, 0, 6, 0],
@@ -178,6 +187,7 @@ impl List<'_> {
             [ORDER, 64, 0, 0],
             [ORDER, 65, 200, 0],
             [PAIR, 0, 0, 0],
+            [WRITE, 18, 200, 0],
         ]);
     }
 
@@ -230,6 +240,19 @@ impl List<'_> {
         ]);
     }
 
+    /// The first ring with another count than the true one, written, read back
+    /// and written again.
+    fn read_back(&mut self) {
+        self.play(&fields(&square()));
+        self.play(&[[SET_COUNT, 7, 0, 0], [WRITE, 17, 0, 0], [WRITE, 18, 0, 0]]);
+        if self.known.has(CHART) {
+            let edges = vec![(0, 2), (1, 3)];
+            let sorted = Graph { edges, ..square() };
+            self.bytes.extend(chart(&Chart::of(&sorted).bytes()));
+        }
+        self.play(&[[WRITE, 19, 255, 0]]);
+    }
+
     /// A chart of each refusal number, and one that is read.
     fn charts(&mut self) {
         if !self.known.has(CHART) {
@@ -257,8 +280,10 @@ impl List<'_> {
 mod tests {
     use super::*;
     use crate::difference::first_difference;
+    use crate::followed::{steps, Step};
     use crate::label::Output;
     use crate::naive::play::play;
+    use crate::written::is_read_back;
 
     #[test]
     fn every_call_and_each_of_its_refusals_occurs() {
@@ -270,6 +295,15 @@ mod tests {
             assert!(lines.lines().any(met), "{start}");
         }
         assert!(lines.ends_with("end\n"));
+    }
+
+    #[test]
+    fn what_is_written_is_read_back() {
+        let list = list(&Known::all());
+        let lines = play(&list);
+        let steps: Vec<Step> = steps(&list, &lines).collect();
+        let mut pairs = steps.windows(2);
+        assert!(pairs.any(|pair| is_read_back(&pair[0], &pair[1])));
     }
 
     /// What `tests/store` wrote, with the second program, for the player.

@@ -26,6 +26,17 @@ pub fn play(list: &[u8]) -> String {
     lines.concat()
 }
 
+/// The layout behind one record.
+pub fn after(layout: Layout, record: &[u8]) -> Layout {
+    let mut player = Player {
+        list: record,
+        at: 0,
+        layout,
+    };
+    player.step();
+    player.layout
+}
+
 struct Player<'a> {
     list: &'a [u8],
     at: usize,

@@ -3,8 +3,8 @@
 use std::collections::BTreeSet;
 use std::ops::RangeInclusive;
 
-use super::{Counts, Quarters, Tally};
-use crate::make::ops::{Known, ORDER};
+use super::{writes, Counts, Quarters, Tally};
+use crate::make::ops::{Known, ORDER, WRITE};
 use crate::make::{charts, families, lists, starts};
 
 /// The quarters of all possible edges in words.
@@ -27,6 +27,10 @@ impl Tally {
         missing.extend(without("calls on size", 0..=64, &self.list_sizes));
         if known.has(ORDER) {
             missing.extend(without("buffer of", 0..=65, &self.buffers));
+        }
+        missing.extend(absent("write", writes::due(known), &self.writes));
+        if known.has(WRITE) {
+            missing.extend(without("write of size", 0..=64, &self.written_sizes));
         }
         missing
     }
@@ -85,13 +89,16 @@ fn empty_quarters(title: &str, quarters: &Quarters) -> Vec<String> {
 }
 
 /// Those names that were never counted.
-fn absent(
+fn absent<N: AsRef<str>>(
     title: &str,
-    names: impl IntoIterator<Item = &'static str>,
+    names: impl IntoIterator<Item = N>,
     counts: &Counts,
 ) -> Vec<String> {
-    let absent = names.into_iter().filter(|&name| !counts.contains_key(name));
-    absent.map(|name| format!("{title}, {name}")).collect()
+    let names = names.into_iter();
+    let absent = names.filter(|name| !counts.contains_key(name.as_ref()));
+    absent
+        .map(|name| format!("{title}, {}", name.as_ref()))
+        .collect()
 }
 
 /// Those numbers that were never met.
@@ -103,7 +110,7 @@ fn without(title: &str, numbers: RangeInclusive<usize>, met: &BTreeSet<usize>) -
 #[cfg(test)]
 mod tests {
     use super::*;
-    use crate::make::ops::{ADD, LINK, SET_N};
+    use crate::make::ops::{ADD, LINK, SET_COUNT, SET_N};
     use crate::make::records;
 
     /// What there is of each: kinds of list, of which two need lay, ways to
@@ -112,9 +119,11 @@ mod tests {
     const STARTS: usize = 10;
     const GRAPHS: usize = 15;
     /// Calls, and their answers; those of charts.
-    const CALLS: usize = 11;
-    const ANSWERS: usize = 44;
+    const CALLS: usize = 12;
+    const ANSWERS: usize = 47;
     const LISTINGS: usize = 9;
+    /// What is to occur of charts that are written, one of which needs chart.
+    const WRITES: usize = 9;
 
     fn list(records: &[[u64; 4]]) -> lists::Made {
         lists::Made {
@@ -153,10 +162,15 @@ mod tests {
     fn at_first_everything_is_missing() {
         let of_charts = LISTINGS + 3 + GRAPHS + 65 + 4;
         let of_lists = ANSWERS + 4 * CALLS + LISTS + STARTS + GRAPHS + 65 + 66;
-        assert_eq!(missing(&Tally::default()).len(), of_charts + of_lists);
+        let of_writes = WRITES + 65;
+        let of_all = of_charts + of_lists + of_writes;
+        assert_eq!(missing(&Tally::default()).len(), of_all);
         let few = Known::parse("add,order").expect("known names");
         let of_few = 6 + 4 * 2 + (LISTS - 2) + (STARTS - 3) + GRAPHS + 65 + 66;
         assert_eq!(Tally::default().missing(&few, false).len(), of_few);
+        let write = Known::parse("write").expect("known names");
+        let of_write = 3 + 4 + (LISTS - 2) + (STARTS - 4) + GRAPHS + 65 + (WRITES - 1) + 65;
+        assert_eq!(Tally::default().missing(&write, false).len(), of_write);
     }
 
     #[test]
@@ -219,5 +233,51 @@ mod tests {
         tally.chart(&chart(), "refused 3\n");
         assert_eq!(tally.without_naive(), (1, 0));
         assert!(tally.text().contains("answers of order:, 18 1\n"));
+    }
+
+    /// The empty layout's chart, as a list has it and as a line shows it.
+    const EMPTY_CHART: [u8; 10] = [0x44, 0, 1, 0, 0x4C, 0, 0, 0x52, 0, 0];
+    const EMPTY_SHOWN: &str = "68 0 1 0 76 0 0 82 0 0";
+
+    #[test]
+    fn a_write_is_met_with_its_size_and_edges() {
+        let line = format!("write 0 10 buffer {EMPTY_SHOWN} 7 n 0 order 0 count 0 words\n");
+        let accepted = met(|tally| tally.list(&list(&[[WRITE, 11, 7, 0]]), &line));
+        let due = [
+            "calls on size 0",
+            "graph in lists, path",
+            "list, several starts",
+            "start, empty",
+            "write of size 0",
+            "write, 0 edges",
+            "write, a buffer one byte longer",
+            "write, accepted",
+        ];
+        assert_eq!(accepted, due);
+        let line = "write 19 0 buffer 7 7 7 7 7 7 7 7 7 n 0 order 0 count 0 words\n";
+        let refused = met(|tally| tally.list(&list(&[[WRITE, 9, 7, 0]]), line));
+        let due = [
+            "write with refusal 19",
+            "write, a buffer one byte too short",
+        ];
+        assert_eq!(refused[4..], due);
+    }
+
+    #[test]
+    fn another_count_and_reading_back_are_met() {
+        let mut made = list(&[[SET_COUNT, 9, 0, 0], [WRITE, 10, 0, 0]]);
+        made.bytes.extend(records::chart(&EMPTY_CHART));
+        let lines = format!(
+            "write 0 10 buffer {EMPTY_SHOWN} n 0 order 0 count 9 words\n\
+             chart 0 n 0 order 0 count 0 words\n"
+        );
+        let met = met(|tally| tally.list(&made, &lines));
+        for due in [
+            "write, a buffer just long enough",
+            "write, a count that is not the true one",
+            "write, read back",
+        ] {
+            assert!(met.contains(&due.to_string()), "{due}");
+        }
     }
 }

@@ -1,6 +1,7 @@
 //! How often each thing occurred in a run.
 
 mod missing;
+mod writes;
 
 use std::collections::{BTreeMap, BTreeSet};
 
@@ -8,6 +9,7 @@ use crate::followed::{numbers, steps, Step};
 use crate::make::charts;
 use crate::make::density::{quarter, LARGE, QUARTERS};
 use crate::make::lists;
+use crate::written::is_read_back;
 
 /// From so many charts and lists on, everything must have occurred.
 pub const ENOUGH: usize = 100;
@@ -39,8 +41,12 @@ pub struct Tally {
     /// where it was accepted.
     chart_quarters: Quarters,
     call_quarters: BTreeMap<String, Quarters>,
-    /// The lengths of lent buffers.
+    /// The lengths of buffers lent for an order.
     buffers: BTreeSet<usize>,
+    /// What occurred of charts that were written, and the numbers of vertices
+    /// in those that were accepted.
+    writes: Counts,
+    written_sizes: BTreeSet<usize>,
     /// How many charts and lists were too dear for the naive model.
     charts_without_naive: usize,
     lists_without_naive: usize,
@@ -76,8 +82,13 @@ impl Tally {
         for graph in &made.graphs {
             add(&mut self.list_graphs, graph);
         }
+        let mut last: Option<Step> = None;
         for step in steps(&made.bytes, lines) {
             self.line(&step);
+            if last.is_some_and(|last| is_read_back(&last, &step)) {
+                add(&mut self.writes, writes::READ_BACK);
+            }
+            last = Some(step);
         }
     }
 
@@ -95,8 +106,22 @@ impl Tally {
             let quarters = self.call_quarters.entry(name.to_string()).or_default();
             add_quarter(quarters, step.n(), step.m());
         }
-        if name == "order" {
-            self.buffers.insert(numbers(step.line, " buffer ").len());
+        match name {
+            "order" => {
+                self.buffers.insert(numbers(step.line, " buffer ").len());
+            }
+            "write" => self.write(step, refusal),
+            _ => {}
+        }
+    }
+
+    /// Takes in a line of `write`.
+    fn write(&mut self, step: &Step, refusal: u8) {
+        for name in writes::met(step, refusal) {
+            add(&mut self.writes, &name);
+        }
+        if refusal == 0 {
+            self.written_sizes.insert(step.n());
         }
     }
 
@@ -120,6 +145,7 @@ impl Tally {
             ("list", &self.lists),
             ("start", &self.starts),
             ("graph in lists", &self.list_graphs),
+            ("write", &self.writes),
         ] {
             for (name, times) in counts {
                 text += &format!("{title}, {name}: {times}\n");
@@ -127,12 +153,15 @@ impl Tally {
         }
         text += &self.answer_table();
         text += &self.quarter_table();
-        text += &format!("sizes of accepted charts: {}\n", self.chart_sizes.len());
-        text += &format!(
-            "sizes of valid layouts in lists: {}\n",
-            self.list_sizes.len()
-        );
-        text + &format!("lengths of buffers: {}\n", self.buffers.len())
+        for (title, met) in [
+            ("sizes of accepted charts", &self.chart_sizes),
+            ("sizes of valid layouts in lists", &self.list_sizes),
+            ("sizes of written layouts", &self.written_sizes),
+            ("lengths of buffers for an order", &self.buffers),
+        ] {
+            text += &format!("{title}: {}\n", met.len());
+        }
+        text
     }
 
     /// A line for each call: how often it was accepted, and refused with each

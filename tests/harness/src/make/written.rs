@@ -1,0 +1,198 @@
+//! Layouts that are written to buffers of many lengths, and read back.
+
+use super::charts;
+use super::density::possible;
+use super::graph::Graph;
+use super::maker::Maker;
+use super::ops::*;
+
+/// Numbers of edges: none, those about which the length of their field gets its
+/// high byte, and all of 64 vertices.
+pub const EDGES: [usize; 4] = [0, 127, 128, 2016];
+
+/// How many lengths there are, and how many of them are not long.
+const LENGTHS: usize = 11;
+const SHORT: usize = 8;
+
+impl Maker {
+    /// The length of the layout's chart.
+    fn chart_length(&self) -> u64 {
+        charts::length(self.n, self.edges.len())
+    }
+
+    /// Lengths of buffers: few bytes and about as many as the chart has, then
+    /// long ones, the last of them more than a buffer gets.
+    fn lengths(&mut self) -> [u64; LENGTHS] {
+        let due = self.chart_length();
+        let more = due + self.rng.within(3, 200) as u64;
+        let wide = 1 << 32;
+        let over = [8193, 65_536 + due, wide, wide + due, u64::MAX];
+        let over = self.rng.pick(&over);
+        [
+            0,
+            1,
+            due - 2,
+            due - 1,
+            due,
+            due + 1,
+            due + 2,
+            more,
+            8191,
+            8192,
+            over,
+        ]
+    }
+
+    /// A length of a buffer, seldom a long one.
+    pub fn any_length(&mut self) -> u64 {
+        let (short, long) = (0..SHORT, SHORT..LENGTHS);
+        let from = if self.rng.once_in(16) { long } else { short };
+        let lengths = self.lengths();
+        self.rng.pick(&lengths[from])
+    }
+
+    /// What each byte of a buffer holds before a call.
+    pub fn fill(&mut self) -> u64 {
+        let any = self.rng.below(300) as u64;
+        self.rng.pick(&[0, 255, any, any])
+    }
+
+    /// Reads back what was written into a buffer of so many bytes, if it was
+    /// long enough and the layout is known.
+    pub fn read_back(&mut self, length: u64) {
+        let fits = |chart: &Vec<u8>| chart.len() as u64 <= length;
+        let known = self.known.among(&[CHART, WRITE]).len() == 2;
+        if let Some(chart) = self.written_chart().filter(|chart| known && fits(chart)) {
+            self.chart(&chart);
+        }
+    }
+
+    /// Writes a graph and one whose number of edges takes its turn, each into a
+    /// buffer whose length takes its turn and into one just long enough.
+    pub fn call_write_in_turn(&mut self, graph: &Graph, index: usize) {
+        if !self.known.has(WRITE) {
+            return;
+        }
+        let other = self.graph_in_turn(index);
+        for graph in [graph, &other] {
+            self.write_graph(graph);
+            let lengths = self.lengths();
+            self.call_write(lengths[index % LENGTHS]);
+            self.call_write(self.chart_length());
+        }
+    }
+
+    /// A graph whose number of edges takes its turn.
+    fn graph_in_turn(&mut self, index: usize) -> Graph {
+        let m = EDGES[index % EDGES.len()];
+        let fewest = (0..64).find(|&n| possible(n) >= m).unwrap_or(64);
+        let n = self.rng.within(fewest, 64);
+        Graph::with_edges(&mut self.rng, n, m)
+    }
+
+    /// Writes the layout, now and then with another count than the true one,
+    /// into a buffer of so many bytes, and reads it back.
+    fn call_write(&mut self, length: u64) {
+        self.any_count();
+        let fill = self.fill();
+        self.emit(WRITE, length, fill);
+        self.read_back(length);
+    }
+}
+
+#[cfg(test)]
+mod tests {
+    use super::*;
+    use crate::entries::{entries, Entry};
+    use crate::followed::{numbers, steps, Step};
+    use crate::make::lists;
+    use crate::naive::play::play;
+    use crate::rng::Rng;
+    use crate::written::is_read_back;
+    use std::collections::BTreeSet;
+
+    /// What takes its turn, each length with each number of edges.
+    fn in_turn(names: &str) -> Vec<Vec<u8>> {
+        let known = Known::parse(names).expect("known names");
+        let indices = 0..LENGTHS * EDGES.len();
+        let lists = indices.map(|index| {
+            let mut maker = Maker::new(Rng::new(1, "written", index), &known);
+            let graph = Graph::in_quarter(&mut maker.rng, index, index % 4);
+            maker.call_write_in_turn(&graph, index);
+            maker.bytes
+        });
+        lists.collect()
+    }
+
+    #[test]
+    fn each_length_goes_with_each_number_of_edges() {
+        let (mut rooms, mut lents, mut fills) = (BTreeSet::new(), BTreeSet::new(), BTreeSet::new());
+        for list in in_turn("chart,write") {
+            for step in steps(&list, &play(&list)) {
+                let Entry::Record([WRITE, length, fill, _]) = step.entry else {
+                    continue;
+                };
+                let due = charts::length(step.n(), step.m());
+                rooms.insert((step.m(), length.wrapping_sub(due) as i64));
+                lents.insert((step.m(), numbers(step.line, " buffer ").len()));
+                fills.insert(fill);
+            }
+        }
+        for m in EDGES {
+            assert!((-2..=2).all(|room| rooms.contains(&(m, room))), "{m} edges");
+            let lengths = [0, 1, 8191, 8192];
+            assert!(lengths.iter().all(|&length| lents.contains(&(m, length))));
+        }
+        assert!(fills.contains(&0) && fills.contains(&255) && fills.len() > 20);
+    }
+
+    /// How often something was written in a list, and how often it was read
+    /// back.
+    fn written(list: &[u8]) -> (usize, usize) {
+        let lines = play(list);
+        let steps: Vec<Step> = steps(list, &lines).collect();
+        let accepted = steps.iter().filter(|s| s.answer() == Some(("write", 0)));
+        let pairs = steps.windows(2);
+        let back = pairs.filter(|pair| is_read_back(&pair[0], &pair[1]));
+        (accepted.count(), back.count())
+    }
+
+    #[test]
+    fn what_is_written_in_turn_is_always_read_back() {
+        for list in in_turn("chart,write") {
+            let (accepted, back) = written(&list);
+            assert!(accepted >= 2);
+            assert_eq!(accepted, back);
+        }
+    }
+
+    #[test]
+    fn what_is_written_anywhere_is_often_read_back() {
+        let known = Known::all();
+        let made = (0..60).map(|index| lists::list(1, index, &known));
+        let made = made.filter(|made| made.naive);
+        let (mut accepted, mut back) = (0, 0);
+        for (written, read) in made.map(|made| written(&made.bytes)) {
+            assert!(read >= 2);
+            accepted += written;
+            back += read;
+        }
+        assert!(2 * back > accepted, "{back} of {accepted}");
+        assert!(back < accepted, "{back} of {accepted}");
+    }
+
+    /// Whether some entry stands in lists of some calls.
+    fn occurs(names: &str, wanted: fn(&Entry) -> bool) -> bool {
+        let known = Known::parse(names).expect("known names");
+        let mut lists = (0..30).map(|index| lists::list(1, index, &known).bytes);
+        lists.any(|list| entries(&list).iter().any(wanted))
+    }
+
+    #[test]
+    fn nothing_is_written_or_read_back_by_calls_that_are_not_known() {
+        let is_chart = |entry: &Entry| matches!(entry, Entry::Chart(_));
+        let is_write = |entry: &Entry| matches!(entry, Entry::Record([WRITE, ..]));
+        assert!(occurs("write", is_write) && !occurs("write", is_chart));
+        assert!(occurs("chart,count", is_chart) && !occurs("chart,count", is_write));
+    }
+}
