@@ -92,6 +92,7 @@ mod tests {
     use crate::make::records;
     use crate::naive::list::listing;
     use crate::naive::play::play;
+    use crate::written;
 
     /// The chart of document 01's first ring.
     fn square() -> Vec<u8> {
@@ -105,7 +106,8 @@ mod tests {
         for made in (0..40).map(|index| lists::list(7, index, &known)) {
             if made.naive {
                 let lines = play(&made.bytes);
-                assert_eq!(check_lines(&made.bytes, &lines, check_line), Ok(()));
+                let check = |step: &Step| check_line(step).and(written::check_line(step));
+                assert_eq!(check_lines(&made.bytes, &lines, check), Ok(()));
             }
         }
         assert_eq!(check_listing(&square(), &listing(&square())), Ok(()));

@@ -60,8 +60,7 @@ mod tests {
     use crate::followed::{check_lines, steps};
     use crate::make::charts::Chart;
     use crate::make::graph::Graph;
-    use crate::make::lists;
-    use crate::make::ops::{Known, SET_COUNT, SET_N};
+    use crate::make::ops::{SET_COUNT, SET_N};
     use crate::make::records;
     use crate::naive::play::play;
 
@@ -85,16 +84,6 @@ mod tests {
     }
 
     #[test]
-    fn what_the_naive_model_writes_is_right() {
-        let known = Known::all();
-        let made = (0..40).map(|index| lists::list(7, index, &known));
-        let made = made.filter(|made| made.naive).map(|made| made.bytes);
-        for list in made.chain([list()]) {
-            assert_eq!(check_lines(&list, &play(&list), check_line), Ok(()));
-        }
-    }
-
-    #[test]
     fn a_chart_is_found_in_its_line_and_behind_it() {
         let (list, lines) = (list(), play(&list()));
         let steps: Vec<Step> = steps(&list, &lines).collect();
@@ -113,6 +102,7 @@ mod tests {
     #[test]
     fn a_wrong_chart_buffer_or_layout_is_found() {
         let (list, lines) = (list(), play(&list()));
+        assert_eq!(check_lines(&list, &lines, check_line), Ok(()));
         for (line, from, to, due) in [
             (2, "write 19 0 buffer 6", "write 19 0 buffer 5", "not what"),
             (2, "write 19 0", "write 19 1", "not what"),

@@ -169,7 +169,7 @@ mod tests {
     #[test]
     fn what_is_written_anywhere_is_often_read_back() {
         let known = Known::all();
-        let made = (0..60).map(|index| lists::list(1, index, &known));
+        let made = (0..25).map(|index| lists::list(1, index, &known));
         let made = made.filter(|made| made.naive);
         let (mut accepted, mut back) = (0, 0);
         for (written, read) in made.map(|made| written(&made.bytes)) {
