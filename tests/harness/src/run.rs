@@ -85,7 +85,6 @@ fn compare_list(
     let naive = made.naive || plant.is_some();
     let model = naive.then_some(naive::play::play as Model);
     let lines = input.compare(&options.play, model, plant)?;
-    tally.list(&made, &lines);
     let check = |step: &Step| {
         written::check_line(step)?;
         if naive {
@@ -96,7 +95,9 @@ fn compare_list(
     check_lines(&made.bytes, &lines, check).map_err(|(line, text)| {
         let record = record_of(&made.bytes, line);
         input.failure(format!("{record}: {text}"))
-    })
+    })?;
+    tally.list(&made, &lines);
+    Ok(())
 }
 
 fn compare_five(options: &Options, number: usize) -> Result<(), Failure> {

@@ -44,7 +44,7 @@ pub struct Tally {
     /// The lengths of buffers lent for an order.
     buffers: BTreeSet<usize>,
     /// What occurred of charts that were written, and the numbers of vertices
-    /// in those that were accepted.
+    /// in those layouts.
     writes: Counts,
     written_sizes: BTreeSet<usize>,
     /// How many charts and lists were too dear for the naive model.
