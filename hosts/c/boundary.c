@@ -47,6 +47,9 @@ int main(void)
     AT(rl_crossing, found);
     AT(rl_crossing, first);
     AT(rl_crossing, second);
+    SIZE(rl_written);
+    AT(rl_written, refusal);
+    AT(rl_written, length);
     SIZE(rl_played);
     AT(rl_played, refusal);
     AT(rl_played, layout);
@@ -67,5 +70,6 @@ int main(void)
     REFUSAL(NO_ROOM);
     REFUSAL(LIMIT_OUT_OF_RANGE);
     REFUSAL(BUFFER_TOO_SHORT);
+    REFUSAL(CHART_BUFFER_TOO_SHORT);
     return 0;
 }

@@ -12,8 +12,9 @@
 /* Bytes in a record; a chart is padded to a multiple of it. */
 #define RECORD 32
 
-/* The longest buffer that a list can lend for an order. */
-#define LONGEST_BUFFER 255
+/* The longest buffers that a list can lend for an order and for a chart. */
+#define LONGEST_ORDER 255
+#define LONGEST_CHART 8192
 
 /* A list, and how far it is played. */
 typedef struct list {
@@ -126,13 +127,35 @@ static void play_converge(rl_layout *l, uint64_t limit)
     printf("settle %u %u %u %s", run.refusal, run.reduction, run.rounds, run.converged ? "yes" : "no");
 }
 
-static void play_order(const rl_layout *l, uint64_t length, uint64_t fill)
+/* Fills as much of the buffer as the record lends; how many bytes that is. */
+static size_t fill_buffer(uint8_t *buffer, size_t longest, record r)
 {
-    uint8_t buffer[LONGEST_BUFFER];
-    size_t lent = length < LONGEST_BUFFER ? length : LONGEST_BUFFER;
-    memset(buffer, (uint8_t)fill, lent);
-    printf("order %u buffer", rl_order(l, buffer, lent));
-    print_bytes(buffer, lent);
+    size_t length = r.a < longest ? r.a : longest;
+    memset(buffer, (uint8_t)r.b, length);
+    return length;
+}
+
+static void print_buffer(const uint8_t *buffer, size_t length)
+{
+    printf(" buffer");
+    print_bytes(buffer, length);
+}
+
+static void play_order(const rl_layout *l, record r)
+{
+    uint8_t buffer[LONGEST_ORDER];
+    size_t length = fill_buffer(buffer, sizeof buffer, r);
+    printf("order %u", rl_order(l, buffer, length));
+    print_buffer(buffer, length);
+}
+
+static void play_write_chart(const rl_layout *l, record r)
+{
+    uint8_t buffer[LONGEST_CHART];
+    size_t length = fill_buffer(buffer, sizeof buffer, r);
+    rl_written written = rl_write_chart(l, buffer, length);
+    printf("write %u %zu", written.refusal, written.length);
+    print_buffer(buffer, length);
 }
 
 static void play_first_crossing(const rl_layout *l)
@@ -195,10 +218,13 @@ static bool play_call(rl_layout *l, list *rest, record r)
         return true;
     }
     case 25:
-        play_order(l, r.a, r.b);
+        play_order(l, r);
         return true;
     case 26:
         play_first_crossing(l);
+        return true;
+    case 27:
+        play_write_chart(l, r);
         return true;
     default:
         return false;

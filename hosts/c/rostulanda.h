@@ -38,6 +38,9 @@ extern "C" {
 /* Every chart of more bytes is refused. */
 #define RL_CHART_BYTES 8192
 
+/* The most bytes that rl_write_chart writes. */
+#define RL_WRITTEN_CHART_BYTES 4106
+
 /* The least buffer for rl_list_chart. */
 #define RL_LISTING_BYTES 1024
 
@@ -63,7 +66,8 @@ enum rl_refusal {
     RL_NO_SUCH_EDGE = 15,
     RL_NO_ROOM = 16,
     RL_LIMIT_OUT_OF_RANGE = 17,
-    RL_BUFFER_TOO_SHORT = 18
+    RL_BUFFER_TOO_SHORT = 18,
+    RL_CHART_BUFFER_TOO_SHORT = 19
 };
 
 /* The question that a refused call answered "no". */
@@ -87,6 +91,7 @@ static inline const char *rl_refusal_text(uint8_t refusal)
     case RL_NO_ROOM: return "is n below 64?";
     case RL_LIMIT_OUT_OF_RANGE: return "is the limit from 1 to 1000?";
     case RL_BUFFER_TOO_SHORT: return "is the lent buffer long enough?";
+    case RL_CHART_BUFFER_TOO_SHORT: return "has the buffer as many bytes as the chart?";
     default: return "unknown";
     }
 }
@@ -161,6 +166,12 @@ typedef struct rl_crossing {
     rl_edge second;
 } rl_crossing;
 
+/* How many bytes the written chart has. */
+typedef struct rl_written {
+    uint8_t refusal;
+    size_t length;
+} rl_written;
+
 /* A list of calls played: the layout at the end, and how many calls it had. */
 typedef struct rl_played {
     uint8_t refusal;
@@ -210,6 +221,9 @@ RL_AT(rl_crossing, refusal, 0);
 RL_AT(rl_crossing, found, 1);
 RL_AT(rl_crossing, first, 8);
 RL_AT(rl_crossing, second, 24);
+RL_SIZE(rl_written, 16);
+RL_AT(rl_written, refusal, 0);
+RL_AT(rl_written, length, 8);
 RL_SIZE(rl_played, 608);
 RL_AT(rl_played, refusal, 0);
 RL_AT(rl_played, layout, 8);
@@ -270,6 +284,12 @@ uint8_t rl_order(const rl_layout *l, uint8_t *buffer, size_t length);
 /* The first two edges that cross, edges sorted by lower, then higher end (the
  * shown crossing pair). */
 rl_crossing rl_first_crossing(const rl_layout *l);
+
+/* Writes the layout's chart to the start of the buffer, edges lower end first
+ * and sorted by lower, then higher end; the bytes beyond it keep what they hold.
+ * The carried count is not in it: read again, the chart gives this layout with
+ * its true crossings. Refused: 19, for fewer bytes than the chart has. */
+rl_written rl_write_chart(const rl_layout *l, uint8_t *buffer, size_t length);
 
 /* Whether the layout is valid (whole): all of the fields as rl_layout says,
  * but for the count. */

@@ -124,6 +124,66 @@ static void reads(void)
     HOLDS(rl_order(&empty, buffer, 0) == RL_ACCEPTED);
 }
 
+/* A chart written by rl_write_chart: its bytes, whatever the carried count, and
+ * the layout that reading them over another one gives. */
+static void writes(void)
+{
+    /* Edges in any sequence and either way round, and as they are written. */
+    static const uint8_t listed[] = {
+        0x44, 0, 1, 4, 0x4C, 0, 8, 3, 2, 2, 0, 1, 3, 1, 0, 0x52, 0, 4, 2, 0, 3, 1,
+    };
+    static const uint8_t sorted[] = {
+        0x44, 0, 1, 4, 0x4C, 0, 8, 0, 1, 0, 2, 1, 3, 2, 3, 0x52, 0, 4, 2, 0, 3, 1,
+    };
+    static const size_t length = sizeof sorted;
+    rl_layout l = rl_empty();
+    HOLDS(rl_read_chart(&l, listed, sizeof listed) == RL_ACCEPTED && l.count == 1);
+    rl_layout carried = l;
+    carried.count = 77;
+    rl_layout before = carried;
+
+    uint8_t buffer[RL_WRITTEN_CHART_BYTES];
+    memset(buffer, 77, sizeof buffer);
+    rl_written written = rl_write_chart(&carried, buffer, length - 1);
+    HOLDS(written.refusal == RL_CHART_BUFFER_TOO_SHORT && written.length == 0);
+    written = rl_write_chart(&carried, buffer, 0);
+    HOLDS(written.refusal == RL_CHART_BUFFER_TOO_SHORT && written.length == 0);
+    HOLDS(holds_only(buffer, sizeof buffer, 77));
+    for (size_t more = 0; more < 2; more++) {
+        memset(buffer, 77, sizeof buffer);
+        written = rl_write_chart(&carried, buffer, length + more);
+        HOLDS(written.refusal == RL_ACCEPTED && written.length == length);
+        HOLDS(memcmp(buffer, sorted, length) == 0);
+        HOLDS(holds_only(buffer + length, sizeof buffer - length, 77));
+    }
+    HOLDS(same(&carried, &before));
+    rl_layout again = first();
+    HOLDS(rl_read_chart(&again, buffer, length) == RL_ACCEPTED && same(&again, &l));
+
+    rl_layout empty = rl_empty();
+    written = rl_write_chart(&empty, buffer, sizeof buffer);
+    HOLDS(written.refusal == RL_ACCEPTED && written.length == 10);
+    HOLDS(rl_read_chart(&again, buffer, 10) == RL_ACCEPTED && same(&again, &empty));
+}
+
+/* All 64 vertices and all edges: the longest chart that is written. */
+static void writes_the_longest(void)
+{
+    rl_layout l = rl_empty();
+    l.n = RL_PLACES;
+    for (size_t v = 0; v < RL_PLACES; v++) {
+        l.order[v] = (uint8_t)(RL_PLACES - 1 - v);
+        l.adjacency[v] = ~((uint64_t)1 << v);
+    }
+    uint8_t buffer[RL_WRITTEN_CHART_BYTES];
+    HOLDS(rl_write_chart(&l, buffer, sizeof buffer - 1).refusal == RL_CHART_BUFFER_TOO_SHORT);
+    HOLDS(rl_write_chart(&l, buffer, sizeof buffer).length == sizeof buffer);
+    rl_layout again = first();
+    HOLDS(rl_read_chart(&again, buffer, sizeof buffer) == RL_ACCEPTED && again.count == 635376);
+    again.count = l.count;
+    HOLDS(same(&again, &l));
+}
+
 /* Fields of any content: refused, and left. */
 static void invalid(void)
 {
@@ -148,7 +208,11 @@ static void invalid(void)
     HOLDS(run.refusal == RL_INVALID_LAYOUT && run.reduction == 0 && run.rounds == 0 && !run.converged);
     rl_counted counted = rl_count(&l);
     HOLDS(counted.refusal == RL_INVALID_LAYOUT && counted.count == 0);
-    HOLDS(rl_order(&l, buffer, sizeof buffer) == RL_INVALID_LAYOUT && holds_only(buffer, sizeof buffer, 77));
+    HOLDS(rl_order(&l, buffer, sizeof buffer) == RL_INVALID_LAYOUT);
+    rl_written written = rl_write_chart(&l, buffer, sizeof buffer);
+    HOLDS(written.refusal == RL_INVALID_LAYOUT && written.length == 0);
+    HOLDS(rl_write_chart(&l, buffer, 0).refusal == RL_INVALID_LAYOUT);
+    HOLDS(holds_only(buffer, sizeof buffer, 77));
     rl_crossing crossing = rl_first_crossing(&l);
     HOLDS(crossing.refusal == RL_INVALID_LAYOUT && !crossing.found);
     HOLDS(crossing.first.low == 0 && crossing.first.high == 0);
@@ -210,6 +274,8 @@ int main(void)
     starts();
     changes();
     reads();
+    writes();
+    writes_the_longest();
     invalid();
     listing();
     lists();
