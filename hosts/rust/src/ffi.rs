@@ -10,6 +10,9 @@ use crate::{Edge, Fields};
 /// The most vertices, and the places of an order.
 pub const PLACES: usize = 64;
 
+/// The most bytes that a written chart has.
+pub const WRITTEN_CHART_BYTES: usize = 4106;
+
 #[repr(C)]
 pub struct Vertex {
     pub refusal: u8,
@@ -58,6 +61,12 @@ pub struct Crossing {
 }
 
 #[repr(C)]
+pub struct Written {
+    pub refusal: u8,
+    pub length: usize,
+}
+
+#[repr(C)]
 pub struct Played {
     pub refusal: u8,
     pub layout: Fields,
@@ -80,6 +89,7 @@ unsafe extern "C" {
 
     unsafe fn rl_read_chart(l: &mut Fields, chart: *const u8, length: usize) -> u8;
     unsafe fn rl_order(l: &Fields, buffer: *mut u8, length: usize) -> u8;
+    unsafe fn rl_write_chart(l: &Fields, buffer: *mut u8, length: usize) -> Written;
     unsafe fn rl_list_chart(
         chart: *const u8,
         length: usize,
@@ -105,6 +115,11 @@ pub fn read_chart(l: &mut Fields, chart: &[u8]) -> u8 {
 pub fn order(l: &Fields, buffer: &mut [u8]) -> u8 {
     // SAFETY: pointer and length are those of a slice.
     unsafe { rl_order(l, buffer.as_mut_ptr(), buffer.len()) }
+}
+
+pub fn write_chart(l: &Fields, buffer: &mut [u8]) -> Written {
+    // SAFETY: pointer and length are those of a slice.
+    unsafe { rl_write_chart(l, buffer.as_mut_ptr(), buffer.len()) }
 }
 
 pub fn list_chart(chart: &[u8], out: &mut [u8]) -> usize {

@@ -1,6 +1,6 @@
 //! A layout, held by the host and lent to each call.
 
-use crate::ffi::{self, PLACES};
+use crate::ffi::{self, PLACES, WRITTEN_CHART_BYTES};
 use crate::refusal::{accepted, Refusal};
 use crate::row::Row;
 
@@ -187,6 +187,23 @@ impl Layout {
         accepted(answer.refusal, answer.found.then_some(pair))
     }
 
+    /// The chart of this layout: edges lower end first, sorted by lower, then
+    /// higher end. The carried count is not in it: read again, it gives this
+    /// layout with its true crossings.
+    pub fn chart(&self) -> Result<Vec<u8>, Refusal> {
+        let mut buffer = vec![0; WRITTEN_CHART_BYTES];
+        let length = self.write_chart(&mut buffer)?;
+        buffer.truncate(length);
+        Ok(buffer)
+    }
+
+    /// Writes the chart to the start of the buffer, and gives its length, at
+    /// most [`WRITTEN_CHART_BYTES`]; the bytes beyond keep what they hold.
+    pub fn write_chart(&self, buffer: &mut [u8]) -> Result<usize, Refusal> {
+        let answer = ffi::write_chart(&self.fields, buffer);
+        accepted(answer.refusal, answer.length)
+    }
+
     /// Whether the layout is valid (document 01: whole).
     pub fn is_valid(&self) -> bool {
         ffi::rl_is_valid(&self.fields)
@@ -319,6 +336,56 @@ mod tests {
     }
 
     #[test]
+    fn a_chart_is_written_as_it_is_read() {
+        assert_eq!(first().chart().as_deref(), Ok(FIRST_CHART));
+        for edges in [[(2, 0), (3, 1)], [(1, 3), (0, 2)]] {
+            let chart = Layout::from_edges(4, &edges).unwrap().chart();
+            assert_eq!(chart.as_deref(), Ok(FIRST_CHART));
+        }
+        let empty = [0x44, 0, 1, 0, 0x4C, 0, 0, 0x52, 0, 0];
+        assert_eq!(Layout::empty().chart(), Ok(empty.to_vec()));
+    }
+
+    #[test]
+    fn a_written_chart_gives_the_true_count() {
+        let mut layout = first();
+        layout.move_after(3, 0).unwrap();
+        let before = layout.clone();
+        layout.fields_mut().count = 77;
+        let chart = layout.chart().unwrap();
+        assert_eq!(layout.count(), Ok(77));
+        layout.read_chart(&chart).unwrap();
+        assert_eq!(layout, before);
+    }
+
+    #[test]
+    fn the_longest_chart() {
+        let pairs = |a| (a + 1..PLACES).map(move |b| (a, b));
+        let edges: Vec<_> = (0..PLACES).flat_map(pairs).collect();
+        let layout = Layout::from_edges(PLACES, &edges).unwrap();
+        let chart = layout.chart().unwrap();
+        assert_eq!(chart.len(), WRITTEN_CHART_BYTES);
+        assert_eq!(Layout::from_chart(&chart), Ok(layout));
+    }
+
+    #[test]
+    fn a_chart_goes_into_a_lent_buffer() {
+        let length = FIRST_CHART.len();
+        let mut buffer = [77; 20];
+        for short in [0, length - 1] {
+            let refused = first().write_chart(&mut buffer[..short]);
+            assert_eq!(refused, Err(Refusal::ChartBufferTooShort));
+            assert_eq!(buffer, [77; 20]);
+        }
+        for long in [length, length + 1] {
+            let mut buffer = [77; 20];
+            assert_eq!(first().write_chart(&mut buffer[..long]), Ok(length));
+            assert_eq!(buffer[..length], *FIRST_CHART);
+            assert_eq!(buffer[length..], [77; 2]);
+        }
+    }
+
+    #[test]
     fn an_invalid_layout_is_refused_and_left() {
         let mut layout = first();
         *layout.fields_mut() = Fields {
@@ -336,6 +403,8 @@ mod tests {
         assert_eq!(layout.order().map(drop), refused);
         assert_eq!(layout.row(50).map(drop), refused);
         assert_eq!(layout.first_crossing().map(drop), refused);
+        assert_eq!(layout.chart().map(drop), refused);
+        assert_eq!(layout.write_chart(&mut []).map(drop), refused);
         assert_eq!(layout.edges().len(), 64 * 63 / 2);
         assert_eq!(layout, before);
     }

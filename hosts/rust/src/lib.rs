@@ -27,7 +27,7 @@ mod list;
 mod refusal;
 mod row;
 
-pub use ffi::PLACES;
+pub use ffi::{PLACES, WRITTEN_CHART_BYTES};
 pub use layout::{Convergence, Edge, Fields, Layout, Round};
 pub use list::{play, Answer, Call, Played};
 pub use refusal::Refusal;

@@ -8,8 +8,9 @@ use rostulanda::{Layout, Refusal, PLACES};
 /// Bytes in a record; a chart is padded to a multiple of it.
 const RECORD: usize = 32;
 
-/// The longest buffer that a list can lend for an order.
-const LONGEST_BUFFER: u64 = 255;
+/// The longest buffers that a list can lend for an order and for a chart.
+const LONGEST_ORDER: u64 = 255;
+const LONGEST_CHART: u64 = 8192;
 
 /// A record: the op and its three numbers.
 type Record = [u64; 4];
@@ -109,12 +110,16 @@ fn play_record(layout: &mut Layout, record: Record, list: &mut &[u8]) -> Option<
         }
         24 => told("count", " 0", layout.count().map(|c| format!(" {c}"))),
         25 => {
-            let mut buffer = vec![b as u8; a.min(LONGEST_BUFFER) as usize];
-            let written = layout.write_order(&mut buffer);
-            let text = format!(" buffer{}", numbers(&buffer));
-            told("order", &text, written.map(|()| text.clone()))
+            let mut buffer = vec![b as u8; a.min(LONGEST_ORDER) as usize];
+            let written = layout.write_order(&mut buffer).map(none);
+            told("order", "", written) + &buffer_text(&buffer)
         }
         26 => told("pair", " refused", crossing_text(layout)),
+        27 => {
+            let mut buffer = vec![b as u8; a.min(LONGEST_CHART) as usize];
+            let written = layout.write_chart(&mut buffer);
+            told("write", " 0", written.map(|l| format!(" {l}"))) + &buffer_text(&buffer)
+        }
         _ => return None,
     })
 }
@@ -147,6 +152,11 @@ fn told(name: &str, when_refused: &str, answer: Result<String, Refusal>) -> Stri
         Ok(answers) => format!("{name} 0{answers}"),
         Err(refusal) => format!("{name} {}{when_refused}", refusal.code()),
     }
+}
+
+/// What a lent buffer holds after the call.
+fn buffer_text(buffer: &[u8]) -> String {
+    format!(" buffer{}", numbers(buffer))
 }
 
 /// Each number with a space before it.
