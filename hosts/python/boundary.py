@@ -16,6 +16,7 @@ STRUCTS = {
     "rl_convergence": rostulanda._Convergence,
     "rl_counted": rostulanda._Counted,
     "rl_crossing": rostulanda._Crossing,
+    "rl_written": rostulanda._Written,
     "rl_played": rostulanda._Played,
 }
 

@@ -13,8 +13,9 @@ from rostulanda import PLACES, Layout
 #: Bytes in a record; a chart is padded to a multiple of it.
 RECORD = 32
 
-#: The longest buffer that a list can lend for an order.
-LONGEST_BUFFER = 255
+#: The longest buffers that a list can lend for an order and for a chart.
+LONGEST_ORDER = 255
+LONGEST_CHART = 8192
 
 
 class CallsEnd(Exception):
@@ -46,10 +47,20 @@ def answered(name: str, when_refused: str, call: Callable[[], Optional[str]]) ->
         return f"{name} {refused.code}{when_refused}"
 
 
+def filled(length: int, longest: int, fill: int) -> bytearray:
+    """A buffer to be lent."""
+    return bytearray([fill % 256]) * min(length, longest)
+
+
 def order(layout: Layout, length: int, fill: int) -> str:
-    """The call `order`, into a buffer filled beforehand."""
-    buffer = bytearray([fill % 256]) * min(length, LONGEST_BUFFER)
+    buffer = filled(length, LONGEST_ORDER, fill)
     told = answered("order", "", lambda: layout.write_order(buffer))
+    return f"{told} buffer{numbers(list(buffer))}"
+
+
+def write_chart(layout: Layout, length: int, fill: int) -> str:
+    buffer = filled(length, LONGEST_CHART, fill)
+    told = answered("write", " 0", lambda: f" {layout.write_chart(buffer)}")
     return f"{told} buffer{numbers(list(buffer))}"
 
 
@@ -66,6 +77,7 @@ OPS: Dict[int, Callable[[Layout, int, int], str]] = {
     24: lambda l, a, b: answered("count", " 0", lambda: f" {l.count()}"),
     25: order,
     26: lambda l, a, b: answered("pair", " refused", lambda: first_crossing(l)),
+    27: write_chart,
 }
 
 

@@ -22,10 +22,13 @@ import operator
 import os
 from ctypes import c_bool, c_char_p, c_size_t, c_uint8, c_uint32, c_uint64
 from pathlib import Path
-from typing import Any, Dict, Hashable, Iterable, List, NamedTuple, Optional, Sequence, Tuple
+from typing import Any, Callable, Dict, Hashable, Iterable, List, NamedTuple, Optional, Sequence, Tuple
 
 #: The most vertices, and the places of an order.
 PLACES = 64
+
+#: The most bytes that a written chart has.
+WRITTEN_CHART_BYTES = 4106
 
 #: The least buffer that a listing needs.
 LISTING_BYTES = 1024
@@ -55,6 +58,7 @@ class Refusal(enum.IntEnum):
     NO_ROOM = 16
     LIMIT_OUT_OF_RANGE = 17
     BUFFER_TOO_SHORT = 18
+    CHART_BUFFER_TOO_SHORT = 19
 
 
 #: The question that each refusal answers "no".
@@ -75,6 +79,7 @@ QUESTIONS: Dict[int, str] = {
     Refusal.NO_ROOM: "is n below 64?",
     Refusal.LIMIT_OUT_OF_RANGE: "is the limit from 1 to 1000?",
     Refusal.BUFFER_TOO_SHORT: "is the lent buffer long enough?",
+    Refusal.CHART_BUFFER_TOO_SHORT: "has the buffer as many bytes as the chart?",
 }
 
 
@@ -139,6 +144,10 @@ class _Crossing(ctypes.Structure):
     _fields_ = [("refusal", c_uint8), ("found", c_bool), ("first", _Edge), ("second", _Edge)]
 
 
+class _Written(ctypes.Structure):
+    _fields_ = [("refusal", c_uint8), ("length", c_size_t)]
+
+
 class _Played(ctypes.Structure):
     _fields_ = [("refusal", c_uint8), ("layout", Fields), ("calls", c_size_t)]
 
@@ -158,6 +167,7 @@ _FUNCTIONS: Dict[str, Tuple[Any, List[Any]]] = {
     "rl_count": (_Counted, [ctypes.POINTER(Fields)]),
     "rl_order": (c_uint8, [ctypes.POINTER(Fields), ctypes.POINTER(c_uint8), c_size_t]),
     "rl_first_crossing": (_Crossing, [ctypes.POINTER(Fields)]),
+    "rl_write_chart": (_Written, [ctypes.POINTER(Fields), ctypes.POINTER(c_uint8), c_size_t]),
     "rl_is_valid": (c_bool, [ctypes.POINTER(Fields)]),
     "rl_list_chart": (c_size_t, [c_char_p, c_size_t, ctypes.POINTER(c_uint8), c_size_t]),
     "rl_play": (
@@ -428,13 +438,19 @@ class Layout:
 
     def write_order(self, buffer: bytearray) -> None:
         """Writes the order to the first n bytes of the buffer; the others keep what they hold."""
+        _accept(self._write(_library.rl_order, buffer))
+
+    def _write(self, call: Callable[..., Any], buffer: bytearray) -> Any:
+        """What a call answers that writes to a lent buffer.
+
+        It is looked at when nothing holds the buffer any more: a traceback that
+        did would keep the buffer from changing its size.
+        """
         if not isinstance(buffer, bytearray):
             # Another kind of buffer might be part of the layout itself.
             raise TypeError("the buffer is to be a bytearray")
         lent = (c_uint8 * len(buffer)).from_buffer(buffer)
-        refusal = _library.rl_order(self.fields, lent, len(buffer))
-        del lent  # or the buffer keeps its size as long as a traceback is held
-        _accept(refusal)
+        return call(self.fields, lent, len(buffer))
 
     def first_crossing(self) -> Optional[Tuple[Edge, Edge]]:
         """The first two edges that cross (document 01: shown crossing pair), or None.
@@ -447,6 +463,25 @@ class Layout:
             return None
         first, second = answer.first, answer.second
         return (first.low, first.high), (second.low, second.high)
+
+    def chart(self) -> bytes:
+        """The chart of this layout: edges lower end first, sorted by lower, then higher end.
+
+        The carried count is not in it: read again, it gives this layout with its
+        true crossings.
+        """
+        buffer = bytearray(WRITTEN_CHART_BYTES)
+        length = self.write_chart(buffer)
+        return bytes(buffer[:length])
+
+    def write_chart(self, buffer: bytearray) -> int:
+        """Writes the chart to the start of the buffer; the bytes beyond keep what they hold.
+
+        Gives its length, at most WRITTEN_CHART_BYTES.
+        """
+        answer = self._write(_library.rl_write_chart, buffer)
+        _accept(answer.refusal)
+        return answer.length
 
     def is_valid(self) -> bool:
         """Whether the layout is valid (document 01: whole)."""

@@ -104,6 +104,45 @@ class LayoutTest(unittest.TestCase):
         with self.assertRaises(TypeError):
             layout.write_order(memoryview(layout.fields.order))
 
+    def test_a_chart_is_written_as_it_is_read(self):
+        self.assertEqual(Layout.from_chart(CHART).chart(), CHART)
+        self.assertEqual(Layout().chart(), bytes([0x44, 0, 1, 0, 0x4C, 0, 0, 0x52, 0, 0]))
+        for links in ((1, 3, 0, 2), (3, 1, 2, 0)):
+            listed = CHART[:7] + bytes(links) + CHART[11:]
+            self.assertEqual(Layout.from_chart(listed).chart(), CHART)
+
+    def test_a_written_chart_gives_the_true_count(self):
+        layout = Layout.from_edges([(0, 2), (1, 3)], order=[2, 1, 0, 3])
+        carried = layout.copy()
+        carried.fields.count = 77
+        chart = carried.chart()
+        self.assertEqual(carried.count(), 77)
+        carried.read_chart(chart)
+        self.assertEqual(carried, layout)
+
+    def test_a_chart_goes_into_a_lent_buffer(self):
+        layout = Layout.from_chart(CHART)
+        for beyond in (b"", bytes([77])):
+            buffer = bytearray([77] * len(CHART + beyond))
+            self.assertEqual(layout.write_chart(buffer), len(CHART))
+            self.assertEqual(buffer, CHART + beyond)
+        for length in (0, len(CHART) - 1):
+            short = bytearray([77] * length)
+            self.refuses(Refusal.CHART_BUFFER_TOO_SHORT, layout.write_chart, short)
+            self.assertEqual(short, bytes([77] * length))
+        with self.assertRaises(TypeError):
+            layout.write_chart(memoryview(layout.fields.order))
+
+    def test_a_refused_call_lets_go_of_its_buffer(self):
+        layout = Layout.from_chart(CHART)
+        for write in (layout.write_order, layout.write_chart):
+            short = bytearray(3)
+            try:
+                write(short)
+            except Refused:
+                short.append(77)
+            self.assertEqual(len(short), 4)
+
     def test_an_invalid_layout_is_refused_and_left(self):
         layout = Layout.from_chart(CHART)
         layout.fields.adjacency[0] = 2**64 - 1
@@ -116,9 +155,11 @@ class LayoutTest(unittest.TestCase):
             layout.count,
             layout.order,
             layout.first_crossing,
+            layout.chart,
             layout.row,
         ):
             self.refuses(Refusal.INVALID_LAYOUT, call)
+        self.refuses(Refusal.INVALID_LAYOUT, layout.write_chart, bytearray())
         self.assertEqual(layout, before)
 
     def test_a_copy_is_another_layout(self):
@@ -164,10 +205,14 @@ class FromEdgesTest(unittest.TestCase):
             layout = Layout.from_edges(edges, n=n, order=order)
             self.assertEqual(layout.edges(), edges)
             self.assertEqual(layout.count(), crossings(order, edges))
+            self.assertEqual(layout.chart(), rostulanda._chart(n, edges, order))
 
     def test_the_most_edges(self):
         layout = Layout.from_edges(itertools.combinations(range(64), 2))
         self.assertEqual(layout.count(), 635376)
+        chart = layout.chart()
+        self.assertEqual(len(chart), rostulanda.WRITTEN_CHART_BYTES)
+        self.assertEqual(Layout.from_chart(chart), layout)
 
 
 class GraphTest(unittest.TestCase):
