@@ -30,6 +30,9 @@ pub fn print() -> Outcome {
 /// Up to so many vertices, a layout is settled with any limit.
 const SMALL: u64 = 20;
 
+/// A buffer that is much longer than any chart.
+const LONG: usize = 70_000;
+
 /// Lists of calls, and calls in each.
 const LISTS: u64 = 10;
 const LENGTH: usize = 100;
@@ -66,6 +69,25 @@ impl Comparison {
         agree(&call, "baseline", &baseline, &second)
     }
 
+    /// An answer, and a lent buffer of so many elements, which held something else.
+    fn lent<T, A>(
+        &mut self,
+        call: impl Display,
+        length: usize,
+        proved: impl FnOnce(&mut [T]) -> A,
+        second: impl FnOnce(&mut [T]) -> A,
+    ) -> Outcome
+    where
+        T: Clone + PartialEq + Debug + From<u8>,
+        A: PartialEq + Debug,
+    {
+        let mut buffers = [(); 2].map(|()| vec![T::from(0xA5); length]);
+        let answers = (proved(&mut buffers[0]), second(&mut buffers[1]));
+        let [buffer, other] = buffers;
+        let call = format!("{call}, a buffer of {length}");
+        self.proved(call, (answers.0, buffer), (answers.1, other))
+    }
+
     fn empty(&mut self) -> Outcome {
         self.proved("empty", proved::empty(), Layout::EMPTY)
     }
@@ -92,6 +114,7 @@ impl Comparison {
         for count in [0, u32::MAX, carried] {
             layout.count = count;
             self.edits(layout)?;
+            self.written(layout)?;
         }
         Ok(())
     }
@@ -131,6 +154,7 @@ impl Comparison {
         let pair = proved::first_crossing(&lent).told();
         self.proved("pair", pair, calls::first_crossing(l))?;
         self.orders(l)?;
+        self.written(l)?;
         self.edits(l)?;
         self.sifting(l)
     }
@@ -138,15 +162,33 @@ impl Comparison {
     /// The order, in buffers of any length that hold something else.
     fn orders(&mut self, l: Layout) -> Outcome {
         let n = l.n.min(64) as usize;
+        let lent = &fields(&l);
         for length in [0, n.saturating_sub(1), n, 64, 65, self.random.below(66)] {
-            let mut buffers = [vec![0xA5; length], vec![0xA5; length]];
-            let answer = proved::order(&fields(&l), &mut buffers[0]).told();
-            let second = calls::order(l, &mut buffers[1]);
-            let [buffer, other] = buffers;
-            let call = format!("order, a buffer of {length} bytes");
-            self.proved(call, (answer, buffer), (second, other))?;
+            let proved = |buffer: &mut [u8]| proved::order(lent, buffer).told();
+            self.lent("order", length, proved, |buffer| calls::order(l, buffer))?;
         }
         Ok(())
+    }
+
+    /// The chart, in buffers as long as it is, shorter and longer, and read back
+    /// over another layout.
+    fn written(&mut self, l: Layout) -> Outcome {
+        let ends: u32 = l.adjacency.iter().map(|word| word.count_ones()).sum();
+        let exact = 10 + ends as usize + l.n.min(64) as usize;
+        let shorter = self.random.below(exact);
+        let lent = &fields(&l);
+        for length in [0, shorter, exact - 1, exact, exact + 1, LONG] {
+            let proved = |buffer: &mut [u8]| proved::write_chart(lent, buffer).told();
+            let second = |buffer: &mut [u8]| calls::write_chart(l, buffer);
+            self.lent("write", length, proved, second)?;
+        }
+        let there = fan();
+        self.lent(
+            "write and read",
+            exact,
+            |buffer| proved::write_and_read(lent, buffer, &fields(&there)).told(),
+            |buffer| expected::write_and_read(l, buffer, there),
+        )
     }
 
     /// The calls that change the edges or the order, but for sifting.
@@ -229,12 +271,12 @@ impl Comparison {
     /// A list of calls, from a chart or from the empty layout, with room for so
     /// many numbers.
     fn list(&mut self, chart: Option<&[u8]>, numbers: &[u64], room: usize) -> Outcome {
-        let mut tables = [vec![0xA5; room], vec![0xA5; room]];
-        let played = proved::play(chart, numbers, &mut tables[0]).told();
-        let second = expected::play(chart, numbers, &mut tables[1]);
-        let [table, other] = tables;
-        let call = format!("list {numbers:?} from {chart:?}");
-        self.proved(call, (played, table), (second, other))
+        self.lent(
+            format!("list {numbers:?} from {chart:?}"),
+            room,
+            |table| proved::play(chart, numbers, table).told(),
+            |table| expected::play(chart, numbers, table),
+        )
     }
 
     /// A chart of up to so many vertices.
@@ -272,12 +314,12 @@ impl Comparison {
     }
 
     fn listing(&mut self, bytes: &[u8], length: usize) -> Outcome {
-        let mut buffers = [vec![0xA5; length], vec![0xA5; length]];
-        let written = proved::list_chart(bytes, &mut buffers[0]);
-        let second = expected::list_chart(bytes, &mut buffers[1]);
-        let [buffer, other] = buffers;
-        let call = format!("listing {bytes:?}, a buffer of {length} bytes");
-        self.proved(call, (written, buffer), (second, other))
+        self.lent(
+            format!("listing {bytes:?}"),
+            length,
+            |buffer| proved::list_chart(bytes, buffer),
+            |buffer| expected::list_chart(bytes, buffer),
+        )
     }
 
     fn change(&mut self, bytes: &mut Vec<u8>) {

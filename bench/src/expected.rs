@@ -1,5 +1,6 @@
 //! What the second program has in another form than the library: a chart read
-//! over a layout, a listing in a lent buffer, a list of calls.
+//! over a layout, also one that was just written, a listing in a lent buffer, a
+//! list of calls.
 
 use second::calls::{self, Answer};
 use second::layout::Layout;
@@ -33,6 +34,12 @@ pub fn read_chart(l: Layout, bytes: &[u8]) -> Answer<()> {
         layout,
         value: (),
     }
+}
+
+/// Writes a chart, and reads it over another layout.
+pub fn write_and_read(l: Layout, buffer: &mut [u8], other: Layout) -> Answer<()> {
+    let length = calls::write_chart(l, buffer).value;
+    read_chart(other, &buffer[..length])
 }
 
 /// Whether a layout is valid.

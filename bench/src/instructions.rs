@@ -8,7 +8,7 @@ use std::process::{Command, Output};
 
 use crate::agreement::Outcome;
 use crate::lent;
-use crate::rows::{self, three_columns, Repeat, Row};
+use crate::rows::{self, three_columns, Repeat, Row, NAMES};
 
 /// The arguments with which the program runs itself.
 pub const EACH_ONCE: &str = "--each-once";
@@ -28,7 +28,7 @@ fn print_rows() -> Outcome {
         "instructions of a call; ratio: proved to baseline, or to second where there is none\n"
     );
     println!(
-        "{:<49}{:>14}{:>14}{:>14}{:>10}",
+        "{:<NAMES$}{:>14}{:>14}{:>14}{:>10}",
         "", "proved", "baseline", "second", "ratio"
     );
     for (name, counts) in counts(EACH_ONCE)? {
@@ -41,8 +41,11 @@ fn print_lent() -> Outcome {
     println!("\ninstructions of a call on one lent layout, and of the same call by value\n");
     for (name, counts) in counts(LENT_ONCE)? {
         let [in_place, by_value] = lent::of_a_call([0, 1, 2].map(|side| counts[side] as f64));
-        println!("{:<63}{in_place:>9.0}", format!("{name}, in place"));
-        println!("{:<63}{by_value:>9.0}", "the same by value, within a list");
+        println!("{:<NAMES$}{in_place:>9.0}", format!("{name}, in place"));
+        println!(
+            "{:<NAMES$}{by_value:>9.0}",
+            "the same by value, within a list"
+        );
         let more = in_place - by_value;
         println!("lent, not by value: {more:+.0} instructions a call");
     }
@@ -69,7 +72,7 @@ fn text(name: &str, counts: &[u64]) -> String {
     let columns: Vec<String> = counts.iter().map(u64::to_string).collect();
     let columns = three_columns(&columns, 14);
     let ratio = counts[0] as f64 / counts[1] as f64;
-    format!("{name:<49}{columns}{ratio:>10.2}")
+    format!("{name:<NAMES$}{columns}{ratio:>10.2}")
 }
 
 /// Makes each call once on each of its sides, to be counted.

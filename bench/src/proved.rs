@@ -127,6 +127,16 @@ pub fn order(l: &Fields, buffer: &mut [u8]) -> Left<u8> {
     lend(l, |l| ffi::order(l, buffer))
 }
 
+pub fn write_chart(l: &Fields, buffer: &mut [u8]) -> Left<ffi::Written> {
+    lend(l, |l| ffi::write_chart(l, buffer))
+}
+
+/// Writes a chart, and reads it over another layout.
+pub fn write_and_read(l: &Fields, buffer: &mut [u8], other: &Fields) -> Left<u8> {
+    let length = write_chart(l, buffer).report.length;
+    read_chart(other, &buffer[..length])
+}
+
 pub fn first_crossing(l: &Fields) -> Left<ffi::Crossing> {
     lend(l, |l| ffi::rl_first_crossing(l))
 }
@@ -193,6 +203,14 @@ impl Report for ffi::Counted {
 
     fn parts(self) -> (u8, u32) {
         (self.refusal, self.count)
+    }
+}
+
+impl Report for ffi::Written {
+    type Value = usize;
+
+    fn parts(self) -> (u8, usize) {
+        (self.refusal, self.length)
     }
 }
 

@@ -3,12 +3,16 @@
 use std::hint::black_box;
 
 use layouts::{chart, fan, layout, pairs};
+use rostulanda::{PLACES, WRITTEN_CHART_BYTES};
 use second::calls;
 use second::layout::Layout;
 
 use crate::agreement::{agree, Outcome};
 use crate::proved::{self, fields, Told};
 use crate::{expected, lists};
+
+/// How wide the column of the names is.
+pub const NAMES: usize = 63;
 
 /// The calls of a list that is measured.
 pub const CALLS: usize = 1000;
@@ -41,6 +45,7 @@ pub fn for_each(mut does: impl FnMut(&Row)) -> Outcome {
     }
     no_pair(rows)?;
     charts(rows)?;
+    written_charts(rows)?;
     appending(rows)?;
     sifting(rows)?;
     playing(rows)?;
@@ -116,7 +121,7 @@ fn accepted(rows: &mut Rows, edges: usize) -> Outcome {
     rows.two(&name("count"), || proved::count(&lent), || calls::count(l))?;
     rows.two(
         &name("order"),
-        || into_buffer(|buffer| proved::order(&lent, buffer)),
+        || into_buffer::<PLACES, _>(|buffer| proved::order(&lent, buffer)),
         || into_buffer(|buffer| calls::order(l, buffer)),
     )?;
     rows.two(
@@ -161,6 +166,33 @@ fn charts(rows: &mut Rows) -> Outcome {
         || proved::read_chart(&empty, &bytes),
         || expected::read_chart(Layout::EMPTY, &bytes),
     )
+}
+
+/// Charts written, and read back over the empty layout.
+fn written_charts(rows: &mut Rows) -> Outcome {
+    let empty = fields(&Layout::EMPTY);
+    let layouts = [1000, 2016].map(|edges| (edges, layout(64, edges)));
+    for (edges, l) in layouts {
+        let lent = fields(&l);
+        let proved = |buffer: &mut [u8]| proved::write_chart(&lent, buffer);
+        let second = |buffer: &mut [u8]| calls::write_chart(l, buffer);
+        rows.two(
+            &format!("writing a chart, 64 vertices, {edges} edges"),
+            || into_buffer::<WRITTEN_CHART_BYTES, _>(proved),
+            || into_buffer(second),
+        )?;
+    }
+    for (edges, l) in layouts {
+        let lent = fields(&l);
+        let proved = |buffer: &mut [u8]| proved::write_and_read(&lent, buffer, &empty);
+        let second = |buffer: &mut [u8]| expected::write_and_read(l, buffer, Layout::EMPTY);
+        rows.two(
+            &format!("writing a chart and reading it back, 64 vertices, {edges} edges"),
+            || into_buffer::<WRITTEN_CHART_BYTES, _>(proved),
+            || into_buffer(second),
+        )?;
+    }
+    Ok(())
 }
 
 /// Laying 64 vertices with 1,000 edges.
@@ -210,9 +242,10 @@ fn playing(rows: &mut Rows) -> Outcome {
     )
 }
 
-fn into_buffer<A>(order: impl Fn(&mut [u8]) -> A) -> (A, [u8; 64]) {
-    let mut buffer = [0; 64];
-    (order(&mut buffer), buffer)
+/// With a buffer of so many bytes.
+fn into_buffer<const BYTES: usize, A>(write: impl Fn(&mut [u8]) -> A) -> (A, [u8; BYTES]) {
+    let mut buffer = [0; BYTES];
+    (write(&mut buffer), buffer)
 }
 
 /// With a table for the answers of the list.

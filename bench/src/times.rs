@@ -4,7 +4,7 @@ use std::time::{Duration, Instant};
 
 use crate::agreement::Outcome;
 use crate::lent;
-use crate::rows::{self, three_columns, Repeat, Row};
+use crate::rows::{self, three_columns, Repeat, Row, NAMES};
 
 /// Batches of calls on each side: as many as go into the time for a side, from a
 /// few up.
@@ -31,11 +31,14 @@ pub fn print() -> Outcome {
 fn print_rows() -> Outcome {
     println!("\nmicroseconds of a call: median and minimum; ratio: proved to baseline, or to second where there is none\n");
     println!(
-        "{:<49}{:>18}{:>18}{:>18}{:>14}",
+        "{:<NAMES$}{:>18}{:>18}{:>18}{:>14}",
         "", "proved", "baseline", "second", "ratio"
     );
     let pair = format!("{:>9}{:>9}", "median", "min");
-    println!("{:<49}{pair}{pair}{pair}{:>8}{:>6}", "", "median", "min");
+    println!(
+        "{:<NAMES$}{pair}{pair}{pair}{:>8}{:>6}",
+        "", "median", "min"
+    );
     rows::for_each(line)
 }
 
@@ -44,7 +47,7 @@ fn line(row: &Row) {
     let columns: Vec<String> = times.iter().map(columns).collect();
     let (proved, other) = (times[0], times[1]);
     println!(
-        "{:<49}{}{:>8.2}{:>6.2}",
+        "{:<NAMES$}{}{:>8.2}{:>6.2}",
         row.name,
         three_columns(&columns, 18),
         proved.median / other.median,
@@ -54,7 +57,7 @@ fn line(row: &Row) {
 
 fn print_lent() -> Outcome {
     println!("\nmicroseconds of a call on one lent layout, and of the same call by value\n");
-    println!("{:<63}{:>9}{:>9}", "", "median", "min");
+    println!("{:<NAMES$}{:>9}{:>9}", "", "median", "min");
     lent::for_each(lent_lines)
 }
 
@@ -68,7 +71,7 @@ fn lent_lines(row: &Row) {
         "the same by value, within a list".to_string(),
     ];
     for (name, (median, minimum)) in names.iter().zip(medians.iter().zip(minimums)) {
-        println!("{name:<63}{median:>9.3}{minimum:>9.3}");
+        println!("{name:<NAMES$}{median:>9.3}{minimum:>9.3}");
     }
     let [median, minimum] = [medians, minimums].map(|[in_place, by_value]| in_place - by_value);
     println!("lent, not by value: {median:+.3} us a call, by the minimums {minimum:+.3} us");
