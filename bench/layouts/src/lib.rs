@@ -1,5 +1,6 @@
 //! Layouts from a seed, alike in every run.
 
+pub use second::chart::bytes as chart;
 use second::circle::Circle;
 use second::crossings::crossings;
 use second::layout::Layout;
@@ -22,24 +23,6 @@ pub fn fan() -> Layout {
     let all = (1..64).map(|v| (0, v));
     let next = (1..63).map(|v| (v, v + 1));
     Layout::new(&order, &all.chain(next).collect::<Vec<_>>())
-}
-
-/// The chart of a layout.
-pub fn chart(layout: &Layout) -> Vec<u8> {
-    let ends = pairs(layout, true);
-    let ends: Vec<u8> = ends.iter().flat_map(|&(a, b)| [a as u8, b as u8]).collect();
-    let order = &layout.order[..layout.n as usize];
-    [
-        field(0x44, &[layout.n as u8]),
-        field(0x4C, &ends),
-        field(0x52, order),
-    ]
-    .concat()
-}
-
-fn field(tag: u8, body: &[u8]) -> Vec<u8> {
-    let length = (body.len() as u16).to_be_bytes();
-    [&[tag], &length[..], body].concat()
 }
 
 /// The edges, or the pairs that aren't edges.
