@@ -70,7 +70,7 @@ impl Comparison {
     }
 
     /// An answer, and a lent buffer of so many elements, which held something else.
-    fn lent<T, A>(
+    fn with_buffer<T, A>(
         &mut self,
         call: impl Display,
         length: usize,
@@ -165,7 +165,7 @@ impl Comparison {
         let lent = &fields(&l);
         for length in [0, n.saturating_sub(1), n, 64, 65, self.random.below(66)] {
             let proved = |buffer: &mut [u8]| proved::order(lent, buffer).told();
-            self.lent("order", length, proved, |buffer| calls::order(l, buffer))?;
+            self.with_buffer("order", length, proved, |buffer| calls::order(l, buffer))?;
         }
         Ok(())
     }
@@ -173,6 +173,7 @@ impl Comparison {
     /// The chart, in buffers as long as it is, shorter and longer, and read back
     /// over another layout.
     fn written(&mut self, l: Layout) -> Outcome {
+        // Three headers, n, the ends of the edges, the order.
         let ends: u32 = l.adjacency.iter().map(|word| word.count_ones()).sum();
         let exact = 10 + ends as usize + l.n.min(64) as usize;
         let shorter = self.random.below(exact);
@@ -180,10 +181,10 @@ impl Comparison {
         for length in [0, shorter, exact - 1, exact, exact + 1, LONG] {
             let proved = |buffer: &mut [u8]| proved::write_chart(lent, buffer).told();
             let second = |buffer: &mut [u8]| calls::write_chart(l, buffer);
-            self.lent("write", length, proved, second)?;
+            self.with_buffer("write", length, proved, second)?;
         }
         let there = fan();
-        self.lent(
+        self.with_buffer(
             "write and read",
             exact,
             |buffer| proved::write_and_read(lent, buffer, &fields(&there)).told(),
@@ -271,7 +272,7 @@ impl Comparison {
     /// A list of calls, from a chart or from the empty layout, with room for so
     /// many numbers.
     fn list(&mut self, chart: Option<&[u8]>, numbers: &[u64], room: usize) -> Outcome {
-        self.lent(
+        self.with_buffer(
             format!("list {numbers:?} from {chart:?}"),
             room,
             |table| proved::play(chart, numbers, table).told(),
@@ -314,7 +315,7 @@ impl Comparison {
     }
 
     fn listing(&mut self, bytes: &[u8], length: usize) -> Outcome {
-        self.lent(
+        self.with_buffer(
             format!("listing {bytes:?}"),
             length,
             |buffer| proved::list_chart(bytes, buffer),
