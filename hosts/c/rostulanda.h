@@ -67,7 +67,7 @@ enum rl_refusal {
     RL_NO_ROOM = 16,
     RL_LIMIT_OUT_OF_RANGE = 17,
     RL_BUFFER_TOO_SHORT = 18,
-    RL_CHART_BUFFER_TOO_SHORT = 19
+    RL_WRITE_BUFFER_TOO_SHORT = 19
 };
 
 /* The question that a refused call answered "no". */
@@ -91,7 +91,7 @@ static inline const char *rl_refusal_text(uint8_t refusal)
     case RL_NO_ROOM: return "is n below 64?";
     case RL_LIMIT_OUT_OF_RANGE: return "is the limit from 1 to 1000?";
     case RL_BUFFER_TOO_SHORT: return "is the lent buffer long enough?";
-    case RL_CHART_BUFFER_TOO_SHORT: return "has the buffer as many bytes as the chart?";
+    case RL_WRITE_BUFFER_TOO_SHORT: return "has the buffer as many bytes as are written?";
     default: return "unknown";
     }
 }

@@ -145,9 +145,9 @@ static void writes(void)
     uint8_t buffer[RL_WRITTEN_CHART_BYTES];
     memset(buffer, 77, sizeof buffer);
     rl_written written = rl_write_chart(&carried, buffer, length - 1);
-    HOLDS(written.refusal == RL_CHART_BUFFER_TOO_SHORT && written.length == 0);
+    HOLDS(written.refusal == RL_WRITE_BUFFER_TOO_SHORT && written.length == 0);
     written = rl_write_chart(&carried, buffer, 0);
-    HOLDS(written.refusal == RL_CHART_BUFFER_TOO_SHORT && written.length == 0);
+    HOLDS(written.refusal == RL_WRITE_BUFFER_TOO_SHORT && written.length == 0);
     HOLDS(holds_only(buffer, sizeof buffer, 77));
     for (size_t more = 0; more < 2; more++) {
         memset(buffer, 77, sizeof buffer);
@@ -176,7 +176,7 @@ static void writes_the_longest(void)
         l.adjacency[v] = ~((uint64_t)1 << v);
     }
     uint8_t buffer[RL_WRITTEN_CHART_BYTES];
-    HOLDS(rl_write_chart(&l, buffer, sizeof buffer - 1).refusal == RL_CHART_BUFFER_TOO_SHORT);
+    HOLDS(rl_write_chart(&l, buffer, sizeof buffer - 1).refusal == RL_WRITE_BUFFER_TOO_SHORT);
     HOLDS(rl_write_chart(&l, buffer, sizeof buffer).length == sizeof buffer);
     rl_layout again = first();
     HOLDS(rl_read_chart(&again, buffer, sizeof buffer) == RL_ACCEPTED && again.count == 635376);

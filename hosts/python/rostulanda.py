@@ -58,7 +58,7 @@ class Refusal(enum.IntEnum):
     NO_ROOM = 16
     LIMIT_OUT_OF_RANGE = 17
     BUFFER_TOO_SHORT = 18
-    CHART_BUFFER_TOO_SHORT = 19
+    WRITE_BUFFER_TOO_SHORT = 19
 
 
 #: The question that each refusal answers "no".
@@ -79,7 +79,7 @@ QUESTIONS: Dict[int, str] = {
     Refusal.NO_ROOM: "is n below 64?",
     Refusal.LIMIT_OUT_OF_RANGE: "is the limit from 1 to 1000?",
     Refusal.BUFFER_TOO_SHORT: "is the lent buffer long enough?",
-    Refusal.CHART_BUFFER_TOO_SHORT: "has the buffer as many bytes as the chart?",
+    Refusal.WRITE_BUFFER_TOO_SHORT: "has the buffer as many bytes as are written?",
 }
 
 

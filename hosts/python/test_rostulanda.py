@@ -128,7 +128,7 @@ class LayoutTest(unittest.TestCase):
             self.assertEqual(buffer, CHART + beyond)
         for length in (0, len(CHART) - 1):
             short = bytearray([77] * length)
-            self.refuses(Refusal.CHART_BUFFER_TOO_SHORT, layout.write_chart, short)
+            self.refuses(Refusal.WRITE_BUFFER_TOO_SHORT, layout.write_chart, short)
             self.assertEqual(short, bytes([77] * length))
         with self.assertRaises(TypeError):
             layout.write_chart(memoryview(layout.fields.order))

@@ -374,7 +374,7 @@ mod tests {
         let mut buffer = [77; 20];
         for short in [0, length - 1] {
             let refused = first().write_chart(&mut buffer[..short]);
-            assert_eq!(refused, Err(Refusal::ChartBufferTooShort));
+            assert_eq!(refused, Err(Refusal::WriteBufferTooShort));
             assert_eq!(buffer, [77; 20]);
         }
         for long in [length, length + 1] {

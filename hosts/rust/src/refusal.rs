@@ -63,7 +63,7 @@ refusals! {
     NoRoom 16 "is n below 64?"
     LimitOutOfRange 17 "is the limit from 1 to 1000?"
     BufferTooShort 18 "is the lent buffer long enough?"
-    ChartBufferTooShort 19 "has the buffer as many bytes as the chart?"
+    WriteBufferTooShort 19 "has the buffer as many bytes as are written?"
 }
 
 /// The value, unless the code says that the call was refused.
