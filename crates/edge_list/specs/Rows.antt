@@ -1,6 +1,6 @@
 -- The edges from a vertex to higher ones, and all edges row by row: how many there are, and written into a buffer.
 use Prim.Native.Nat.{ℕ, zero, suc, _+_, _*_, _-_, _^_, _≤_, _<_, min}
-use native.Mathlib.Nat.{le-refl, le-trans, le-antisymm, le-of-eq, min-eq-left, mul-comm, not-suc-le-zero}
+use native.Mathlib.Nat.{le-refl, le-antisymm, le-of-eq, min-eq-left, mul-comm, not-suc-le-zero}
 use native.Mathlib.Numerals.{add-one}
 use native.Mathlib.Omega.{arith}
 use mathlib.Core.Path.{_≡_, refl, sym, ap, ap₂, _∙_, subst}

@@ -2,6 +2,7 @@
 use Prim.Native.Nat.{ℕ, zero, suc}
 use mathlib.Core.Bool.{Bool, not, cond, _&&_}
 use mathlib.Core.List.{List, [], _∷_}
+use lib.ListN.{length}
 use lib.Dec.{eqb, leb, ltb}
 use Rattle.model.specs.declared.Layout.{Layout}
 use Rattle.model.specs.Crossings.{linked}
@@ -58,3 +59,9 @@ limitFits limit = record { passes = leb 1 limit && leb limit 1000; code = 17 }
 -- "(order) Has the buffer at least n bytes? 18"
 unfoldable pub bufferFits : Layout → ℕ → Check
 bufferFits l size = record { passes = leb (l .n) size; code = 18 }
+
+-- ---- of calls that document 02 adds
+
+-- what is written out, and a lent buffer: "19 when the lent buffer is shorter" (Note 1)
+unfoldable pub roomFor : List ℕ → List ℕ → Check
+roomFor bytes buffer = record { passes = leb (length bytes) (length buffer); code = 19 }

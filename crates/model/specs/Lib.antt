@@ -15,3 +15,4 @@ pub mod Histories
 pub mod Playing
 pub mod Listing
 pub mod Starred
+pub mod WorkedCharts

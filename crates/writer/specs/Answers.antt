@@ -9,14 +9,13 @@ use lib.Seq.{length-take-le}
 use lib.Dec.{T, leb, lit<}
 use borrow.Author.Tests.{le-leb, leb-true}
 use Rattle.model.specs.declared.Layout.{Layout}
-use Rattle.model.specs.declared.ChartWritten.{ChartWritten}
 use Rattle.model.specs.Crossings.{edges}
 use Rattle.model.specs.Layouts.{vertexOrder, valid}
-use Rattle.model.specs.Checks.{Check, refusal, checked, isValid}
+use Rattle.model.specs.Checks.{Check, refusal, isValid, roomFor}
 use Rattle.model.specs.WrittenCharts.{chartOf, writeChecks, writeOf, writtenBytes}
 use Rattle.laws.specs.Sums.Lists.{All, none, also}
 use Rattle.laws.specs.Layouts.Validity.{sound}
-use Rattle.laws.specs.Layouts.Refusals.{Numbered, all-pass, when-accepted, when-refused}
+use Rattle.laws.specs.Layouts.Refusals.{all-pass, when-accepted, when-refused}
 use Rattle.laws.specs.Buffers.Writing.{Written, written-whole}
 use Rattle.laws.specs.Buffers.Charts.{chartWith, chart-edges, chart-length}
 use Rattle.writer.specs.Fields.{ChartFits}
@@ -50,7 +49,7 @@ pub record Asked (l : Layout) (buffer : List ℕ) (long code : ℕ) : Type 0 whe
 module _ {l : Layout} {buffer : List ℕ} {long code : ℕ} (a : Asked l buffer long code) where
   -- the code is that of the checks: the length counts only where the layout is valid
   number : code ≡ refusal (writeChecks l buffer)
-  unfolding writeChecks isValid refusal
+  unfolding writeChecks isValid roomFor refusal
   number = a .told ∙ rw (a .measured) (by-test (valid l) refl)
     where
       by-test : (b : Bool) → valid l ≡ b → refusal (asks b (counted l) (length buffer)) ≡ refusal (asks b (length (chartOf l)) (length buffer))
@@ -64,7 +63,7 @@ module _ {l : Layout} {buffer : List ℕ} {long code : ℕ} (a : Asked l buffer 
   module _ (z : code ≡ 0) (places : length (l .order) ≡ 64) where
     -- both checks pass
     passed-both : (valid l ≡ true) × (leb (length (chartOf l)) (length buffer) ≡ true)
-    unfolding writeChecks isValid
+    unfolding writeChecks isValid roomFor
     passed-both = from (all-pass (also (lit< tt) (also (lit< tt) none)) (sym number ∙ z))
       where
         from : All (λ c. c .passes ≡ true) (writeChecks l buffer) → (valid l ≡ true) × (leb (length (chartOf l)) (length buffer) ≡ true)
