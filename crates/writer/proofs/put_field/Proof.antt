@@ -18,7 +18,7 @@ abbrev headed : tie.After-put-text → tie.After-put-header
 headed c = c .before .before .before .before
 
 abbrev start : tie.After-put-header → tie.Start
-start c = c .before .before .before .before
+start c = let lent = c .before .before in lent .before .before
 
 returns : tie.Need-returns
 returns c =
