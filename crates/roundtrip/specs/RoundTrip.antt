@@ -3,22 +3,24 @@ use Prim.Native.Nat.{ℕ, _+_, _*_, _≤_, _<_}
 use native.Mathlib.Decide.{decLt}
 use native.Mathlib.Omega.{arith}
 use mathlib.Core.Path.{_≡_, refl, sym, ap, ap₂, _∙_}
-use mathlib.Core.List.{List}
-use lib.ListN.{length, getD, take, length-take, List·getD-eq-default}
-use lib.Seq.{ext-getD, getD-take}
+use mathlib.Core.List.{List, [], _∷_, _++_}
+use lib.ListN.{length, getD, take, drop, length-take, List·getD-eq-default}
+use lib.Seq.{ext-getD, getD-take, take-append-seam}
 use lib.Dec.{T}
 use Rattle.model.specs.declared.Edge.{Edge}
 use Rattle.model.specs.declared.Layout.{Layout}
 use Rattle.model.specs.declared.ChartRead.{ChartRead}
+use Rattle.model.specs.declared.ChartWritten.{ChartWritten}
 use Rattle.model.specs.Lists.{any}
 use Rattle.model.specs.Crossings.{edges, crossings}
 use Rattle.model.specs.Layouts.{vertexOrder, crossingsOf, valid}
-use Rattle.model.specs.Checks.{refusal}
+use Rattle.model.specs.Checks.{Check, refusal, roomFor}
 use Rattle.model.specs.Charts.{bodyOf, chartSize, chartEdges, chartOrder, sameEdge, chartChecks, readOf}
-use Rattle.model.specs.WrittenCharts.{chartOf, withTrueCount}
+use Rattle.model.specs.WrittenCharts.{chartOf, writeChecks, writeOf, writtenBytes, withTrueCount}
 use Rattle.laws.specs.Sums.Lists.{All}
 use Rattle.laws.specs.Crossings.Bound.{edges-few}
 use Rattle.laws.specs.Buffers.Charts.{chart-edges, chart-length}
+use Rattle.laws.specs.Layouts.Refusals.{valid-passed, when-accepted, checked-number}
 use Rattle.laws.specs.Layouts.Sizes.{Sized}
 use Rattle.laws.specs.Layouts.Validity.{sound}
 use Rattle.chart.specs.Padded.{padded, padded-length, padded-at}
@@ -83,6 +85,29 @@ written-read l s t =
     read-as : List ℕ → List ℕ → ChartRead
     read-as o adj = record { refusal = 0; layout = record { n = l .n; order = o; adjacency = adj; count = crossings (l .n) (vertexOrder l) adj } }
 
+-- so with the call itself: where it is accepted, as many bytes of the buffer as it answers are read as the layout with its true count
+pub write-then-read : (l : Layout) (buffer : List ℕ) → Sized l → writeOf l buffer .refusal ≡ 0
+    → readOf (take (writeOf l buffer .length) (writtenBytes l buffer)) ≡ record { refusal = 0; layout = withTrueCount l }
+unfolding writeOf writtenBytes writeChecks
+write-then-read l buffer s e =
+    ap₂ (λ (k : ℕ) (bytes : List ℕ). readOf (take k bytes))
+    (ap (λ (w : ChartWritten). w .length) (when-accepted checks written refused accepted))
+    (when-accepted checks (chartOf l ++ drop (length (chartOf l)) buffer) (λ r. buffer) accepted)
+    ∙ ap readOf (take-append-seam (chartOf l) (drop (length (chartOf l)) buffer))
+    ∙ written-read l s (valid-passed l (roomFor (chartOf l) buffer ∷ []) accepted .0)
+  where
+    checks : List Check
+    checks = writeChecks l buffer
+
+    written : ChartWritten
+    written = record { refusal = 0; length = length (chartOf l) }
+
+    refused : ℕ → ChartWritten
+    refused r = record { refusal = r; length = 0 }
+
+    accepted : refusal checks ≡ 0
+    accepted = sym (checked-number checks written refused (λ (w : ChartWritten). w .refusal) refl (λ r. refl)) ∙ e
+
 -- a count that is true already stays
 count-kept : (l : Layout) → l .count ≡ crossingsOf l → withTrueCount l ≡ l
 unfolding withTrueCount
@@ -116,9 +141,13 @@ written-same s t p q e = sym (read-again s p) ∙ ap readOf e ∙ read-again t q
 
 -- ---- "Two charts of the same ring, however their links were listed, give the same written bytes."
 
--- two layouts that differ in the carried count alone, and so two charts that give the same layout
+-- two layouts that differ in the carried count alone, and two accepted charts that give the same layout
 pub same-written : (l m : Layout) → withTrueCount l ≡ withTrueCount m → chartOf l ≡ chartOf m
 same-written l m e = sym (count-unwritten l) ∙ ap chartOf e ∙ count-unwritten m
+
+pub charts-written : (s t : List ℕ) → readOf s .refusal ≡ 0 → readOf t .refusal ≡ 0
+    → readOf s .layout ≡ readOf t .layout → chartOf (readOf s .layout) ≡ chartOf (readOf t .layout)
+charts-written s t p q e = ap chartOf e
 
 -- two accepted charts of the same vertices, order and edges
 pub listed-anyhow : (s t : List ℕ) → readOf s .refusal ≡ 0 → readOf t .refusal ≡ 0 → chartSize s ≡ chartSize t → chartOrder s ≡ chartOrder t
