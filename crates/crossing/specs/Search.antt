@@ -35,7 +35,7 @@ unfoldable pub listed : List ℕ → ℕ → List Edge
 listed ends k = map (edgeAt ends) (upto k)
 
 module _ (ends : List ℕ) where
-  pub length-listed : (k : ℕ) → length (listed ends k) ≡ k
+  length-listed : (k : ℕ) → length (listed ends k) ≡ k
   unfolding listed
   length-listed k = length-map (upto k) (edgeAt ends) ∙ length-upto k
 

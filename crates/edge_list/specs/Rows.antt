@@ -38,7 +38,7 @@ unfoldable pub rowsBelow : ℕ → List ℕ → ℕ → List Edge
 rowsBelow n adj a = flatMap (λ u. rowEdges (getD adj u 0) u n) (upto a)
 
 -- all rows are all edges
-pub all-rows : (n : ℕ) (adj : List ℕ) → rowsBelow n adj n ≡ edges n adj
+all-rows : (n : ℕ) (adj : List ℕ) → rowsBelow n adj n ≡ edges n adj
 unfolding rowsBelow rowEdges edges linked
 all-rows n adj = refl
 

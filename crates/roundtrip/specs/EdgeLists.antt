@@ -115,7 +115,7 @@ pub edges-once : (n : ℕ) (adj : List ℕ) → noRepeats sameEdge (edges n adj)
 edges-once n adj = few-once (edges n adj) (λ e. rw (edges-often n adj e) (one-le (edgeWithin n e && linked adj (e .low) (e .high))))
 
 -- the edges in it are those that join two vertices
-pub edges-there : (n : ℕ) (adj : List ℕ) (e : Edge) → any (sameEdge e) (edges n adj) ≡ (edgeWithin n e && linked adj (e .low) (e .high))
+edges-there : (n : ℕ) (adj : List ℕ) (e : Edge) → any (sameEdge e) (edges n adj) ≡ (edgeWithin n e && linked adj (e .low) (e .high))
 unfolding one
 edges-there n adj e = written-any e (edges n adj) ∙ ap (ltb 0) (edges-often n adj e) ∙ as-test (edgeWithin n e && linked adj (e .low) (e .high))
   where

@@ -48,7 +48,7 @@ module _ (tag : ℕ) (body rest : List ℕ) where
   unfolding bytes behindField fieldBytes
   behind-is = ap (λ (k : ℕ). drop (3 + k) bytes) header-length ∙ drop-at (fieldBytes tag body) rest (3 + length body) (omega arith)
 
-  pub field-first : fieldsOf (fieldBytes tag body ++ rest) ≡ inFront (fieldOf tag body) (fieldsOf rest)
+  field-first : fieldsOf (fieldBytes tag body ++ rest) ≡ inFront (fieldOf tag body) (fieldsOf rest)
   unfolding bytes
   field-first = fields-there bytes starts ∙ ap₂ inFront first-is (ap fieldsOf behind-is)
 

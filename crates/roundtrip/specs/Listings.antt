@@ -46,72 +46,71 @@ pub record Proper (n : ℕ) (es : List Edge) (o : List ℕ) : Type 0 where
   pub once : noRepeats sameEdge es ≡ true
   pub permutation : Permutation n o
 
-module _ (n : ℕ) (es : List Edge) (o : List ℕ) where
-  module _ (p : Proper n es o) where
-    chart : List ℕ
-    chart = chartWith n es o
+module _ (n : ℕ) (es : List Edge) (o : List ℕ) (p : Proper n es o) where
+  chart : List ℕ
+  chart = chartWith n es o
 
-    -- each number is a byte
-    pub chart-bytes : All (λ b. b < 256) (chartWith n es o)
-    unfolding chartWith
-    chart-bytes =
-        all-append
-        (all-append (field-bytes 0x44 (omega arith) (omega arith) (also (omega (arith, p .few)) none))
-        (field-bytes 0x4C (omega arith) (omega (arith, edge-bytes-length es, p .fewEdges)) (edge-bytes-all (all-mono (p .within) ends))))
-        (field-bytes 0x52 (omega arith) (omega (arith, p .permutation .size, p .few)) (all-places o places))
-      where
-        ends : (e : Edge) → edgeWithin n e ≡ true → (e .low < 256) × (e .high < 256)
-        ends e h = (omega (arith, p .few, edge-rises n e h, edge-below n e h), omega (arith, p .few, edge-below n e h))
+  -- each number is a byte
+  pub chart-bytes : All (λ b. b < 256) (chartWith n es o)
+  unfolding chartWith
+  chart-bytes =
+      all-append
+      (all-append (field-bytes 0x44 (omega arith) (omega arith) (also (omega (arith, p .few)) none))
+      (field-bytes 0x4C (omega arith) (omega (arith, edge-bytes-length es, p .fewEdges)) (edge-bytes-all (all-mono (p .within) ends))))
+      (field-bytes 0x52 (omega arith) (omega (arith, p .permutation .size, p .few)) (all-places o places))
+    where
+      ends : (e : Edge) → edgeWithin n e ≡ true → (e .low < 256) × (e .high < 256)
+      ends e h = (omega (arith, p .few, edge-rises n e h, edge-below n e h), omega (arith, p .few, edge-below n e h))
 
-        places : (i : ℕ) → i < length o → getD o i 0 < 256
-        places i l = omega (arith, p .few, at-lt (p .permutation) i (rw (p .permutation .size) at l))
+      places : (i : ℕ) → i < length o → getD o i 0 < 256
+      places i l = omega (arith, p .few, at-lt (p .permutation) i (rw (p .permutation .size) at l))
 
-    -- ---- the questions
+  -- ---- the questions
 
-    short : length chart ≤ 8192
-    unfolding chart
-    short = omega (arith, chart-length n es o, p .fewEdges, p .few, p .permutation .size)
+  short : length chart ≤ 8192
+  unfolding chart
+  short = omega (arith, chart-length n es o, p .fewEdges, p .few, p .permutation .size)
 
-    fields : fieldsOf chart ≡ record { complete = true; fields = fieldsWith n es o }
-    unfolding chart
-    fields = ap fieldsOf (fields-written n es o) ∙ fields-read (fieldsWith n es o)
+  fields : fieldsOf chart ≡ record { complete = true; fields = fieldsWith n es o }
+  unfolding chart
+  fields = ap fieldsOf (fields-written n es o) ∙ fields-read (fieldsWith n es o)
 
-    body : (i : ℕ) → bodyOf chart i ≡ getD (fieldsWith n es o) i (fieldOf 0 []) .body
-    unfolding bodyOf
-    body i = ap (λ (fs : Fields). getD (fs .fields) i (fieldOf 0 []) .body) fields
+  body : (i : ℕ) → bodyOf chart i ≡ getD (fieldsWith n es o) i (fieldOf 0 []) .body
+  unfolding bodyOf
+  body i = ap (λ (fs : Fields). getD (fs .fields) i (fieldOf 0 []) .body) fields
 
-    even : length (edgeBytes es) % 2 ≡ 0
-    even = ap (λ (k : ℕ). k % 2) (edge-bytes-length es) ∙ mul-mod-right 2 (length es)
+  even : length (edgeBytes es) % 2 ≡ 0
+  even = ap (λ (k : ℕ). k % 2) (edge-bytes-length es) ∙ mul-mod-right 2 (length es)
 
-    listed : edgesIn (edgeBytes es) ≡ es
-    listed = edge-bytes-read (all-mono (p .within) (λ e h. le-of-lt (edge-rises n e h)))
+  listed : edgesIn (edgeBytes es) ≡ es
+  listed = edge-bytes-read (all-mono (p .within) (λ e h. le-of-lt (edge-rises n e h)))
 
-    -- all pass
-    accepted : refusal (chartChecks chart) ≡ 0
-    unfolding refusal chartChecks sizeChecks endChecks repeatChecks placeChecks chartSize chartOrder sameList
-    accepted =
-        rw (
-          le-leb (length chart) 8192 short,
-          fields,
-          body 0,
-          body 1,
-          body 2,
-          le-leb n 64 (p .few),
-          eq-eqb (length (edgeBytes es) % 2) 0 even,
-          listed,
-          every-all (p .within),
-          p .once,
-          eq-eqb (length o) n (p .permutation .size),
-          T-true (eachOnce n o) (permutation-eachOnce (p .permutation)),
-        )
+  -- all pass
+  accepted : refusal (chartChecks chart) ≡ 0
+  unfolding refusal chartChecks sizeChecks endChecks repeatChecks placeChecks chartSize chartOrder sameList
+  accepted =
+      rw (
+        le-leb (length chart) 8192 short,
+        fields,
+        body 0,
+        body 1,
+        body 2,
+        le-leb n 64 (p .few),
+        eq-eqb (length (edgeBytes es) % 2) 0 even,
+        listed,
+        every-all (p .within),
+        p .once,
+        eq-eqb (length o) n (p .permutation .size),
+        T-true (eachOnce n o) (permutation-eachOnce (p .permutation)),
+      )
 
-    -- ---- so the layout has the vertices, the order and the edges that were written, and their crossings
+  -- ---- so the layout has the vertices, the order and the edges that were written, and their crossings
 
-    layout-read : chartLayout chart ≡ record { n = n; order = padded o; adjacency = adjacencyOf es; count = crossings n o (adjacencyOf es) }
-    unfolding chartLayout chartSize chartEdges chartOrder
-    layout-read = rw (body 0, body 1, body 2, listed)
+  layout-read : chartLayout chart ≡ record { n = n; order = padded o; adjacency = adjacencyOf es; count = crossings n o (adjacencyOf es) }
+  unfolding chartLayout chartSize chartEdges chartOrder
+  layout-read = rw (body 0, body 1, body 2, listed)
 
-    pub chart-read : readOf (chartWith n es o)
-        ≡ record { refusal = 0; layout = record { n = n; order = padded o; adjacency = adjacencyOf es; count = crossings n o (adjacencyOf es) } }
-    unfolding chart
-    chart-read = read-is chart (read-number chart ∙ accepted) ∙ ap (λ (l : Layout). record { refusal = 0; layout = l }) layout-read
+  pub chart-read : readOf (chartWith n es o)
+      ≡ record { refusal = 0; layout = record { n = n; order = padded o; adjacency = adjacencyOf es; count = crossings n o (adjacencyOf es) } }
+  unfolding chart
+  chart-read = read-is chart (read-number chart ∙ accepted) ∙ ap (λ (l : Layout). record { refusal = 0; layout = l }) layout-read

@@ -1,5 +1,5 @@
 -- Charts written and read back (document 02, Note 1).
-use Prim.Native.Nat.{ℕ, _+_, _*_, _≤_, _<_}
+use Prim.Native.Nat.{ℕ, _≤_, _<_}
 use native.Mathlib.Decide.{decLt}
 use native.Mathlib.Omega.{arith}
 use mathlib.Core.Path.{_≡_, refl, sym, ap, ap₂, _∙_}
@@ -19,7 +19,8 @@ use Rattle.model.specs.Charts.{bodyOf, chartSize, chartEdges, chartOrder, sameE
 use Rattle.model.specs.WrittenCharts.{chartOf, writeChecks, writeOf, writtenBytes, withTrueCount}
 use Rattle.laws.specs.Sums.Lists.{All}
 use Rattle.laws.specs.Crossings.Bound.{edges-few}
-use Rattle.laws.specs.Buffers.Charts.{chart-edges, chart-length}
+use Rattle.laws.specs.Buffers.Charts.{chart-edges}
+pub use Rattle.laws.specs.Buffers.Charts.{chart-size}
 use Rattle.laws.specs.Layouts.Refusals.{valid-passed, when-accepted, checked-number}
 use Rattle.laws.specs.Layouts.Sizes.{Sized}
 use Rattle.laws.specs.Layouts.Validity.{sound}
@@ -42,7 +43,7 @@ padded-again n o long zeros =
           | no l ↦ List·getD-eq-default (take n o) 0 (omega (arith, length-take n o)) ∙ sym (zeros i (omega arith) below)
         ]
 
--- ---- the length, and that each number is a byte
+-- ---- the length, of which chart-size says the number, and that each entry is a byte
 
 module _ (l : Layout) (t : T (valid l)) where
   proper : Proper (l .n) (edges (l .n) (l .adjacency)) (vertexOrder l)
@@ -55,16 +56,9 @@ module _ (l : Layout) (t : T (valid l)) where
         permutation = sound l t .permutation;
       }
 
-  -- three headers, one byte for n, two for each edge, one for each place
-  pub written-size : length (chartOf l) ≡ 10 + 2 * length (edges (l .n) (l .adjacency)) + l .n
-  written-size =
-      ap length (chart-edges l)
-      ∙ chart-length (l .n) (edges (l .n) (l .adjacency)) (vertexOrder l)
-      ∙ ap (λ (k : ℕ). 10 + 2 * length (edges (l .n) (l .adjacency)) + k) (proper .permutation .size)
-
   -- "the written chart is at most 4,106 bytes"
   pub written-length : length (chartOf l) ≤ 4106
-  written-length = omega (arith, written-size, proper .few, proper .fewEdges)
+  written-length = omega (arith, chart-size l t, proper .few, proper .fewEdges)
 
   -- each number is a byte
   pub written-bytes : All (λ b. b < 256) (chartOf l)

@@ -17,33 +17,28 @@ use Rattle.laws.specs.Sums.Lists.{All, none, also}
 use Rattle.laws.specs.Layouts.Validity.{sound}
 use Rattle.laws.specs.Layouts.Refusals.{all-pass, when-accepted, when-refused}
 use Rattle.laws.specs.Buffers.Writing.{Written, written-whole}
-use Rattle.laws.specs.Buffers.Charts.{chartWith, chart-edges, chart-length}
+use Rattle.laws.specs.Buffers.Charts.{chartWith, chart-edges, chart-size}
 use Rattle.writer.specs.Fields.{ChartFits}
 
 -- the checks, from what the call asks
 abbrev pub asks : Bool → ℕ → ℕ → List Check
 asks passed long size = record { passes = passed; code = 11 } ∷ record { passes = leb long size; code = 19 } ∷ []
 
--- how many bytes the chart has, by what the call counts
-abbrev pub counted : Layout → ℕ
-counted l = cond (leb (l .n) 64) (10 + 2 * length (edges (l .n) (l .adjacency)) + l .n) 0
+-- how many bytes a chart has, by what the call counts
+abbrev pub counted : ℕ → List ℕ → ℕ
+counted n adj = cond (leb n 64) (10 + 2 * length (edges n adj) + n) 0
 
 -- of a valid layout
 module _ (l : Layout) (t : T (valid l)) where
   few : l .n ≤ 64
   few = sound l t .small
 
-  counted-is : counted l ≡ length (chartOf l)
-  counted-is =
-      rw (le-leb (l .n) 64 few)
-      (sym
-      (ap length (chart-edges l)
-      ∙ chart-length (l .n) (edges (l .n) (l .adjacency)) (vertexOrder l)
-      ∙ ap (λ (k : ℕ). 10 + 2 * length (edges (l .n) (l .adjacency)) + k) (sound l t .permutation .size)))
+  counted-is : counted (l .n) (l .adjacency) ≡ length (chartOf l)
+  counted-is = rw (le-leb (l .n) 64 few) (sym (chart-size l t))
 
 -- what the call has asked: the chart has long bytes, and code is the first check that fails, or 0
 pub record Asked (l : Layout) (buffer : List ℕ) (long code : ℕ) : Type 0 where
-  pub measured : long ≡ counted l
+  pub measured : long ≡ counted (l .n) (l .adjacency)
   pub told : code ≡ refusal (asks (valid l) long (length buffer))
 
 module _ {l : Layout} {buffer : List ℕ} {long code : ℕ} (a : Asked l buffer long code) where
@@ -52,7 +47,10 @@ module _ {l : Layout} {buffer : List ℕ} {long code : ℕ} (a : Asked l buffer 
   unfolding writeChecks isValid roomFor refusal
   number = a .told ∙ rw (a .measured) (by-test (valid l) refl)
     where
-      by-test : (b : Bool) → valid l ≡ b → refusal (asks b (counted l) (length buffer)) ≡ refusal (asks b (length (chartOf l)) (length buffer))
+      size : ℕ
+      size = counted (l .n) (l .adjacency)
+
+      by-test : (b : Bool) → valid l ≡ b → refusal (asks b size (length buffer)) ≡ refusal (asks b (length (chartOf l)) (length buffer))
       by-test true e = ap (λ (k : ℕ). refusal (asks true k (length buffer))) (counted-is l (subst T (sym e) tt))
       by-test false e = refl
 

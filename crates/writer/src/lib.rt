@@ -1,10 +1,8 @@
 // Writing the chart of a layout (ring) into a lent buffer (document 02, Note 1).
 ghost use mathlib.Core.Path.{_≡_};
-ghost use mathlib.Core.Bool.{cond};
 ghost use mathlib.Core.List.{[], _∷_};
 ghost use Prim.Native.Nat.{_+_, _*_, _/_, _%_, _≤_, _<_};
 ghost use lib.ListN.{length};
-ghost use lib.Dec.{leb};
 ghost use Rattle.model.specs.Crossings.{edges};
 ghost use Rattle.model.specs.Checks.{refusal};
 ghost use Rattle.model.specs.WrittenCharts.{fieldBytes, edgeBytes, writeOf, writtenBytes};
@@ -12,6 +10,7 @@ ghost use Rattle.laws.specs.Buffers.Writing.{Written};
 ghost use Rattle.laws.specs.Buffers.Charts.{chartWith};
 ghost use Rattle.text.specs.Room.{Put};
 ghost use Rattle.writer.specs.Fields.{ChartFits};
+ghost use Rattle.writer.specs.Answers.{asks, counted};
 use edge_list::edge_count;
 use edge_list::put_edges;
 use model::ChartWritten;
@@ -40,7 +39,7 @@ pub fn write(l: Layout, buffer: &mut [u8]) -> ChartWritten
 // The checks of the call: is the layout valid, and has a buffer of size bytes room for a chart of
 // length bytes?
 fn write_refusal(valid: bool, length: usize, size: usize) -> u8
-    ensures { λ r. ⌜ r ≡ refusal (record { passes = valid; code = 11 } ∷ record { passes = leb length size; code = 19 } ∷ []) ⌝ }
+    ensures { λ r. ⌜ r ≡ refusal (asks valid length size) ⌝ }
 {
     if !valid {
         return 11;
@@ -54,7 +53,7 @@ fn write_refusal(valid: bool, length: usize, size: usize) -> u8
 // How many bytes the chart of n vertices has: three headers, n itself, the edges and the order. 0
 // above 64 vertices, which no chart has.
 fn chart_length(n: usize, adjacency: &[u64; 64]) -> usize
-    ensures { λ r. ⌜ r ≡ cond (leb n 64) (10 + 2 * length (edges n (now (adjacency .entry))) + n) 0 ⌝ }
+    ensures { λ r. ⌜ r ≡ counted n (now (adjacency .entry)) ⌝ }
 {
     if 64 < n {
         return 0;

@@ -1,14 +1,16 @@
 -- The bytes of a chart, from n, a list of edges in any sequence and an order.
 use Prim.Native.Nat.{ℕ, _+_, _*_}
 use native.Mathlib.Omega.{arith}
-use mathlib.Core.Path.{_≡_, refl}
+use mathlib.Core.Path.{_≡_, refl, ap, _∙_}
 use mathlib.Core.List.{List, [], _∷_, _++_}
 use lib.ListN.{length, length-append}
+use lib.Dec.{T}
 use Rattle.model.specs.declared.Edge.{Edge}
 use Rattle.model.specs.declared.Layout.{Layout}
 use Rattle.model.specs.Crossings.{edges}
-use Rattle.model.specs.Layouts.{vertexOrder}
+use Rattle.model.specs.Layouts.{vertexOrder, valid}
 use Rattle.model.specs.WrittenCharts.{fieldBytes, edgeBytes, chartOf}
+use Rattle.laws.specs.Layouts.Validity.{sound}
 use Rattle.laws.specs.Buffers.EdgeBytes.{edge-bytes-length}
 
 unfoldable pub chartWith : ℕ → List Edge → List ℕ → List ℕ
@@ -23,3 +25,9 @@ chart-edges l = refl
 pub chart-length : (n : ℕ) (es : List Edge) (o : List ℕ) → length (chartWith n es o) ≡ 10 + 2 * length es + length o
 unfolding chartWith fieldBytes
 chart-length n es o = simp length-append (omega (arith, edge-bytes-length es))
+
+-- so of a valid layout
+pub chart-size : (l : Layout) → T (valid l) → length (chartOf l) ≡ 10 + 2 * length (edges (l .n) (l .adjacency)) + l .n
+chart-size l t =
+    let es = edges (l .n) (l .adjacency) in
+    ap length (chart-edges l) ∙ chart-length (l .n) es (vertexOrder l) ∙ ap (λ (k : ℕ). 10 + 2 * length es + k) (sound l t .permutation .size)
