@@ -1,7 +1,8 @@
--- The call lay: greedy append (document 004, Algorithm 1, Connectivity with Crossings).
+-- The call lay: greedy append (document 004, Algorithm 1, Connectivity with Crossings), isolated vertices at the back (document 02, Note 2).
 use Prim.Native.Nat.{ℕ, zero, suc, _+_, _*_, _-_}
-use mathlib.Core.Bool.{Bool, not, cond, _&&_, _||_}
+use mathlib.Core.Bool.{Bool, true, not, cond, _&&_, _||_}
 use mathlib.Core.List.{List, [], _∷_, _++_}
+use lib.ListN.{length, getD}
 use lib.Dec.{eqb, ltb}
 use Rattle.model.specs.declared.Layout.{Layout}
 use Rattle.model.specs.declared.Appended.{Appended}
@@ -13,6 +14,18 @@ use Rattle.model.specs.Checks.{Check, checked, isValid, isVertex}
 -- the vertices that are not placed yet, in rising number
 unfoldable pub unplaced : ℕ → List ℕ → List ℕ
 unplaced n placed = keep (λ v. not (member v placed)) (upto n)
+
+-- those of them that pass p
+unfoldable pub waiting : ℕ → (ℕ → Bool) → List ℕ → List ℕ
+waiting n p placed = keep p (unplaced n placed)
+
+-- "unlinked": the neighbour word is 0
+unfoldable pub isolated : List ℕ → ℕ → Bool
+isolated adj v = eqb (getD adj v 0) 0
+
+-- "linked devices"
+unfoldable pub hasEdges : List ℕ → ℕ → Bool
+hasEdges adj v = not (isolated adj v)
 
 -- how many of the vertices us are neighbours of v
 unfoldable pub degreeIn : List ℕ → ℕ → List ℕ → ℕ
@@ -57,24 +70,43 @@ pub record Placing : Type 0 where
   pub placed : List ℕ
   pub tally : ℕ
 
--- "v goes to the end with fewer such crossings; on a tie, to the back."
-unfoldable pub placeVertex : ℕ → List ℕ → Placing → ℕ → Placing
-placeVertex n adj s v =
-    let front = frontCrossings n adj (s .placed) v in
-    let back = backCrossings n adj (s .placed) v in
-    cond (ltb front back)
-    (record { placed = v ∷ s .placed; tally = s .tally + front })
-    (record { placed = s .placed ++ (v ∷ []); tally = s .tally + back })
-
--- k steps, each of which takes the next vertex
-unfoldable pub placeMore : ℕ → ℕ → List ℕ → Placing → Placing
-placeMore zero n adj s = s
-placeMore (suc k) n adj s =
-    placeMore k n adj (placeVertex n adj s (nextVertex n adj (s .placed) (unplaced n (s .placed))))
-
 -- "The list starts as s alone."
-unfoldable pub placeAll : ℕ → List ℕ → ℕ → Placing
-placeAll n adj s = placeMore (n - 1) n adj (record { placed = s ∷ []; tally = 0 })
+unfoldable pub alone : ℕ → Placing
+alone s = record { placed = s ∷ []; tally = 0 }
+
+module _ (n : ℕ) (adj : List ℕ) where
+  unfoldable pub placeFront : Placing → ℕ → Placing
+  placeFront s v = record { placed = v ∷ s .placed; tally = s .tally + frontCrossings n adj (s .placed) v }
+
+  unfoldable pub placeBack : Placing → ℕ → Placing
+  placeBack s v = record { placed = s .placed ++ (v ∷ []); tally = s .tally + backCrossings n adj (s .placed) v }
+
+  -- "v goes to the end with fewer such crossings; on a tie, to the back."
+  unfoldable pub placeVertex : Placing → ℕ → Placing
+  placeVertex s v = cond (ltb (frontCrossings n adj (s .placed) v) (backCrossings n adj (s .placed) v)) (placeFront s v) (placeBack s v)
+
+  -- k steps, each of which takes the next of those that pass p
+  unfoldable pub placeMore : (ℕ → Bool) → ℕ → Placing → Placing
+  placeMore p zero s = s
+  placeMore p (suc k) s = placeMore p k (placeVertex s (nextVertex n adj (s .placed) (waiting n p (s .placed))))
+
+  -- each of the vertices vs in turn at the back
+  unfoldable pub placeAtBack : Placing → List ℕ → Placing
+  placeAtBack s [] = s
+  placeAtBack s (v ∷ vs) = placeAtBack (placeBack s v) vs
+
+  module _ (s : ℕ) where
+    -- "Lay now places linked devices by the old rule."
+    unfoldable pub placeLinked : Placing
+    placeLinked = placeMore (hasEdges adj) (length (waiting n (hasEdges adj) (s ∷ []))) (alone s)
+
+    -- "Then it appends unlinked ones at the back in rising number. The named start stays the first placed even if unlinked."
+    unfoldable pub placeAll : Placing
+    placeAll = placeAtBack placeLinked (waiting n (isolated adj) (placeLinked .placed))
+
+    -- the former rule, that of document 01 alone: n - 1 steps, in which every vertex is one to choose from
+    unfoldable pub formerPlaceAll : Placing
+    formerPlaceAll = placeMore (λ v. true) (n - 1) (alone s)
 
 unfoldable pub layChecks : Layout → ℕ → List Check
 layChecks l s = isValid l ∷ isVertex l s ∷ []
@@ -88,3 +120,7 @@ layRefused l r = record { refusal = r; layout = l; tally = 0 }
 
 unfoldable pub layOf : Layout → ℕ → Appended
 layOf l s = checked (layChecks l s) (layAnswer l (placeAll (l .n) (l .adjacency) s)) (layRefused l)
+
+-- what lay gave by the former rule, for the claim that "its crossings equal those of the former rule"; no code runs it
+unfoldable pub formerLayOf : Layout → ℕ → Appended
+formerLayOf l s = checked (layChecks l s) (layAnswer l (formerPlaceAll (l .n) (l .adjacency) s)) (layRefused l)

@@ -16,3 +16,4 @@ pub mod Playing
 pub mod Listing
 pub mod Starred
 pub mod WorkedCharts
+pub mod WorkedLays

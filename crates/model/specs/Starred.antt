@@ -6,6 +6,7 @@ use lib.ListN.{length, take, replicate}
 use lib.Dec.{T, eqb}
 use Rattle.model.specs.declared.Edge.{Edge}
 use Rattle.model.specs.declared.Layout.{Layout}
+use Rattle.model.specs.declared.Appended.{Appended}
 use Rattle.model.specs.Lists.{one, upto, every, any, keep, firstWith, sumOver, sumPairs, noRepeats, member, occurrences, place}
 use Rattle.model.specs.Crossings.{bit, linked, edges, between, alternate, crosses, crossings}
 use Rattle.model.specs.Layouts.{capacity, vertexOrder, crossingsOf, eachOnce, zeroFrom, symmetric, loopless, bitsBelow, valid, carried, changed}
@@ -13,8 +14,9 @@ use Rattle.model.specs.Layouts.{reordered}
 use Rattle.model.specs.Checks.{refusal, byRefusal, checked, isValid, isVertex, differ, limitFits}
 use Rattle.model.specs.Edits.{changedOr, insertAfter, movedAfter, moveChecks, moveOf}
 use Rattle.model.specs.Reading.{pairWith, orElse, firstPair, firstCrossingOf}
-use Rattle.model.specs.GreedyAppend.{unplaced, degreeIn, preferred, bestOf, nextVertex, closing, open′, frontCrossings, backCrossings}
-use Rattle.model.specs.GreedyAppend.{placeVertex, placeMore, placeAll, layChecks, layOf}
+use Rattle.model.specs.GreedyAppend.{unplaced, waiting, isolated, hasEdges, degreeIn, preferred, bestOf, nextVertex, closing, open′}
+use Rattle.model.specs.GreedyAppend.{frontCrossings, backCrossings, alone, placeFront, placeBack, placeVertex, placeMore, placeAtBack, placeLinked}
+use Rattle.model.specs.GreedyAppend.{placeAll, layChecks, layOf}
 use Rattle.model.specs.Sifting.{clockwiseFrom, candidates, least, leastCrossings, improves, siftedOrder, sifted, reduction, siftChecks, siftOf}
 use Rattle.model.specs.Sifting.{moves, siftAll, siftRound, roundOf, afterRound, stopped, roundsUpTo, settleChecks, settleOf}
 use Rattle.model.specs.Charts.{sameList, sameEdge, joins, wordIn}
@@ -117,13 +119,17 @@ sameEdges es fs = sameList (ends es) (ends fs)
 unfoldable pub gives : ℕ → Layout → List ℕ → Bool
 gives refused l o = eqb refused 0 && sameList (vertexOrder l) o
 
+-- this order and this tally?
+unfoldable pub lays : Appended → List ℕ → ℕ → Bool
+lays r o tally = gives (r .refusal) (r .layout) o && eqb (r .tally) tally
+
 unfoldable pub holds : Layout → Claim → Bool
 holds l (crossing k) = eqb (crossingsOf l) k && eqb (l .count) k
 holds l (showing pair) =
     let a = firstCrossingOf l in
     eqb (a .refusal) 0 && sameEdges (a .pair) pair && Bool·beq (a .none) (eqb (length pair) 0)
 holds l (moving a b o) = let r = moveOf l a b in gives (r .refusal) (r .layout) o
-holds l (laying s o tally) = let r = layOf l s in gives (r .refusal) (r .layout) o && eqb (r .tally) tally
+holds l (laying s o tally) = lays (layOf l s) o tally
 holds l (sifting u o saving) = let r = siftOf l u in gives (r .refusal) (r .layout) o && eqb (r .reduction) saving
 holds l (settling limit rounds settled count o) =
     let r = settleOf l limit in
@@ -134,10 +140,10 @@ holds l (settling limit rounds settled count o) =
 
 -- every claim of the table holds, by computation
 pub starred-holds : T (every (λ row. every (holds (layoutOf (row .ring))) (row .claims)) starred)
-unfolding starred first complete _to_ layoutOf sameEdges gives holds one upto every any keep firstWith sumOver sumPairs noRepeats member occurrences
+unfolding starred first complete _to_ layoutOf sameEdges gives lays holds one upto every any keep firstWith sumOver sumPairs noRepeats member occurrences
     place bit linked edges between alternate crosses crossings vertexOrder crossingsOf eachOnce zeroFrom symmetric loopless bitsBelow valid carried
     changed reordered refusal byRefusal checked isValid isVertex differ limitFits changedOr insertAfter movedAfter moveChecks moveOf pairWith orElse
-    firstPair firstCrossingOf unplaced degreeIn preferred bestOf nextVertex closing open′ frontCrossings backCrossings placeVertex placeMore placeAll
-    layChecks layOf clockwiseFrom candidates least leastCrossings improves siftedOrder sifted reduction siftChecks siftOf moves siftAll siftRound
+    firstPair firstCrossingOf unplaced waiting isolated hasEdges degreeIn preferred bestOf nextVertex closing open′ frontCrossings backCrossings
+    alone placeFront placeBack placeVertex placeMore placeAtBack placeLinked placeAll layChecks layOf clockwiseFrom candidates least leastCrossings improves siftedOrder sifted reduction siftChecks siftOf moves siftAll siftRound
     roundOf afterRound stopped roundsUpTo settleChecks settleOf sameList sameEdge joins wordIn flatMap xor
 starred-holds = tt
