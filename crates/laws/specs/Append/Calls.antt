@@ -14,9 +14,10 @@ use Rattle.model.specs.Lists.{sumOver, occurrences}
 use Rattle.model.specs.Crossings.{crossings}
 use Rattle.model.specs.Layouts.{crossingsOf, valid, reordered}
 use Rattle.model.specs.Checks.{refusal, isValid, isVertex}
-use Rattle.model.specs.GreedyAppend.{unplaced, degreeIn, nextVertex, closing, open′, frontCrossings, backCrossings}
-use Rattle.model.specs.GreedyAppend.{Placing, placeVertex, placeMore, placeAll, layChecks, layAnswer, layRefused, layOf}
-use Rattle.laws.specs.Sums.Lists.{All, none, also, all-mono}
+use Rattle.model.specs.GreedyAppend.{unplaced, waiting, isolated, hasEdges, degreeIn, nextVertex, closing, open′, frontCrossings, backCrossings}
+use Rattle.model.specs.GreedyAppend.{Placing, alone, placeFront, placeBack, placeVertex, placeMore, placeAtBack, placeLinked, placeAll}
+use Rattle.model.specs.GreedyAppend.{formerPlaceAll, layChecks, layAnswer, layRefused, layOf}
+use Rattle.laws.specs.Sums.Lists.{All, none, also, all-mono, keep-true, keep-split}
 use Rattle.laws.specs.Orders.Permutations.{Permutation}
 use Rattle.laws.specs.Sums.Pairs.{Symmetric}
 use Rattle.laws.specs.Crossings.Counting.{crossingSum, placed}
@@ -26,7 +27,8 @@ use Rattle.laws.specs.Layouts.Validity.{sound}
 use Rattle.laws.specs.Layouts.Sizes.{Sized, reordered-sized}
 use Rattle.laws.specs.Layouts.Refusals.{checked-either, vertex-passed, all-passed, when-accepted, when-refused, checked-number}
 use Rattle.laws.specs.Layouts.Reordering.{reordered-crossings, reordered-valid, Keeps, same-keeps, changed-keeps}
-use Rattle.laws.specs.Append.Order.{Placed, placed-start, placed-back, placed-front, placed-all, all-placed, next-unplaced}
+use Rattle.laws.specs.Append.Order.{Placed, placed-start, placed-back, placed-front, placed-all, placed-count, all-placed}
+use Rattle.laws.specs.Append.Order.{Waiting, all-waiting, next-waiting, waiting-less, waiting-rest}
 use Rattle.laws.specs.Append.Order.{unplacedBut, unplaced-front, unplaced-back, sumOver-but}
 use Rattle.laws.specs.Append.Crossings.{crossingsMet, Closing, met-start, met-back, met-front, met-finished}
 
@@ -35,19 +37,12 @@ abbrev pub openTo : List ℕ → List ℕ → ℕ → ℕ
 openTo adj us b = degreeIn adj b us
 
 module _ (n : ℕ) (adj : List ℕ) where
-  -- v put at an end
-  abbrev atFront : Placing → ℕ → Placing
-  atFront s v = record { placed = v ∷ s .placed; tally = s .tally + frontCrossings n adj (s .placed) v }
-
-  abbrev atBack : Placing → ℕ → Placing
-  atBack s v = record { placed = s .placed ++ (v ∷ []); tally = s .tally + backCrossings n adj (s .placed) v }
-
   -- what holds at either end holds at the one that is taken
-  either-end : (P : Placing → Type 0) (s : Placing) (v : ℕ) → P (atFront s v) → P (atBack s v) → P (placeVertex n adj s v)
+  either-end : (P : Placing → Type 0) (s : Placing) (v : ℕ) → P (placeFront n adj s v) → P (placeBack n adj s v) → P (placeVertex n adj s v)
   unfolding placeVertex
   either-end P s v front back = by-test (ltb (frontCrossings n adj (s .placed) v) (backCrossings n adj (s .placed) v))
     where
-      by-test : (b : Bool) → P (cond b (atFront s v) (atBack s v))
+      by-test : (b : Bool) → P (cond b (placeFront n adj s v) (placeBack n adj s v))
       by-test true = front
       by-test false = back
 
@@ -57,32 +52,25 @@ module _ (n : ℕ) (adj : List ℕ) where
     pub size : length (s .placed) ≡ m
     pub tallied : s .tally ≡ crossingsMet (weight adj) (openTo adj (unplaced n (s .placed))) (s .placed)
 
-  pub laid-start : (s : ℕ) → s < n → Laid 1 (record { placed = s ∷ []; tally = 0 })
+  pub laid-start : (s : ℕ) → s < n → Laid 1 (alone s)
+  unfolding alone
   laid-start s h = record { order = placed-start h; size = refl; tallied = sym (met-start (weight adj) (openTo adj (unplaced n (s ∷ []))) s) }
 
-  -- the tally only grows
-  tally-step : (s : Placing) (v : ℕ) → s .tally ≤ placeVertex n adj s v .tally
-  tally-step s v =
-      either-end (λ t. s .tally ≤ t .tally) s v
-      (le-add-right (s .tally) (frontCrossings n adj (s .placed) v)) (le-add-right (s .tally) (backCrossings n adj (s .placed) v))
+-- once all are placed, each is placed once, and the tally is exactly the crossings of the list
+module _ {n : ℕ} {adj : List ℕ} {s : Placing} (laid : Laid n adj n s) where
+  pub laid-permutation : Permutation n (s .placed)
+  laid-permutation = placed-all (laid .order) (laid .size)
 
-  tally-grows : (k : ℕ) (s : Placing) → s .tally ≤ placeMore k n adj s .tally
-  unfolding placeMore
-  tally-grows zero s = le-refl (s .tally)
-  tally-grows (suc k) s =
-      let v = nextVertex n adj (s .placed) (unplaced n (s .placed)) in
-      le-trans (tally-step s v) (tally-grows k (placeVertex n adj s v))
-
--- once all are placed, it is the crossings of the list
-laid-finished : {n : ℕ} {adj : List ℕ} {s : Placing} → Laid n adj n s → s .tally ≡ crossingSum n (placed (s .placed) (weight adj))
-unfolding degreeIn sumOver
-laid-finished {n} {adj} {s} laid =
-    laid .tallied
-    ∙ met-finished (weight adj) (openTo adj (unplaced n (s .placed))) (s .placed) (λ b. ap (degreeIn adj b) (all-placed (laid .order) (laid .size)))
-    ∙ ap (λ (m : ℕ). crossingSum m (placed (s .placed) (weight adj))) (laid .size)
+  pub laid-tally : Symmetric n (weight adj) → s .tally ≡ crossings n (s .placed) adj
+  unfolding degreeIn sumOver
+  laid-tally symmetry =
+      laid .tallied
+      ∙ met-finished (weight adj) (openTo adj (unplaced n (s .placed))) (s .placed) (λ b. ap (degreeIn adj b) (all-placed (laid .order) (laid .size)))
+      ∙ ap (λ (m : ℕ). crossingSum m (placed (s .placed) (weight adj))) (laid .size)
+      ∙ sym (crossings-sum laid-permutation adj symmetry)
 
 module _ {n : ℕ} (adj : List ℕ) (symmetry : Symmetric n (weight adj)) where
-  module _ {m : ℕ} {s : Placing} (laid : Laid n adj m s) {v : ℕ} (h : v < n) (free : occurrences v (s .placed) ≡ 0) where
+  module _ {m : ℕ} {s : Placing} (laid : Laid n adj m s) {p : ℕ → Bool} {v : ℕ} (w : Waiting n p (s .placed) v) where
     -- the edges that v closes
     closing-edges : All (Closing (weight adj) v (openTo adj (unplaced n (s .placed))) (openTo adj (unplacedBut n (s .placed) v))) (s .placed)
     unfolding degreeIn
@@ -90,59 +78,81 @@ module _ {n : ℕ} (adj : List ℕ) (symmetry : Symmetric n (weight adj)) where
         all-mono (laid .order .below)
         (λ b l.
         record {
-          same = symmetry .swap v b h l;
+          same = symmetry .swap v b (w .below) l;
           opened =
-              sumOver-but n (s .placed) v (weight adj b) h free
-              ∙ ap (λ (x : ℕ). sumOver (weight adj b) (unplacedBut n (s .placed) v) + x) (symmetry .swap b v l h);
+              sumOver-but n (s .placed) v (weight adj b) (w .below) (w .free)
+              ∙ ap (λ (x : ℕ). sumOver (weight adj b) (unplacedBut n (s .placed) v) + x) (symmetry .swap b v l (w .below));
         })
 
-    -- one vertex more, at the end with fewer crossings
-    pub laid-next : Laid n adj (suc m) (placeVertex n adj s v)
-    unfolding frontCrossings backCrossings closing open′
-    laid-next = either-end n adj (Laid n adj (suc m)) s v front back
-      where
-        front : Laid n adj (suc m) (atFront n adj s v)
-        front =
-            record {
-              order = placed-front (laid .order) h free;
-              size = ap suc (laid .size);
-              tallied =
-                  ap (λ (t : ℕ). t + frontCrossings n adj (s .placed) v) (laid .tallied)
-                  ∙ sym (met-front (weight adj) v (openTo adj (unplaced n (s .placed))) (openTo adj (unplacedBut n (s .placed) v)) closing-edges)
-                  ∙ ap (λ (us : List ℕ). crossingsMet (weight adj) (openTo adj us) (v ∷ s .placed)) (sym (unplaced-front n (s .placed) v));
-            }
+    -- one vertex more, at either end
+    laid-front : Laid n adj (suc m) (placeFront n adj s v)
+    unfolding placeFront frontCrossings closing open′
+    laid-front =
+        record {
+          order = placed-front (laid .order) (w .below) (w .free);
+          size = ap suc (laid .size);
+          tallied =
+              ap (λ (t : ℕ). t + frontCrossings n adj (s .placed) v) (laid .tallied)
+              ∙ sym (met-front (weight adj) v (openTo adj (unplaced n (s .placed))) (openTo adj (unplacedBut n (s .placed) v)) closing-edges)
+              ∙ ap (λ (us : List ℕ). crossingsMet (weight adj) (openTo adj us) (v ∷ s .placed)) (sym (unplaced-front n (s .placed) v));
+        }
 
-        back : Laid n adj (suc m) (atBack n adj s v)
-        back =
-            record {
-              order = placed-back (laid .order) h free;
-              size = length-append (s .placed) (v ∷ []) ∙ omega (arith, laid .size);
-              tallied =
-                  ap (λ (t : ℕ). t + backCrossings n adj (s .placed) v) (laid .tallied)
-                  ∙ sym (met-back (weight adj) v (openTo adj (unplaced n (s .placed))) (openTo adj (unplacedBut n (s .placed) v)) closing-edges)
-                  ∙ ap (λ (us : List ℕ). crossingsMet (weight adj) (openTo adj us) (s .placed ++ (v ∷ []))) (sym (unplaced-back n (s .placed) v));
-            }
+    laid-back : Laid n adj (suc m) (placeBack n adj s v)
+    unfolding placeBack backCrossings closing open′
+    laid-back =
+        record {
+          order = placed-back (laid .order) (w .below) (w .free);
+          size = length-append (s .placed) (v ∷ []) ∙ omega (arith, laid .size);
+          tallied =
+              ap (λ (t : ℕ). t + backCrossings n adj (s .placed) v) (laid .tallied)
+              ∙ sym (met-back (weight adj) v (openTo adj (unplaced n (s .placed))) (openTo adj (unplacedBut n (s .placed) v)) closing-edges)
+              ∙ ap (λ (us : List ℕ). crossingsMet (weight adj) (openTo adj us) (s .placed ++ (v ∷ []))) (sym (unplaced-back n (s .placed) v));
+        }
 
-  -- step after step, until all are placed
-  pub laid-more : (k : ℕ) {m : ℕ} {s : Placing} → m + k ≡ n → Laid n adj m s → Laid n adj n (placeMore k n adj s)
-  unfolding placeMore
-  laid-more zero {m} {s} e laid = subst (λ (j : ℕ). Laid n adj j s) (omega arith) laid
-  laid-more (suc k) {m} {s} e laid =
-      let next = next-unplaced (laid .order) adj (omega (arith, laid .size)) in
-      laid-more k (omega arith) (laid-next laid (next .0) (next .1))
+  -- k steps place k more of those that pass
+  pub laid-more : (p : ℕ → Bool) (k : ℕ) {m : ℕ} {s : Placing} → k ≤ length (waiting n p (s .placed)) → Laid n adj m s
+      → Laid n adj (m + k) (placeMore n adj p k s) × (length (waiting n p (placeMore n adj p k s .placed)) + k ≡ length (waiting n p (s .placed)))
+  unfolding placeMore placeFront placeBack
+  laid-more p zero {m} {s} h laid = (subst (λ (j : ℕ). Laid n adj j s) (omega arith) laid, omega arith)
+  laid-more p (suc k) {m} {s} h laid =
+      let v = nextVertex n adj (s .placed) (waiting n p (s .placed)) in
+      let w = next-waiting n p (s .placed) adj (omega arith) in
+      let less = either-end n adj (λ t. length (waiting n p (t .placed)) + 1 ≡ length (waiting n p (s .placed))) s v
+      (waiting-less w (v ∷ s .placed) (unplaced-front n (s .placed) v)) (waiting-less w (s .placed ++ (v ∷ [])) (unplaced-back n (s .placed) v)) in
+      let more = laid-more p k (omega (arith, less)) (either-end n adj (Laid n adj (suc m)) s v (laid-front laid w) (laid-back laid w)) in
+      (subst (λ (j : ℕ). Laid n adj j (placeMore n adj p k (placeVertex n adj s v))) (omega arith) (more .0), omega (arith, less, more .1))
+
+  -- those that pass, put at the back in turn
+  laid-at-back : (p : ℕ → Bool) {m : ℕ} {s : Placing} → Laid n adj m s → (vs : List ℕ) → waiting n p (s .placed) ≡ vs
+      → Laid n adj (m + length vs) (placeAtBack n adj s vs)
+  unfolding placeAtBack placeBack
+  laid-at-back p {m} {s} laid [] e = subst (λ (j : ℕ). Laid n adj j s) (omega arith) laid
+  laid-at-back p {m} {s} laid (v ∷ vs) e =
+      let w = first (subst (All (Waiting n p (s .placed))) e (all-waiting n p (s .placed))) in
+      subst (λ (j : ℕ). Laid n adj j (placeAtBack n adj (placeBack n adj s v) vs)) (omega arith)
+      (laid-at-back p (laid-back laid w) vs (waiting-rest w (s .placed ++ (v ∷ [])) (unplaced-back n (s .placed) v) e))
+    where
+      first : {P : ℕ → Type 0} {x : ℕ} {xs : List ℕ} → All P (x ∷ xs) → P x
+      first (also q qs) = q
 
   module _ (s : ℕ) (h : s < n) where
+    -- those with edges are placed, and then the isolated ones are all that are left
     pub laid-all : Laid n adj n (placeAll n adj s)
-    unfolding placeAll
-    laid-all = laid-more (n - 1) (omega arith) (laid-start n adj s h)
+    unfolding placeAll placeLinked alone hasEdges waiting
+    laid-all =
+        let others = length (waiting n (hasEdges adj) (s ∷ [])) in
+        let linked = laid-more (hasEdges adj) others (le-refl others) (laid-start n adj s h) in
+        let left = placeLinked n adj s .placed in
+        subst (λ (j : ℕ). Laid n adj j (placeAll n adj s))
+        (omega (arith, linked .1, linked .0 .size, keep-split (isolated adj) (unplaced n left), placed-count (linked .0 .order)))
+        (laid-at-back (isolated adj) (linked .0) (waiting n (isolated adj) left) refl)
 
-    -- each vertex is placed once
-    pub append-permutation : Permutation n (placeAll n adj s .placed)
-    append-permutation = placed-all (laid-all .order) (laid-all .size)
-
-    -- the tally is exactly the crossings of the finished list
-    pub append-tally : placeAll n adj s .tally ≡ crossings n (placeAll n adj s .placed) adj
-    append-tally = laid-finished laid-all ∙ sym (crossings-sum append-permutation adj symmetry)
+    -- by the former rule too
+    pub former-laid-all : Laid n adj n (formerPlaceAll n adj s)
+    unfolding formerPlaceAll waiting alone
+    former-laid-all =
+        subst (λ (j : ℕ). Laid n adj j (formerPlaceAll n adj s)) (omega arith)
+        (laid-more (λ v. true) (n - 1) (omega (arith, placed-count (placed-start h), ap length (keep-true (unplaced n (s ∷ []))))) (laid-start n adj s h) .0)
 
 -- ---- the call lay
 
@@ -169,14 +179,14 @@ module _ (l : Layout) (s : ℕ) where
 
   module _ (t : T (valid l)) (h : s < l .n) where
     pub lay-permutation : Permutation (l .n) (laidOut .placed)
-    lay-permutation = append-permutation (l .adjacency) (sound l t .symmetry) s h
+    lay-permutation = laid-permutation (laid-all (l .adjacency) (sound l t .symmetry) s h)
 
     pub lay-valid : T (valid (reordered l (laidOut .placed)))
     lay-valid = reordered-valid l (laidOut .placed) t lay-permutation
 
     pub lay-crossings : laidOut .tally ≡ crossingsOf (reordered l (laidOut .placed))
     lay-crossings =
-        append-tally (l .adjacency) (sound l t .symmetry) s h ∙ sym (reordered-crossings l (laidOut .placed) (lay-permutation .size))
+        laid-tally (laid-all (l .adjacency) (sound l t .symmetry) s h) (sound l t .symmetry) ∙ sym (reordered-crossings l (laidOut .placed) (lay-permutation .size))
 
   -- the tally of an accepted lay is the crossings of its layout
   pub lay-tally : layOf l s .refusal ≡ 0 → layOf l s .tally ≡ crossingsOf (layOf l s .layout)

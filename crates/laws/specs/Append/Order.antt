@@ -8,13 +8,13 @@ use mathlib.Core.Bool.{Bool, true, false, not, cond, _&&_, _||_, or-comm, or-fal
 use mathlib.Core.List.{List, [], _∷_, _++_}
 use lib.ListN.{length}
 use lib.Dec.{eqb, ltb}
-use borrow.Author.Tests.{ltb-false, le-ltb, not-true}
+use borrow.Author.Tests.{eq-eqb, ltb-false, le-ltb, not-true}
 use Rattle.model.specs.Lists.{one, upto, any, keep, sumOver, member, occurrences}
-use Rattle.model.specs.GreedyAppend.{unplaced, preferred, bestOf, nextVertex}
+use Rattle.model.specs.GreedyAppend.{unplaced, waiting, preferred, bestOf, nextVertex}
 use Rattle.laws.specs.Sums.Indicators.{one-eq, one-ne, one-lt, one-le, eqb-swap}
 use Rattle.laws.specs.Sums.Ranges.{sum, sum-ext, sum-add, sum-const, sum-at, all-one}
 use Rattle.laws.specs.Sums.Lists.{All, none, also, all-append, all-at, all-mono, all-kept, all-upto, keep-keep, sumOver-keep, sumOver-places}
-use Rattle.laws.specs.Sums.Lists.{sumOver-upto}
+use Rattle.laws.specs.Sums.Lists.{sumOver-upto, keep-swap, length-keep, keep-whole}
 use Rattle.laws.specs.Orders.Permutations.{at, Permutation, occurrences-nil, occurrences-cons, occurrences-append, member-occurs, occurrences-total}
 use Rattle.laws.specs.Sums.Any.{any-append}
 
@@ -173,7 +173,38 @@ module _ {n : ℕ} {xs : List ℕ} (p : Placed n xs) where
       by-length [] z = refl
       by-length (u ∷ us) z = absurd (omega arith)
 
-  -- the next vertex is not placed yet
-  pub next-unplaced : (adj : List ℕ) → length xs < n
-      → (nextVertex n adj xs (unplaced n xs) < n) × (occurrences (nextVertex n adj xs (unplaced n xs)) xs ≡ 0)
-  next-unplaced adj h = next-among n adj xs (all-unplaced n xs) (omega (arith, placed-count))
+-- ---- those of them that pass a test
+
+-- v passes the test p and is not placed yet
+pub record Waiting (n : ℕ) (p : ℕ → Bool) (xs : List ℕ) (v : ℕ) : Type 0 where
+  pub below : v < n
+  pub free : occurrences v xs ≡ 0
+  pub passes : p v ≡ true
+
+module _ (n : ℕ) (p : ℕ → Bool) (xs : List ℕ) where
+  pub all-waiting : All (Waiting n p xs) (waiting n p xs)
+  unfolding waiting
+  all-waiting = all-mono (all-kept p (all-unplaced n xs)) (λ v q. record { below = q .0 .0; free = q .0 .1; passes = q .1 })
+
+  -- the next vertex is one of them
+  pub next-waiting : (adj : List ℕ) → 0 < length (waiting n p xs) → Waiting n p xs (nextVertex n adj xs (waiting n p xs))
+  next-waiting adj h = next-among n adj xs all-waiting h
+
+-- those other than v are what is left of them once v is placed, and one less
+module _ {n : ℕ} {p : ℕ → Bool} {xs : List ℕ} {v : ℕ} (w : Waiting n p xs v) (ys : List ℕ) (placed : unplaced n ys ≡ unplacedBut n xs v) where
+  pub waiting-less : length (waiting n p ys) + 1 ≡ length (waiting n p xs)
+  unfolding waiting one
+  waiting-less =
+      rw (placed, length-keep p (unplacedBut n xs v), length-keep p (unplaced n xs), sumOver-but n xs v (λ x. one (p x)) (w .below) (w .free), w .passes)
+
+  -- where v is the first of them, the others are the rest
+  pub waiting-rest : {vs : List ℕ} → waiting n p xs ≡ v ∷ vs → waiting n p ys ≡ vs
+  unfolding waiting keep
+  waiting-rest {vs} e = others ∙ keep-whole (λ x. not (eqb v x)) vs (omega (arith, waiting-less, ap length e, ap length others))
+    where
+      others : keep p (unplaced n ys) ≡ keep (λ x. not (eqb v x)) vs
+      others =
+          ap (keep p) placed
+          ∙ keep-swap p (λ x. not (eqb v x)) (unplaced n xs)
+          ∙ ap (keep (λ x. not (eqb v x))) e
+          ∙ rw (eq-eqb v v refl)

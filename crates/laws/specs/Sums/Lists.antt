@@ -3,7 +3,7 @@ use Prim.Native.Nat.{ℕ, zero, suc, _+_, _*_, _-_, _≤_, _<_, zero-le, suc-le-
 use native.Mathlib.Nat.{add-zero, le-step, lt-suc-self, not-suc-le-zero, le-of-suc-le-suc}
 use native.Mathlib.Omega.{arith}
 use mathlib.Core.Path.{_≡_, refl, sym, ap, ap₂, _∙_, subst}
-use mathlib.Core.Bool.{Bool, true, false, cond, _&&_}
+use mathlib.Core.Bool.{Bool, true, false, not, cond, _&&_, and-comm}
 use mathlib.Core.List.{List, [], _∷_, _++_, map, flatMap, append-assoc}
 use lib.ListN.{length, getD, take, drop, length-append, length-drop, List·getD-append}
 use lib.Seq.{length-take-le, getD-at, getD-take, getD-drop}
@@ -164,6 +164,47 @@ module _ {A : Type 0} where
           → keep p (cond b (x ∷ keep q xs) (keep q xs)) ≡ cond (b && p x) (x ∷ keep (λ y. q y && p y) xs) (keep (λ y. q y && p y) xs)
       by-test true e = ap (λ (ys : List A). cond (p x) (x ∷ ys) ys) e
       by-test false e = e
+
+  pub keep-swap : (p q : A → Bool) (xs : List A) → keep p (keep q xs) ≡ keep q (keep p xs)
+  keep-swap p q xs = keep-keep p q xs ∙ (λ i. keep (λ x. and-comm (q x) (p x) i) xs) ∙ sym (keep-keep q p xs)
+
+  pub keep-true : (xs : List A) → keep (λ x. true) xs ≡ xs
+  unfolding keep
+  keep-true [] = refl
+  keep-true (x ∷ xs) = ap (λ (ys : List A). x ∷ ys) (keep-true xs)
+
+  -- how many are kept
+  pub length-keep : (p : A → Bool) (xs : List A) → length (keep p xs) ≡ sumOver (λ x. one (p x)) xs
+  unfolding keep sumOver one
+  length-keep p [] = refl
+  length-keep p (x ∷ xs) = by-test (p x) (length-keep p xs)
+    where
+      by-test : (b : Bool) → length (keep p xs) ≡ sumOver (λ x. one (p x)) xs
+          → length (cond b (x ∷ keep p xs) (keep p xs)) ≡ one b + sumOver (λ x. one (p x)) xs
+      by-test true e = omega arith
+      by-test false e = omega arith
+
+  -- some are kept, and the others are the rest
+  pub keep-split : (p : A → Bool) (xs : List A) → length (keep p xs) + length (keep (λ x. not (p x)) xs) ≡ length xs
+  unfolding keep
+  keep-split p [] = refl
+  keep-split p (x ∷ xs) = by-test (p x) (keep-split p xs)
+    where
+      by-test : (b : Bool) → length (keep p xs) + length (keep (λ x. not (p x)) xs) ≡ length xs
+          → length (cond b (x ∷ keep p xs) (keep p xs)) + length (cond (not b) (x ∷ keep (λ x. not (p x)) xs) (keep (λ x. not (p x)) xs)) ≡ suc (length xs)
+      by-test true e = omega arith
+      by-test false e = omega arith
+
+  -- if as many are kept as there were, all are
+  pub keep-whole : (p : A → Bool) (xs : List A) → length (keep p xs) ≡ length xs → keep p xs ≡ xs
+  unfolding keep
+  keep-whole p [] e = refl
+  keep-whole p (x ∷ xs) e = by-test (p x) (keep-whole p xs) e
+    where
+      by-test : (b : Bool) → (length (keep p xs) ≡ length xs → keep p xs ≡ xs) → length (cond b (x ∷ keep p xs) (keep p xs)) ≡ suc (length xs)
+          → cond b (x ∷ keep p xs) (keep p xs) ≡ x ∷ xs
+      by-test true whole d = ap (λ (ys : List A). x ∷ ys) (whole (omega arith))
+      by-test false whole d = absurd (omega (arith, keep-split p xs))
 
 pub all-upto : (n : ℕ) → All (λ i. i < n) (upto n)
 unfolding upto
