@@ -5,14 +5,14 @@ use native.Mathlib.Omega.{arith}
 use mathlib.Core.Path.{_≡_, refl, sym, ap, ap₂, _∙_}
 use mathlib.Core.Bool.{Bool, true, false, not, cond, _&&_, _||_}
 use mathlib.Core.List.{List, [], _∷_, _++_, append-nil}
-use lib.ListN.{getD}
+use lib.ListN.{length, getD}
 use lib.Dec.{eqb, ltb}
 use borrow.Author.Tests.{lt-ltb}
 use Rattle.model.specs.Lists.{upto, keep, member}
-use Rattle.model.specs.GreedyAppend.{unplaced, degreeIn, preferred, bestOf, nextVertex}
+use Rattle.model.specs.GreedyAppend.{unplaced, waiting, isolated, hasEdges, degreeIn, preferred, bestOf, nextVertex}
 use Rattle.laws.specs.Sums.Lists.{keep-append}
 use Rattle.laws.specs.Sums.Bits.{maskedOnes-le}
-use Rattle.laws.specs.Append.Order.{Placed}
+use Rattle.laws.specs.Append.Order.{Placed, next-waiting}
 use Rattle.choice.specs.declared.Choice.{Choice}
 use Rattle.choice.specs.Choices.{comesBefore, preferredOf, candidate, consideredOf, noChoice, bestBelow}
 use Rattle.choice.specs.Choices.{complement}
@@ -24,13 +24,8 @@ module _ (n : ℕ) (adj xs : List ℕ) where
   counts v = record { vertex = v; placed = degreeIn adj v xs; unplaced = degreeIn adj v (unplaced n xs) }
 
   choiceOf : List ℕ → Choice
-  choiceOf [] = noChoice
+  choiceOf [] = noChoice n
   choiceOf (v ∷ vs) = counts (bestOf n adj xs v vs)
-
-  choice-vertex : (vs : List ℕ) → choiceOf vs .vertex ≡ nextVertex n adj xs vs
-  unfolding choiceOf counts noChoice nextVertex
-  choice-vertex [] = refl
-  choice-vertex (v ∷ vs) = refl
 
   bestOf-last : (b : ℕ) (vs : List ℕ) (v : ℕ)
       → bestOf n adj xs b (vs ++ (v ∷ [])) ≡ cond (preferred n adj xs v (bestOf n adj xs b vs)) v (bestOf n adj xs b vs)
@@ -40,7 +35,7 @@ module _ (n : ℕ) (adj xs : List ℕ) where
 
   choice-last : (vs : List ℕ) (k : ℕ) → degreeIn adj k (unplaced n xs) ≤ 64 → preferredOf (choiceOf vs) (counts k) ≡ choiceOf (vs ++ (k ∷ []))
   unfolding preferredOf comesBefore choiceOf counts noChoice bestOf preferred
-  choice-last [] k h = ap (λ (b : Bool). cond b (counts k) noChoice) (first (degreeIn adj k xs))
+  choice-last [] k h = ap (λ (b : Bool). cond b (counts k) (noChoice n)) (first (degreeIn adj k xs))
     where
       first : (d : ℕ) → (ltb 0 d || eqb d 0 && ltb (degreeIn adj k (unplaced n xs)) 65) ≡ true
       first zero = lt-ltb (degreeIn adj k (unplaced n xs)) 65 (omega arith)
@@ -59,25 +54,67 @@ module _ {n : ℕ} {adj : List ℕ} (w : Words n adj) {xs : List ℕ} (p : Place
   candidate-counts v l =
       ap₂ (λ (a b : ℕ). record { vertex = v; placed = a; unplaced = b }) (inside-count w p h v) (outside-count w p h v l)
 
-  best-choice : (k : ℕ) → k ≤ n → bestBelow adj m k ≡ choiceOf n adj xs (keep (λ v. not (member v xs)) (upto k))
-  unfolding bestBelow choiceOf upto keep consideredOf
+  best-choice : (k : ℕ) → k ≤ n → bestBelow n adj m k ≡ choiceOf n adj xs (keep (hasEdges adj) (keep (λ v. not (member v xs)) (upto k)))
+  unfolding bestBelow choiceOf upto keep consideredOf hasEdges isolated
   best-choice zero l = refl
   best-choice (suc k) l =
       ap (λ (c : Choice). consideredOf c k (getD adj k 0) m) (best-choice k (le-of-lt l))
-      ∙ ap₂ (λ (t : Bool) (c : Choice). cond t so-far (preferredOf so-far c)) (placed-test w p h k l) (candidate-counts k l)
-      ∙ by-test (member k xs)
-      ∙ ap (choiceOf n adj xs) (sym (keep-append (λ v. not (member v xs)) (upto k) (k ∷ [])))
+      ∙ ap₂ (λ (t : Bool) (c : Choice). cond (isolated adj k) so-far (cond t so-far (preferredOf so-far c)))
+      (placed-test (w .small) p h k l) (candidate-counts k l)
+      ∙ by-tests (isolated adj k) (member k xs) refl
+      ∙ ap (choiceOf n adj xs) (sym (keep-append (hasEdges adj) free (cond (not (member k xs)) (k ∷ []) [])))
+      ∙ ap (λ (vs : List ℕ). choiceOf n adj xs (keep (hasEdges adj) vs)) (sym (keep-append (λ v. not (member v xs)) (upto k) (k ∷ [])))
     where
       free : List ℕ
       free = keep (λ v. not (member v xs)) (upto k)
 
       so-far : Choice
-      so-far = choiceOf n adj xs free
+      so-far = choiceOf n adj xs (keep (hasEdges adj) free)
 
-      by-test : (b : Bool) → cond b so-far (preferredOf so-far (counts n adj xs k)) ≡ choiceOf n adj xs (free ++ cond (not b) (k ∷ []) [])
-      by-test true = ap (choiceOf n adj xs) (sym (append-nil free))
-      by-test false = choice-last n adj xs free k (le-trans (le-of-eq (sym (outside-count w p h k l))) (maskedOnes-le (getD adj k 0) (complement m)))
+      -- nothing more to choose from
+      same : so-far ≡ choiceOf n adj xs (keep (hasEdges adj) free ++ [])
+      same = ap (choiceOf n adj xs) (sym (append-nil (keep (hasEdges adj) free)))
 
-  pub best-next : bestBelow adj m n .vertex ≡ nextVertex n adj xs (unplaced n xs)
-  unfolding unplaced
-  best-next = ap (λ (c : Choice). c .vertex) (best-choice n (le-refl n)) ∙ choice-vertex n adj xs (unplaced n xs)
+      by-tests : (i t : Bool) → isolated adj k ≡ i
+          → cond i so-far (cond t so-far (preferredOf so-far (counts n adj xs k)))
+          ≡ choiceOf n adj xs (keep (hasEdges adj) free ++ keep (hasEdges adj) (cond (not t) (k ∷ []) []))
+      by-tests true true e = same
+      by-tests true false e = rw e same
+      by-tests false true e = same
+      by-tests false false e =
+          rw e (choice-last n adj xs (keep (hasEdges adj) free) k (le-trans (le-of-eq (sym (outside-count w p h k l))) (maskedOnes-le (getD adj k 0) (complement m))))
+
+  abbrev candidates : List ℕ
+  candidates = waiting n (hasEdges adj) xs
+
+  best-waiting : bestBelow n adj m n ≡ choiceOf n adj xs candidates
+  unfolding waiting unplaced
+  best-waiting = best-choice n (le-refl n)
+
+  module _ {v : ℕ} (e : v ≡ bestBelow n adj m n .vertex) where
+    chosen : v ≡ choiceOf n adj xs candidates .vertex
+    chosen = e ∙ ap (λ (c : Choice). c .vertex) best-waiting
+
+    -- a vertex was found: it is the next one
+    pub next-found : v < n → (0 < length candidates) × (v ≡ nextVertex n adj xs candidates)
+    unfolding choiceOf counts noChoice nextVertex
+    next-found l = by-list candidates chosen
+      where
+        by-list : (vs : List ℕ) → v ≡ choiceOf n adj xs vs .vertex → (0 < length vs) × (v ≡ nextVertex n adj xs vs)
+        by-list [] d = absurd (omega arith)
+        by-list (u ∷ us) d = (omega arith, d)
+
+    -- none was found: there is none
+    pub next-none : n ≤ v → length candidates ≡ 0
+    unfolding choiceOf counts noChoice nextVertex
+    next-none l = by-list candidates refl
+      where
+        by-list : (vs : List ℕ) → candidates ≡ vs → length vs ≡ 0
+        by-list [] d = refl
+        by-list (u ∷ us) d =
+            absurd
+            (omega (
+              arith,
+              chosen ∙ ap (λ (vs : List ℕ). choiceOf n adj xs vs .vertex) d ∙ ap (nextVertex n adj xs) (sym d),
+              next-waiting n (hasEdges adj) xs adj (omega (arith, ap length d)) .below,
+            ))

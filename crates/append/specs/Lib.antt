@@ -4,4 +4,5 @@ pub mod Masks
 pub mod Ends
 pub mod Choices
 pub mod Steps
+pub mod Rest
 pub mod Calls

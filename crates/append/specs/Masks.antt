@@ -21,6 +21,8 @@ use Rattle.laws.specs.Sums.Bits.{bit-beyond, bit-complement, maskedOnes, set-sa
 use Rattle.laws.specs.Crossings.Masks.{Holds, masked-sum, weight-bit}
 use Rattle.laws.specs.Append.Order.{Placed, sumOver-unplaced}
 use Rattle.choice.specs.Choices.{complement}
+use Rattle.append.specs.declared.line.Line.{Line}
+use Rattle.append.specs.Lines.{entries, Centred}
 
 -- ---- a set of vertices as a word
 
@@ -52,6 +54,35 @@ module _ {xs : List ℕ} {m next : ℕ} (v : ℕ) (h : Held m xs) (free : occurr
         holds = λ u b. met u b ∙ omega (arith, occurrences-append u xs (v ∷ []), occurrences-cons u v [], occurrences-nil u);
       }
 
+-- some of n vertices are placed, in a line and as bits
+pub record Partly (n : ℕ) (l : Line) (placed : ℕ) : Type 0 where
+  pub centred : Centred l
+  pub order : Placed n (entries l)
+  pub held : Held placed (entries l)
+
+module _ {n : ℕ} (small : n ≤ 64) {xs : List ℕ} (p : Placed n xs) {m : ℕ} (h : Held m xs) where
+  -- a vertex is placed, or not
+  pub placed-test : (u : ℕ) → u < n → eqb (bit m u) 1 ≡ member u xs
+  placed-test u l =
+      ap (λ (x : ℕ). eqb x 1) (h .holds u (omega (arith, small))) ∙ by-number (occurrences u xs) (p .once u) ∙ sym (member-occurs u xs)
+    where
+      by-number : (k : ℕ) → k ≤ 1 → eqb k 1 ≡ ltb 0 k
+      by-number zero b = refl
+      by-number (suc zero) b = refl
+      by-number (suc (suc k)) b = absurd (omega arith)
+
+  placed-bit : (u : ℕ) → u < n → 1 - bit m u ≡ one (not (member u xs))
+  unfolding one
+  placed-bit u l =
+      ap (λ (x : ℕ). 1 - x) (h .holds u (omega (arith, small)))
+      ∙ by-number (occurrences u xs) (p .once u)
+      ∙ ap (λ (b : Bool). one (not b)) (sym (member-occurs u xs))
+    where
+      by-number : (k : ℕ) → k ≤ 1 → 1 - k ≡ one (not (ltb 0 k))
+      by-number zero b = refl
+      by-number (suc zero) b = refl
+      by-number (suc (suc k)) b = absurd (omega arith)
+
 -- adjacency words of n vertices
 pub record Words (n : ℕ) (adj : List ℕ) : Type 0 where
   pub small : n ≤ 64
@@ -64,28 +95,6 @@ module _ {n : ℕ} {adj : List ℕ} (w : Words n adj) {xs : List ℕ} (p : Place
   inside-count v =
       masked-sum (getD adj v 0) m (h .holds) (all-mono (p .below) (λ x l. lt-of-lt-of-le l (w .small)))
       ∙ sumOver-ext (bit (getD adj v 0)) (λ u. one (linked adj v u)) (p .below) (λ u l. sym (weight-bit adj v u))
-
-  -- a vertex is placed, or not
-  pub placed-test : (u : ℕ) → u < n → eqb (bit m u) 1 ≡ member u xs
-  placed-test u l =
-      ap (λ (x : ℕ). eqb x 1) (h .holds u (omega (arith, w .small))) ∙ by-number (occurrences u xs) (p .once u) ∙ sym (member-occurs u xs)
-    where
-      by-number : (k : ℕ) → k ≤ 1 → eqb k 1 ≡ ltb 0 k
-      by-number zero b = refl
-      by-number (suc zero) b = refl
-      by-number (suc (suc k)) b = absurd (omega arith)
-
-  placed-bit : (u : ℕ) → u < n → 1 - bit m u ≡ one (not (member u xs))
-  unfolding one
-  placed-bit u l =
-      ap (λ (x : ℕ). 1 - x) (h .holds u (omega (arith, w .small)))
-      ∙ by-number (occurrences u xs) (p .once u)
-      ∙ ap (λ (b : Bool). one (not b)) (sym (member-occurs u xs))
-    where
-      by-number : (k : ℕ) → k ≤ 1 → 1 - k ≡ one (not (ltb 0 k))
-      by-number zero b = refl
-      by-number (suc zero) b = refl
-      by-number (suc (suc k)) b = absurd (omega arith)
 
   -- the unplaced ones
   pub outside-count : (v : ℕ) → v < n → maskedOnes (getD adj v 0) (complement m) ≡ degreeIn adj v (unplaced n xs)
@@ -102,5 +111,5 @@ module _ {n : ℕ} {adj : List ℕ} (w : Words n adj) {xs : List ℕ} (p : Place
     where
       both : (u : ℕ) → u < n → bit (getD adj v 0) u * bit (complement m) u ≡ one (not (member u xs)) * one (linked adj v u)
       both u b =
-          ap₂ (λ (x y : ℕ). x * y) (sym (weight-bit adj v u)) (bit-complement 64 m u (h .fits) (omega (arith, w .small)) ∙ placed-bit u b)
+          ap₂ (λ (x y : ℕ). x * y) (sym (weight-bit adj v u)) (bit-complement 64 m u (h .fits) (omega (arith, w .small)) ∙ placed-bit (w .small) p h u b)
           ∙ mul-comm (one (linked adj v u)) (one (not (member u xs)))

@@ -5,7 +5,8 @@ ghost use lib.Dec.{T};
 ghost use Rattle.model.specs.Layouts.{valid};
 ghost use Rattle.model.specs.GreedyAppend.{placeAll, layAnswer, layOf};
 use super::line::written;
-use super::steps::place_all;
+use super::rest::put_rest;
+use super::steps::place_linked;
 use carrying::recounted;
 use model::Appended;
 use model::Layout;
@@ -33,11 +34,12 @@ fn append_from(l: Layout, s: usize) -> Appended
     let n = l.n;
     let before = l.order;
     let adjacency = l.adjacency;
-    let done = place_all(n, &adjacency, s);
-    let order = written(done.line, before);
+    let linked = place_linked(n, &adjacency, s);
+    let line = put_rest(n, linked.line, linked.placed);
+    let order = written(line, before);
     Appended {
         refusal: 0,
         layout: recounted(l, n, order, adjacency),
-        tally: done.tally,
+        tally: linked.tally,
     }
 }

@@ -2,6 +2,7 @@
 mod appending;
 mod ends;
 mod line;
+mod rest;
 mod steps;
 
 pub use appending::greedy_append;

@@ -2,7 +2,7 @@
 ghost use mathlib.Core.Path.{_≡_};
 ghost use Prim.Native.Nat.{_<_};
 ghost use Rattle.append.specs.Masks.{Words};
-ghost use Rattle.append.specs.Steps.{Underway, Stepped, Fitting, putOf, Finished};
+ghost use Rattle.append.specs.Steps.{Fitting, Few, putOf, placedOf, LinkedPlaced};
 use super::ends::Ends;
 use super::ends::end_crossings;
 use super::line::Line;
@@ -18,31 +18,30 @@ pub struct Partial {
     pub tally: u32,
 }
 
-// All n vertices, from s on.
-pub(crate) fn place_all(n: usize, adjacency: &[u64; 64], s: usize) -> Partial
+// s, and after it every vertex with edges.
+pub(crate) fn place_linked(n: usize, adjacency: &[u64; 64], s: usize) -> Partial
     requires { ⌜ Words n (now adjacency) × (s < n) ⌝ }
-    ensures { λ r. ⌜ Finished n (now (adjacency .entry)) s r ⌝ }
+    ensures { λ r. ⌜ LinkedPlaced n (now (adjacency .entry)) s r ⌝ }
 {
     let mut so_far = Partial {
         line: alone(s),
         placed: words::set(0, s),
         tally: 0,
     };
-    let mut k = 1;
-    while k < n {
-        so_far = place_next(n, adjacency, so_far);
-        k += 1;
+    let mut v = next_vertex(n, adjacency, so_far.placed);
+    while v < n {
+        so_far = place(adjacency, so_far, v);
+        v = next_vertex(n, adjacency, so_far.placed);
     }
     so_far
 }
 
 // One step.
-fn place_next(n: usize, adjacency: &[u64; 64], s: Partial) -> Partial
-    requires { ⌜ Words n (now adjacency) × Underway n s × (s .line .size < n) ⌝ }
-    ensures { λ r. ⌜ Stepped n (now (adjacency .entry)) s r ⌝ }
+fn place(adjacency: &[u64; 64], s: Partial, v: usize) -> Partial
+    requires { ⌜ Fitting s v ⌝ }
+    ensures { λ r. ⌜ r ≡ placedOf (now (adjacency .entry)) s v ⌝ }
 {
     let before = s.placed;
-    let v = next_vertex(n, adjacency, before);
     let placed = words::set(before, v);
     let ends = end_crossings(s.line, adjacency, adjacency[v], !placed);
     put(s, v, placed, ends)
@@ -50,7 +49,7 @@ fn place_next(n: usize, adjacency: &[u64; 64], s: Partial) -> Partial
 
 // v at the end where it makes fewer crossings; on a tie, at the back. placed has it already.
 fn put(s: Partial, v: usize, placed: u64, ends: Ends) -> Partial
-    requires { ⌜ Fitting s v ends ⌝ }
+    requires { ⌜ Fitting s v × Few ends ⌝ }
     ensures { λ r. ⌜ r ≡ putOf s v placed ends ⌝ }
 {
     if ends.front < ends.back {

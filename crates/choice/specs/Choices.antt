@@ -27,25 +27,25 @@ unfoldable pub candidate : ℕ → ℕ → ℕ → Choice
 candidate v word placed = record { vertex = v; placed = maskedOnes word placed; unplaced = maskedOnes word (complement placed) }
 
 unfoldable pub consideredOf : Choice → ℕ → ℕ → ℕ → Choice
-consideredOf best v word placed = cond (eqb (bit placed v) 1) best (preferredOf best (candidate v word placed))
+consideredOf best v word placed = cond (eqb word 0) best (cond (eqb (bit placed v) 1) best (preferredOf best (candidate v word placed)))
 
--- every candidate is preferred to none
-unfoldable pub noChoice : Choice
-noChoice = record { vertex = 0; placed = 0; unplaced = 65 }
+-- every candidate is preferred to none, which is shown as the number n
+unfoldable pub noChoice : ℕ → Choice
+noChoice n = record { vertex = n; placed = 0; unplaced = 65 }
 
 -- the best of the vertices below k
-unfoldable pub bestBelow : List ℕ → ℕ → ℕ → Choice
-bestBelow adj placed zero = noChoice
-bestBelow adj placed (suc k) = consideredOf (bestBelow adj placed k) k (getD adj k 0) placed
+unfoldable pub bestBelow : ℕ → List ℕ → ℕ → ℕ → Choice
+bestBelow n adj placed zero = noChoice n
+bestBelow n adj placed (suc k) = consideredOf (bestBelow n adj placed k) k (getD adj k 0) placed
 
 -- ---- the loop over the vertices
 
 pub record BestUpTo (n : ℕ) (adj : List ℕ) (placed : ℕ) (best : Choice) (k : ℕ) : Type 0 where
   pub inside : k ≤ n
-  pub found : best ≡ bestBelow adj placed k
+  pub found : best ≡ bestBelow n adj placed k
 
 module _ {n : ℕ} {adj : List ℕ} {placed : ℕ} where
-  pub best-start : BestUpTo n adj placed (record { vertex = 0; placed = 0; unplaced = 65 }) 0
+  pub best-start : BestUpTo n adj placed (record { vertex = n; placed = 0; unplaced = 65 }) 0
   unfolding bestBelow noChoice
   best-start = record { inside = omega arith; found = refl }
 
@@ -55,5 +55,5 @@ module _ {n : ℕ} {adj : List ℕ} {placed : ℕ} where
   best-more {best} {next} {k} b h e =
       rw (add-one k) (record { inside = h; found = e ∙ ap (λ (c : Choice). consideredOf c k (getD adj k 0) placed) (b .found) })
 
-  pub best-end : {best : Choice} {k : ℕ} → BestUpTo n adj placed best k → n ≤ k → best ≡ bestBelow adj placed n
-  best-end {best} {k} b h = b .found ∙ ap (bestBelow adj placed) (le-antisymm (b .inside) h)
+  pub best-end : {best : Choice} {k : ℕ} → BestUpTo n adj placed best k → n ≤ k → best ≡ bestBelow n adj placed n
+  best-end {best} {k} b h = b .found ∙ ap (bestBelow n adj placed) (le-antisymm (b .inside) h)

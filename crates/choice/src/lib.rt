@@ -11,19 +11,19 @@ pub struct Choice {
     pub unplaced: u32,
 }
 
-// Of the unplaced vertices that with most placed neighbours; among those, fewest unplaced
+// Of the unplaced vertices with edges that with most placed neighbours; among those, fewest unplaced
 // neighbours; among those, the lowest number. The neighbours are counted in the adjacency word,
-// under the set of the placed vertices and under its complement. 0 where there is none, and for an n
+// under the set of the placed vertices and under its complement. n where there is none, and for an n
 // above 64.
 pub fn next_vertex(n: usize, adjacency: &[u64; 64], placed: u64) -> usize
-    ensures { λ r. ⌜ r ≡ cond (leb n 64) (bestBelow (now (adjacency .entry)) placed n .vertex) 0 ⌝ }
+    ensures { λ r. ⌜ r ≡ cond (leb n 64) (bestBelow n (now (adjacency .entry)) placed n .vertex) n ⌝ }
 {
     if 64 < n {
-        return 0;
+        return n;
     }
     // no vertex has 65 neighbours, so the first candidate is preferred to none
     let mut best = Choice {
-        vertex: 0,
+        vertex: n,
         placed: 0,
         unplaced: 65,
     };
@@ -35,10 +35,13 @@ pub fn next_vertex(n: usize, adjacency: &[u64; 64], placed: u64) -> usize
     best.vertex
 }
 
-// The better of the best so far and v, if v is not placed.
+// The better of the best so far and v, if v has edges and is not placed.
 fn considered(best: Choice, v: usize, word: u64, placed: u64) -> Choice
     ensures { λ r. ⌜ r ≡ consideredOf best v word placed ⌝ }
 {
+    if word == 0 {
+        return best;
+    }
     if words::is_set(placed, v) {
         return best;
     }

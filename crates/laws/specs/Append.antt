@@ -2,4 +2,5 @@
 -- Others cite Placed and next-unplaced; met-back, met-front, met-finished; lay-permutation, lay-tally and lay-keeps.
 pub mod Order
 pub mod Crossings
+pub mod Isolated
 pub mod Calls

@@ -46,6 +46,12 @@ module _ (n : ℕ) (adj : List ℕ) where
       by-test true = front
       by-test false = back
 
+  -- the others are still to come
+  pub step-unplaced : (s : Placing) (v : ℕ) → unplaced n (placeVertex n adj s v .placed) ≡ unplacedBut n (s .placed) v
+  unfolding placeFront placeBack
+  step-unplaced s v =
+      either-end (λ t. unplaced n (t .placed) ≡ unplacedBut n (s .placed) v) s v (unplaced-front n (s .placed) v) (unplaced-back n (s .placed) v)
+
   -- m vertices are placed, and the tally is what they have met: the crossings of the edges between them, and of these with the edges to the others
   pub record Laid (m : ℕ) (s : Placing) : Type 0 where
     pub order : Placed n (s .placed)
@@ -112,13 +118,12 @@ module _ {n : ℕ} (adj : List ℕ) (symmetry : Symmetric n (weight adj)) where
   -- k steps place k more of those that pass
   pub laid-more : (p : ℕ → Bool) (k : ℕ) {m : ℕ} {s : Placing} → k ≤ length (waiting n p (s .placed)) → Laid n adj m s
       → Laid n adj (m + k) (placeMore n adj p k s) × (length (waiting n p (placeMore n adj p k s .placed)) + k ≡ length (waiting n p (s .placed)))
-  unfolding placeMore placeFront placeBack
+  unfolding placeMore
   laid-more p zero {m} {s} h laid = (subst (λ (j : ℕ). Laid n adj j s) (omega arith) laid, omega arith)
   laid-more p (suc k) {m} {s} h laid =
       let v = nextVertex n adj (s .placed) (waiting n p (s .placed)) in
       let w = next-waiting n p (s .placed) adj (omega arith) in
-      let less = either-end n adj (λ t. length (waiting n p (t .placed)) + 1 ≡ length (waiting n p (s .placed))) s v
-      (waiting-less w (v ∷ s .placed) (unplaced-front n (s .placed) v)) (waiting-less w (s .placed ++ (v ∷ [])) (unplaced-back n (s .placed) v)) in
+      let less = waiting-less w (placeVertex n adj s v .placed) (step-unplaced n adj s v) in
       let more = laid-more p k (omega (arith, less)) (either-end n adj (Laid n adj (suc m)) s v (laid-front laid w) (laid-back laid w)) in
       (subst (λ (j : ℕ). Laid n adj j (placeMore n adj p k (placeVertex n adj s v))) (omega arith) (more .0), omega (arith, less, more .1))
 

@@ -1,15 +1,21 @@
 use borrow.Author.Needs.{needs}
+use Rattle.laws.specs.Layouts.Validity.{sound}
 use Rattle.append.specs.Calls.{words-valid, laid-right}
 use Rattle.append.proofs.appending.append_from.Statement.{statement}
 use Rattle.append.proofs.appending.append_from.Tie as tie
 
-place-all-requires : tie.Need-place-all-requires
-place-all-requires c κs =
+place-linked-requires : tie.Need-place-linked-requires
+place-linked-requires c κs =
     let start = c .before .before .before in
     (words-valid (start .args .l) (start .pre .0), start .pre .1)
 
+put-rest-requires : tie.Need-put-rest-requires
+put-rest-requires c κs =
+    let start = c .before .before .before .before in
+    (sound (start .args .l) (start .pre .0) .small, c .place-linked .ensures .part)
+
 written-requires : tie.Need-written-requires
-written-requires c κs = c .place-all .ensures .centred
+written-requires c κs = c .put-rest .ensures .centred
 
 recounted-requires : tie.Need-recounted-requires
 recounted-requires c κs = search needs
@@ -17,10 +23,12 @@ recounted-requires c κs = search needs
 returns : tie.Need-returns
 returns c =
     let ordered = c .before in
-    let placed = ordered .before in
-    let start = placed .before .before .before .before in
-    laid-right (start .args .l) (start .args .s) (start .pre .0) (placed .place-all .ensures) (ordered .written .ensures) (c .recounted .ensures)
+    let filled = ordered .before in
+    let linked = filled .before in
+    let start = linked .before .before .before .before in
+    laid-right (start .args .l) (start .args .s) (start .pre .0) (start .pre .1) (linked .place-linked .ensures) (filled .put-rest .ensures)
+    (ordered .written .ensures) (c .recounted .ensures)
 
 pub append-from-spec : {M : Type 1} → statement M
 append-from-spec =
-    tie.close (tie.spec place-all-requires written-requires recounted-requires returns)
+    tie.close (tie.spec place-linked-requires put-rest-requires written-requires recounted-requires returns)
