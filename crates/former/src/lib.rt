@@ -1,0 +1,1 @@
+// No code: specs/ has the claim that lay gives the crossings that the former rule gave.
