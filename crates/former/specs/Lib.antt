@@ -1,8 +1,9 @@
--- Lay and the former rule.
+-- Lay and the former rule: open AsFormerly first.
 -- Kept: lists of which some entries are kept. Choices: if the best vertex of a list passes a test, it is the best of those that pass.
 -- Unseen: isolated vertices among the placed ones change neither the next vertex with edges nor the crossings at an end.
--- Runs: so without their isolated vertices both rules place the same list.
+-- Runs: so without their isolated vertices both rules place the same list. AsFormerly: the call, by either rule.
 pub mod Kept
 pub mod Choices
 pub mod Unseen
 pub mod Runs
+pub mod AsFormerly
