@@ -35,6 +35,7 @@ module _ (n : ℕ) (adj : List ℕ) where
     left : unplaced n (t .placed) ≡ unplacedBut n (s .placed) v
 
   module _ (v : ℕ) where
+    -- does v meet fewer crossings at the front? And v put there, or at the back
     abbrev frontFewer : List ℕ → Bool
     frontFewer xs = ltb (frontCrossings n adj xs v) (backCrossings n adj xs v)
 
@@ -94,7 +95,7 @@ module _ (n : ℕ) (adj : List ℕ) where
   run : (ℕ → Bool) → Placing → Placing
   run p s = placeMore n adj p (length (waiting n p (s .placed))) s
 
-  -- those with edges placed alone
+  -- those with edges placed without the isolated ones
   abbrev linkedRun : Placing → Placing
   linkedRun s = run (hasEdges adj) (linkedPart adj s)
 
@@ -117,7 +118,7 @@ module _ (n : ℕ) (adj : List ℕ) where
       unfolding run placeMore
       run-next = ap (λ (k : ℕ). placeMore n adj p k s) fewer
 
-  -- a run that places those with edges, and isolated ones or not, places those with edges as they are placed alone
+  -- a run that places those with edges, with some isolated ones among them or none, places those with edges as if there were no others
   module _ (symmetry : Symmetric n (weight adj)) (p : ℕ → Bool) (wider : (v : ℕ) → hasEdges adj v ≡ true → p v ≡ true) where
     module _ (s : Placing) where
       linked-waiting : keep (hasEdges adj) (waiting n p (s .placed)) ≡ waiting n (hasEdges adj) (withEdges adj (s .placed))
@@ -155,7 +156,7 @@ module _ (n : ℕ) (adj : List ℕ) where
         ∙ linked-run k (placeVertex n adj s (next p s)) (after p s below some .below) (omega (arith, fewer p s below some))
         ∙ linked-step s below (waits p s below some)
 
--- so the two rules differ in the places of isolated vertices only
+-- so the two rules differ in the places of isolated vertices alone
 pub same-linked : (n : ℕ) (adj : List ℕ) → Symmetric n (weight adj) → (s : ℕ) → s < n
     → linkedPart adj (placeAll n adj s) ≡ linkedPart adj (formerPlaceAll n adj s)
 unfolding placeAll placeLinked formerPlaceAll alone run hasEdges waiting
