@@ -3,7 +3,7 @@ use Prim.Native.Nat.{ℕ, _<_}
 use native.Mathlib.Nat.{lt-of-lt-of-le}
 use native.Mathlib.Omega.{arith}
 use mathlib.Core.Path.{_≡_, sym, ap, _∙_, subst}
-use mathlib.Core.Bool.{true}
+use mathlib.Core.Bool.{not}
 use mathlib.Core.List.{List, _++_}
 use lib.ListN.{drop}
 use lib.Seq.{take-at}
@@ -11,7 +11,7 @@ use lib.Dec.{T}
 use Rattle.model.specs.declared.Layout.{Layout}
 use Rattle.model.specs.Layouts.{valid, reordered}
 use Rattle.model.specs.GreedyAppend.{Placing, unplaced, waiting, isolated, hasEdges, placeAtBack, placeAll, layAnswer}
-use Rattle.laws.specs.Sums.Lists.{All, all-mono, keep-split, keep-whole}
+use Rattle.laws.specs.Sums.Lists.{all-mono, keep-split, keep-whole}
 use Rattle.laws.specs.Orders.Permutations.{Permutation}
 use Rattle.laws.specs.Layouts.Validity.{sound}
 use Rattle.laws.specs.Layouts.Recount.{Drawn, recounted, recounted-changed}
@@ -40,9 +40,9 @@ module _ {n : ℕ} {adj : List ℕ} {s : ℕ} {r : Partial} (linked : LinkedPlac
       keep-whole (isolated adj) us (omega (arith, linked .none-left, keep-split (isolated adj) us))
 
   all-placed : record { placed = entries line; tally = r .tally } ≡ placeAll n adj s
-  unfolding placeAll placingOf
+  unfolding placeAll placingOf hasEdges
   all-placed =
-      let isolated-ones = all-mono (all-waiting n (isolated adj) (entries (r .line))) (λ v w. w .passes) in
+      let isolated-ones = all-mono (all-waiting n (isolated adj) (entries (r .line))) (λ v w. ap not (w .passes)) in
       ap (λ (xs : List ℕ). record { placed = xs; tally = r .tally })
       (filled .entries-are ∙ ap (λ (vs : List ℕ). entries (r .line) ++ vs) (sym rest-isolated))
       ∙ sym (at-back n adj (placingOf r) isolated-ones)

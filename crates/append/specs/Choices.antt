@@ -82,7 +82,8 @@ module _ {n : ℕ} {adj : List ℕ} (w : Words n adj) {xs : List ℕ} (p : Place
       by-tests true false e = rw e same
       by-tests false true e = same
       by-tests false false e =
-          rw e (choice-last n adj xs (keep (hasEdges adj) free) k (le-trans (le-of-eq (sym (outside-count w p h k l))) (maskedOnes-le (getD adj k 0) (complement m))))
+          let few = le-trans (le-of-eq (sym (outside-count w p h k l))) (maskedOnes-le (getD adj k 0) (complement m)) in
+          rw e (choice-last n adj xs (keep (hasEdges adj) free) k few)
 
   abbrev candidates : List ℕ
   candidates = waiting n (hasEdges adj) xs

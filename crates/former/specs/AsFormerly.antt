@@ -1,16 +1,14 @@
 -- Lay and the former rule (document 02, Note 2): "its crossings equal those of the former rule for every ring and start".
-use Prim.Native.Nat.{ℕ, zero, suc, _<_}
+use Prim.Native.Nat.{ℕ, _<_}
 use mathlib.Core.Path.{_≡_, refl, sym, ap, _∙_}
-use mathlib.Core.List.{List}
 use lib.Dec.{T}
 use Rattle.model.specs.declared.Layout.{Layout}
 use Rattle.model.specs.declared.Appended.{Appended}
 use Rattle.model.specs.Lists.{keep}
 use Rattle.model.specs.Layouts.{vertexOrder, crossingsOf, valid, carried, changed, reordered}
-use Rattle.model.specs.Checks.{Check, refusal, byRefusal, checked}
 use Rattle.model.specs.GreedyAppend.{hasEdges, Placing, formerPlaceAll, layChecks, layAnswer, layRefused, layOf, formerLayOf}
 use Rattle.laws.specs.Layouts.Validity.{sound}
-use Rattle.laws.specs.Layouts.Refusals.{vertex-passed}
+use Rattle.laws.specs.Layouts.Refusals.{vertex-passed, checked-same}
 use Rattle.laws.specs.Layouts.Reordering.{reordered-order, reordered-crossings}
 use Rattle.laws.specs.Append.Calls.{Laid, laid-permutation, laid-tally, former-laid-all, laidOut, lay-permutation, lay-crossings}
 use Rattle.former.specs.Unseen.{withEdges}
@@ -26,16 +24,6 @@ pub record AsFormerly (l : Layout) (s : ℕ) : Type 0 where
   pub linked-sequence : keep (hasEdges (l .adjacency)) (vertexOrder (layOf l s .layout))
       ≡ keep (hasEdges (l .adjacency)) (vertexOrder (formerLayOf l s .layout))
 
--- two calls with the same checks and the same refusals give the same if they do where they are accepted
-checked-same : {A B : Type 0} (cs : List Check) (a b : A) (refused : ℕ → A) (f : A → B) → (refusal cs ≡ 0 → f a ≡ f b)
-    → f (checked cs a refused) ≡ f (checked cs b refused)
-unfolding checked byRefusal
-checked-same cs a b refused f accepted = by-number (refusal cs) refl
-  where
-    by-number : (r : ℕ) → refusal cs ≡ r → f (byRefusal r a refused) ≡ f (byRefusal r b refused)
-    by-number zero e = accepted e
-    by-number (suc r) e = refl
-
 module _ (l : Layout) (s : ℕ) where
   -- all vertices placed by the former rule
   abbrev formerlyLaid : Placing
@@ -46,7 +34,7 @@ module _ (l : Layout) (s : ℕ) where
       → f (layOf l s) ≡ f (formerLayOf l s)
   unfolding layOf formerLayOf layChecks
   either-way f accepted =
-      checked-same (layChecks l s) (layAnswer l (laidOut l s)) (layAnswer l formerlyLaid) (layRefused l) f
+      checked-same (layChecks l s) (layAnswer l (laidOut l s)) (layRefused l) f (layAnswer l formerlyLaid)
       (λ e. (let p = vertex-passed l s e in accepted (p .0) (p .1)))
 
   module _ (t : T (valid l)) (h : s < l .n) where

@@ -52,11 +52,6 @@ module _ {A : Type 0} where
       ∙ sumPairs-ext (λ x y. one (p x) * (one (p y) * f x y)) f all
       (λ x y q r. ap (λ (c : ℕ). one (p x) * c) (factor (p y) (f x y) (second x y q r)) ∙ factor (p x) (f x y) (first x y q r)))
 
-  pub sumPairs-scale : (c : ℕ) (f : A → A → ℕ) (xs : List A) → sumPairs (λ x y. c * f x y) xs ≡ c * sumPairs f xs
-  unfolding sumPairs
-  sumPairs-scale c f [] = omega arith
-  sumPairs-scale c f (x ∷ xs) = rw (sumOver-scale c (f x) xs, sumPairs-scale c f xs) (omega arith)
-
 -- what passes is an entry of the whole list if it is one of those kept
 pub member-kept : (p : ℕ → Bool) (v : ℕ) → p v ≡ true → (xs : List ℕ) → member v xs ≡ member v (keep p xs)
 unfolding occurrences

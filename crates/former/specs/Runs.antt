@@ -10,14 +10,16 @@ use lib.Dec.{ltb}
 use Rattle.model.specs.Lists.{keep}
 use Rattle.model.specs.GreedyAppend.{unplaced, waiting, isolated, hasEdges, nextVertex, frontCrossings, backCrossings}
 use Rattle.model.specs.GreedyAppend.{Placing, alone, placeFront, placeBack, placeVertex, placeMore, placeAtBack, placeLinked, placeAll, formerPlaceAll}
-use Rattle.laws.specs.Sums.Lists.{All, none, also, all-append, all-keep, all-mono, keep-append, keep-true, keep-split}
+use Rattle.laws.specs.Sums.Lists.{All, none, also, all-append, all-mono, keep-append, keep-true, keep-split}
 use Rattle.laws.specs.Sums.Pairs.{Symmetric}
 use Rattle.laws.specs.Crossings.Edges.{weight}
 use Rattle.laws.specs.Append.Order.{placed-start, placed-count, Waiting, all-waiting, next-waiting, waiting-less}
-use Rattle.laws.specs.Append.Order.{unplacedBut, unplaced-front, unplaced-back}
+use Rattle.laws.specs.Append.Order.{unplaced-front}
+use Rattle.laws.specs.Append.Isolated.{front-none, back-none}
+use Rattle.laws.specs.Append.Calls.{either-end, step-unplaced}
 use Rattle.former.specs.Kept.{keep-narrower}
 use Rattle.former.specs.Choices.{next-kept}
-use Rattle.former.specs.Unseen.{front-none, back-none, withEdges, waiting-seen, next-seen, front-seen, back-seen}
+use Rattle.former.specs.Unseen.{withEdges, waiting-seen, next-seen, front-seen, back-seen}
 
 abbrev placing : List ℕ → ℕ → Placing
 placing xs t = record { placed = xs; tally = t }
@@ -29,11 +31,6 @@ linkedPart adj s = placing (withEdges adj (s .placed)) (s .tally)
 module _ (n : ℕ) (adj : List ℕ) where
   -- ---- a step
 
-  -- v is placed, and those other than v are left
-  record Stepped (s : Placing) (v : ℕ) (t : Placing) : Type 0 where
-    below : All (λ x. x < n) (t .placed)
-    left : unplaced n (t .placed) ≡ unplacedBut n (s .placed) v
-
   module _ (v : ℕ) where
     -- does v meet fewer crossings at the front? And v put there, or at the back
     abbrev frontFewer : List ℕ → Bool
@@ -43,13 +40,9 @@ module _ (n : ℕ) (adj : List ℕ) where
     placedAt front s = cond front (placeFront n adj s v) (placeBack n adj s v)
 
     module _ (s : Placing) where
-      stepped : All (λ x. x < n) (s .placed) → v < n → Stepped s v (placeVertex n adj s v)
-      unfolding placeVertex placeFront placeBack
-      stepped below h = by-test (frontFewer (s .placed))
-        where
-          by-test : (b : Bool) → Stepped s v (placedAt b s)
-          by-test true = record { below = also h below; left = unplaced-front n (s .placed) v }
-          by-test false = record { below = all-append below (also h none); left = unplaced-back n (s .placed) v }
+      step-below : All (λ x. x < n) (s .placed) → v < n → All (λ x. x < n) (placeVertex n adj s v .placed)
+      unfolding placeFront placeBack
+      step-below below h = either-end n adj (λ t. All (λ x. x < n) (t .placed)) s v (also h below) (all-append below (also h none))
 
       -- an isolated one changes nothing for those with edges
       module _ (lone : hasEdges adj v ≡ false) where
@@ -104,15 +97,12 @@ module _ (n : ℕ) (adj : List ℕ) where
     unfolding run placeMore
     run-none e = ap (λ (k : ℕ). placeMore n adj p k s) e
 
-    module _ (below : All (λ x. x < n) (s .placed)) (some : 0 < length (waiting n p (s .placed))) where
+    module _ (some : 0 < length (waiting n p (s .placed))) where
       waits : Waiting n p (s .placed) (next p s)
       waits = next-waiting n p (s .placed) adj some
 
-      after : Stepped s (next p s) (placeVertex n adj s (next p s))
-      after = stepped (next p s) s below (waits .below)
-
       fewer : length (waiting n p (s .placed)) ≡ suc (length (waiting n p (placeVertex n adj s (next p s) .placed)))
-      fewer = omega (arith, waiting-less waits (placeVertex n adj s (next p s) .placed) (after .left))
+      fewer = omega (arith, waiting-less waits (placeVertex n adj s (next p s) .placed) (step-unplaced n adj s (next p s)))
 
       run-next : run p s ≡ run p (placeVertex n adj s (next p s))
       unfolding run placeMore
@@ -141,7 +131,7 @@ module _ (n : ℕ) (adj : List ℕ) where
                 let less = waiting-less linked (next p s ∷ s .placed) (unplaced-front n (s .placed) (next p s)) in
                 ap (run (hasEdges adj)) (linked-next (next p s) s symmetry below (w .below) e)
                 ∙ ap (λ (u : ℕ). run (hasEdges adj) (placeVertex n adj (linkedPart adj s) u)) (linked-chosen e)
-                ∙ sym (run-next (hasEdges adj) (linkedPart adj s) (all-keep (hasEdges adj) below)
+                ∙ sym (run-next (hasEdges adj) (linkedPart adj s)
                 (omega (arith, less, ap length (waiting-seen n adj (s .placed)))))
             by-test false e = ap (run (hasEdges adj)) (lone-next (next p s) s e)
 
@@ -152,9 +142,10 @@ module _ (n : ℕ) (adj : List ℕ) where
         (omega (arith, keep-split (hasEdges adj) (waiting n p (s .placed)), ap length (linked-waiting s))))
     linked-run (suc k) s below e =
         let some : 0 < length (waiting n p (s .placed)) = omega arith in
-        ap (linkedPart adj) (run-next p s below some)
-        ∙ linked-run k (placeVertex n adj s (next p s)) (after p s below some .below) (omega (arith, fewer p s below some))
-        ∙ linked-step s below (waits p s below some)
+        let w = waits p s some in
+        ap (linkedPart adj) (run-next p s some)
+        ∙ linked-run k (placeVertex n adj s (next p s)) (step-below (next p s) s below (w .below)) (omega (arith, fewer p s some))
+        ∙ linked-step s below w
 
 -- so the two rules differ in the places of isolated vertices alone
 pub same-linked : (n : ℕ) (adj : List ℕ) → Symmetric n (weight adj) → (s : ℕ) → s < n

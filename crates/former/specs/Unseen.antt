@@ -2,50 +2,19 @@
 -- vertices with edges.
 use Prim.Native.Nat.{ℕ, _*_, _<_}
 use native.Mathlib.Nat.{zero-mul, mul-zero}
-use native.Mathlib.Omega.{arith}
 use mathlib.Core.Path.{_≡_, refl, sym, ap, _∙_}
 use mathlib.Core.Bool.{Bool, true, false, not, cond, _&&_, and-false}
 use mathlib.Core.List.{List}
-use lib.ListN.{getD}
 use lib.Dec.{eqb}
-use borrow.Author.Tests.{eqb-true, not-false}
-use Rattle.model.specs.Lists.{one, upto, keep, sumOver, sumPairs, member}
-use Rattle.model.specs.Crossings.{linked}
+use Rattle.model.specs.Lists.{upto, keep, member}
 use Rattle.model.specs.GreedyAppend.{unplaced, waiting, isolated, hasEdges, degreeIn, preferred, bestOf, nextVertex}
 use Rattle.model.specs.GreedyAppend.{closing, open′, frontCrossings, backCrossings}
-use Rattle.laws.specs.Sums.Bits.{bit-beyond}
-use Rattle.laws.specs.Sums.Lists.{All, none, also, all-keep, all-upto, sumOver-scale, sumPairs-ext, keep-keep, keep-swap, keep-true}
+use Rattle.laws.specs.Sums.Lists.{All, none, also, all-keep, all-upto, sumPairs-ext, keep-keep, keep-swap, keep-true}
 use Rattle.laws.specs.Sums.Pairs.{Symmetric}
 use Rattle.laws.specs.Crossings.Edges.{weight}
 use Rattle.laws.specs.Append.Order.{unplacedBut}
-use Rattle.former.specs.Kept.{sumOver-kept, sumPairs-kept, sumPairs-scale, member-kept}
-
--- ---- an isolated vertex
-
-module _ (adj : List ℕ) (v : ℕ) (lone : hasEdges adj v ≡ false) where
-  no-edge : (u : ℕ) → weight adj v u ≡ 0
-  unfolding hasEdges isolated linked one
-  no-edge u =
-      ap (λ (b : ℕ). one (eqb b 1))
-      (bit-beyond 0 (getD adj v 0) u (omega (arith, eqb-true (getD adj v 0) 0 (not-false (eqb (getD adj v 0) 0) lone))) (omega arith))
-
-  no-degree : (us : List ℕ) → degreeIn adj v us ≡ 0
-  unfolding degreeIn
-  no-degree us = (λ i. sumOver (λ u. no-edge u i) us) ∙ omega (arith, sumOver-scale 0 (λ u. 0) us)
-
-  -- it meets no crossing, at either end
-  module _ (n : ℕ) (xs : List ℕ) where
-    pub front-none : frontCrossings n adj xs v ≡ 0
-    unfolding frontCrossings closing
-    front-none =
-        (λ i. sumPairs (λ q p. no-edge p i * open′ n adj xs v q) xs) ∙ sumPairs-scale 0 (λ q p. open′ n adj xs v q) xs ∙ zero-mul _
-
-    pub back-none : backCrossings n adj xs v ≡ 0
-    unfolding backCrossings closing
-    back-none =
-        (λ i. sumPairs (λ p q. no-edge p i * open′ n adj xs v q) xs) ∙ sumPairs-scale 0 (λ p q. open′ n adj xs v q) xs ∙ zero-mul _
-
--- ---- what a step sees
+use Rattle.laws.specs.Append.Isolated.{no-edge, no-degree}
+use Rattle.former.specs.Kept.{sumOver-kept, sumPairs-kept, member-kept}
 
 -- of the vertices xs, those with edges
 abbrev pub withEdges : List ℕ → List ℕ → List ℕ

@@ -16,4 +16,3 @@ pub mod Playing
 pub mod Listing
 pub mod Starred
 pub mod WorkedCharts
-pub mod WorkedLays

@@ -1,4 +1,5 @@
--- The starred rings of document 01, "Rings worked by hand": one table, and one theorem about the definitions that covers it.
+-- The starred rings of document 01, "Rings worked by hand", and rings with isolated vertices (document 02, Note 2): two tables, and one theorem about
+-- the definitions that covers them.
 use Prim.Native.Nat.{ℕ, _-_, _^_}
 use mathlib.Core.Bool.{Bool, true, false, Bool·beq, xor, _&&_}
 use mathlib.Core.List.{List, [], _∷_, _++_, map, flatMap}
@@ -16,12 +17,12 @@ use Rattle.model.specs.Edits.{changedOr, insertAfter, movedAfter, moveCh
 use Rattle.model.specs.Reading.{pairWith, orElse, firstPair, firstCrossingOf}
 use Rattle.model.specs.GreedyAppend.{unplaced, waiting, isolated, hasEdges, degreeIn, preferred, bestOf, nextVertex, closing, open′}
 use Rattle.model.specs.GreedyAppend.{frontCrossings, backCrossings, alone, placeFront, placeBack, placeVertex, placeMore, placeAtBack, placeLinked}
-use Rattle.model.specs.GreedyAppend.{placeAll, layChecks, layOf}
+use Rattle.model.specs.GreedyAppend.{placeAll, formerPlaceAll, layChecks, layOf, formerLayOf}
 use Rattle.model.specs.Sifting.{clockwiseFrom, candidates, least, leastCrossings, improves, siftedOrder, sifted, reduction, siftChecks, siftOf}
 use Rattle.model.specs.Sifting.{moves, siftAll, siftRound, roundOf, afterRound, stopped, roundsUpTo, settleChecks, settleOf}
 use Rattle.model.specs.Charts.{sameList, sameEdge, joins, wordIn}
 
--- ---- the table
+-- ---- the tables
 
 -- a ring: how many vertices, its edges and its order
 pub record Ring : Type 0 where
@@ -29,7 +30,7 @@ pub record Ring : Type 0 where
   pub links : List Edge
   pub order : List ℕ
 
--- what the table says of a ring
+-- what a table says of a ring
 pub data Claim : Type 0 where
   -- its crossings
   crossing : ℕ → Claim
@@ -39,6 +40,8 @@ pub data Claim : Type 0 where
   moving : ℕ → ℕ → List ℕ → Claim
   -- lay from s: the order and the tally
   laying : ℕ → List ℕ → ℕ → Claim
+  -- and what it gave by the former rule
+  formerlyLaying : ℕ → List ℕ → ℕ → Claim
   -- sift u: the order and the saving
   sifting : ℕ → List ℕ → ℕ → Claim
   -- settle with a limit: the rounds, "settled", the count and the order
@@ -94,9 +97,30 @@ starred =
     }
     ∷ []
 
+-- some vertices without edges, and all
+unfoldable pub withIsolated : List Row
+withIsolated =
+    record {
+      ring = record { vertices = 6; links = 1 to 2 ∷ 1 to 3 ∷ 2 to 4 ∷ 3 to 4 ∷ []; order = 0 ∷ 1 ∷ 2 ∷ 3 ∷ 4 ∷ 5 ∷ [] };
+      claims =
+          laying 5 (3 ∷ 5 ∷ 1 ∷ 2 ∷ 4 ∷ 0 ∷ []) 0
+          ∷ formerlyLaying 5 (3 ∷ 5 ∷ 0 ∷ 1 ∷ 2 ∷ 4 ∷ []) 0
+          ∷ laying 1 (3 ∷ 1 ∷ 2 ∷ 4 ∷ 0 ∷ 5 ∷ []) 0
+          ∷ [];
+    }
+    ∷ record {
+      ring = record { vertices = 5; links = 0 to 1 ∷ 0 to 2 ∷ 1 to 3 ∷ 2 to 3 ∷ []; order = 0 ∷ 1 ∷ 2 ∷ 3 ∷ 4 ∷ [] };
+      claims = laying 4 (2 ∷ 4 ∷ 0 ∷ 1 ∷ 3 ∷ []) 0 ∷ formerlyLaying 4 (2 ∷ 4 ∷ 0 ∷ 1 ∷ 3 ∷ []) 0 ∷ [];
+    }
+    ∷ record {
+      ring = record { vertices = 4; links = []; order = 0 ∷ 1 ∷ 2 ∷ 3 ∷ [] };
+      claims = laying 2 (2 ∷ 0 ∷ 1 ∷ 3 ∷ []) 0 ∷ [];
+    }
+    ∷ []
+
 -- ---- the theorem
 
--- the layout of a ring of the table, with its true count
+-- the layout of a ring of a table, with its true count
 unfoldable pub layoutOf : Ring → Layout
 layoutOf r =
     let adj = map (wordIn (r .links)) (upto capacity) in
@@ -130,6 +154,7 @@ holds l (showing pair) =
     eqb (a .refusal) 0 && sameEdges (a .pair) pair && Bool·beq (a .none) (eqb (length pair) 0)
 holds l (moving a b o) = let r = moveOf l a b in gives (r .refusal) (r .layout) o
 holds l (laying s o tally) = lays (layOf l s) o tally
+holds l (formerlyLaying s o tally) = lays (formerLayOf l s) o tally
 holds l (sifting u o saving) = let r = siftOf l u in gives (r .refusal) (r .layout) o && eqb (r .reduction) saving
 holds l (settling limit rounds settled count o) =
     let r = settleOf l limit in
@@ -138,12 +163,13 @@ holds l (settling limit rounds settled count o) =
     && Bool·beq (r .converged) settled
     && eqb (r .layout .count) count
 
--- every claim of the table holds, by computation
-pub starred-holds : T (every (λ row. every (holds (layoutOf (row .ring))) (row .claims)) starred)
-unfolding starred first complete _to_ layoutOf sameEdges gives lays holds one upto every any keep firstWith sumOver sumPairs noRepeats member occurrences
-    place bit linked edges between alternate crosses crossings vertexOrder crossingsOf eachOnce zeroFrom symmetric loopless bitsBelow valid carried
-    changed reordered refusal byRefusal checked isValid isVertex differ limitFits changedOr insertAfter movedAfter moveChecks moveOf pairWith orElse
-    firstPair firstCrossingOf unplaced waiting isolated hasEdges degreeIn preferred bestOf nextVertex closing open′ frontCrossings backCrossings
-    alone placeFront placeBack placeVertex placeMore placeAtBack placeLinked placeAll layChecks layOf clockwiseFrom candidates least leastCrossings improves siftedOrder sifted reduction siftChecks siftOf moves siftAll siftRound
-    roundOf afterRound stopped roundsUpTo settleChecks settleOf sameList sameEdge joins wordIn flatMap xor
+-- every claim of the tables holds, by computation
+pub starred-holds : T (every (λ row. every (holds (layoutOf (row .ring))) (row .claims)) (starred ++ withIsolated))
+unfolding starred withIsolated first complete _to_ layoutOf sameEdges gives lays holds one upto every any keep firstWith sumOver sumPairs noRepeats
+    member occurrences place bit linked edges between alternate crosses crossings vertexOrder crossingsOf eachOnce zeroFrom symmetric loopless
+    bitsBelow valid carried changed reordered refusal byRefusal checked isValid isVertex differ limitFits changedOr insertAfter movedAfter moveChecks
+    moveOf pairWith orElse firstPair firstCrossingOf unplaced waiting isolated hasEdges degreeIn preferred bestOf nextVertex closing open′
+    frontCrossings backCrossings alone placeFront placeBack placeVertex placeMore placeAtBack placeLinked placeAll formerPlaceAll layChecks layOf
+    formerLayOf clockwiseFrom candidates least leastCrossings improves siftedOrder sifted reduction siftChecks siftOf moves siftAll siftRound roundOf
+    afterRound stopped roundsUpTo settleChecks settleOf sameList sameEdge joins wordIn flatMap xor
 starred-holds = tt

@@ -1,6 +1,6 @@
 -- The call lay: its list holds each vertex once, and its tally is exactly the crossings of the layout that it returns.
 use Prim.Native.Nat.{ℕ, zero, suc, _+_, _-_, _≤_, _<_}
-use native.Mathlib.Nat.{le-refl, le-trans, le-add-right}
+use native.Mathlib.Nat.{le-refl}
 use native.Mathlib.Omega.{arith}
 use native.Mathlib.Decide.{ℕ-discrete}
 use mathlib.Core.Path.{_≡_, refl, sym, ap, _∙_, subst}
@@ -10,7 +10,7 @@ use lib.ListN.{length, drop, length-append}
 use lib.Dec.{T, ltb, lt→ltb}
 use Rattle.model.specs.declared.Layout.{Layout}
 use Rattle.model.specs.declared.Appended.{Appended}
-use Rattle.model.specs.Lists.{sumOver, occurrences}
+use Rattle.model.specs.Lists.{sumOver}
 use Rattle.model.specs.Crossings.{crossings}
 use Rattle.model.specs.Layouts.{crossingsOf, valid, reordered}
 use Rattle.model.specs.Checks.{refusal, isValid, isVertex}
@@ -22,7 +22,6 @@ use Rattle.laws.specs.Orders.Permutations.{Permutation}
 use Rattle.laws.specs.Sums.Pairs.{Symmetric}
 use Rattle.laws.specs.Crossings.Counting.{crossingSum, placed}
 use Rattle.laws.specs.Crossings.Edges.{weight, crossings-sum}
-use Rattle.laws.specs.Crossings.Bound.{mostCrossings}
 use Rattle.laws.specs.Layouts.Validity.{sound}
 use Rattle.laws.specs.Layouts.Sizes.{Sized, reordered-sized}
 use Rattle.laws.specs.Layouts.Refusals.{checked-either, vertex-passed, all-passed, when-accepted, when-refused, checked-number}
@@ -38,7 +37,7 @@ openTo adj us b = degreeIn adj b us
 
 module _ (n : ℕ) (adj : List ℕ) where
   -- what holds at either end holds at the one that is taken
-  either-end : (P : Placing → Type 0) (s : Placing) (v : ℕ) → P (placeFront n adj s v) → P (placeBack n adj s v) → P (placeVertex n adj s v)
+  pub either-end : (P : Placing → Type 0) (s : Placing) (v : ℕ) → P (placeFront n adj s v) → P (placeBack n adj s v) → P (placeVertex n adj s v)
   unfolding placeVertex
   either-end P s v front back = by-test (ltb (frontCrossings n adj (s .placed) v) (backCrossings n adj (s .placed) v))
     where
@@ -191,7 +190,8 @@ module _ (l : Layout) (s : ℕ) where
 
     pub lay-crossings : laidOut .tally ≡ crossingsOf (reordered l (laidOut .placed))
     lay-crossings =
-        laid-tally (laid-all (l .adjacency) (sound l t .symmetry) s h) (sound l t .symmetry) ∙ sym (reordered-crossings l (laidOut .placed) (lay-permutation .size))
+        let symmetry = sound l t .symmetry in
+        laid-tally (laid-all (l .adjacency) symmetry s h) symmetry ∙ sym (reordered-crossings l (laidOut .placed) (lay-permutation .size))
 
   -- the tally of an accepted lay is the crossings of its layout
   pub lay-tally : layOf l s .refusal ≡ 0 → layOf l s .tally ≡ crossingsOf (layOf l s .layout)

@@ -103,6 +103,16 @@ module _ {A : Type 0} (cs : List Check) (accepted : A) (refused : ℕ → A) whe
       from zero e = a e
       from (suc k) e = r (suc k)
 
+  -- another call with the same checks and the same refusals answers the same in f if it does where it is accepted
+  pub checked-same : {B : Type 0} (f : A → B) (other : A) → (refusal cs ≡ 0 → f accepted ≡ f other)
+      → f (checked cs accepted refused) ≡ f (checked cs other refused)
+  unfolding checked byRefusal
+  checked-same f other same = from (refusal cs) refl
+    where
+      from : (r : ℕ) → refusal cs ≡ r → f (byRefusal r accepted refused) ≡ f (byRefusal r other refused)
+      from zero e = same e
+      from (suc r) e = refl
+
 -- ---- calls on a layout
 
 pub valid-passed : (l : Layout) (cs : List Check) → refusal (isValid l ∷ cs) ≡ 0 → T (valid l) × (refusal cs ≡ 0)

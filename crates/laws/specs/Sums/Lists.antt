@@ -68,6 +68,11 @@ module _ {A : Type 0} where
   unfolding sumOver
   sumOver-last v f xs = sumOver-append f xs (v ∷ []) ∙ omega arith
 
+  pub sumPairs-scale : (c : ℕ) (f : A → A → ℕ) (xs : List A) → sumPairs (λ x y. c * f x y) xs ≡ c * sumPairs f xs
+  unfolding sumPairs
+  sumPairs-scale c f [] = omega arith
+  sumPairs-scale c f (x ∷ xs) = rw (sumOver-scale c (f x) xs, sumPairs-scale c f xs) (omega arith)
+
   pub sumPairs-last : (v : A) (f : A → A → ℕ) (xs : List A) → sumPairs f (xs ++ (v ∷ [])) ≡ sumPairs f xs + sumOver (λ x. f x v) xs
   unfolding sumPairs sumOver
   sumPairs-last v f [] = refl

@@ -4,6 +4,10 @@ use Rattle.append.specs.Calls.{words-valid, laid-right}
 use Rattle.append.proofs.appending.append_from.Statement.{statement}
 use Rattle.append.proofs.appending.append_from.Tie as tie
 
+-- from the place of those with edges to the start
+abbrev start : tie.After-place-linked → tie.Start
+start c = c .before .before .before .before
+
 place-linked-requires : tie.Need-place-linked-requires
 place-linked-requires c κs =
     let start = c .before .before .before in
@@ -11,8 +15,8 @@ place-linked-requires c κs =
 
 put-rest-requires : tie.Need-put-rest-requires
 put-rest-requires c κs =
-    let start = c .before .before .before .before in
-    (sound (start .args .l) (start .pre .0) .small, c .place-linked .ensures .part)
+    let s = start c in
+    (sound (s .args .l) (s .pre .0) .small, c .place-linked .ensures .part)
 
 written-requires : tie.Need-written-requires
 written-requires c κs = c .put-rest .ensures .centred
@@ -25,8 +29,8 @@ returns c =
     let ordered = c .before in
     let filled = ordered .before in
     let linked = filled .before in
-    let start = linked .before .before .before .before in
-    laid-right (start .args .l) (start .args .s) (start .pre .0) (start .pre .1) (linked .place-linked .ensures) (filled .put-rest .ensures)
+    let s = start linked in
+    laid-right (s .args .l) (s .args .s) (s .pre .0) (s .pre .1) (linked .place-linked .ensures) (filled .put-rest .ensures)
     (ordered .written .ensures) (c .recounted .ensures)
 
 pub append-from-spec : {M : Type 1} → statement M
