@@ -1,5 +1,5 @@
 -- What an accepted call answers.
-use Prim.Native.Nat.{ℕ, _<_}
+use Prim.Native.Nat.{ℕ, _≤_, _<_}
 use native.Mathlib.Nat.{lt-of-lt-of-le}
 use native.Mathlib.Omega.{arith}
 use mathlib.Core.Path.{_≡_, sym, ap, _∙_, subst}
@@ -18,11 +18,11 @@ use Rattle.laws.specs.Layouts.Recount.{Drawn, recounted, recounted-changed}
 use Rattle.laws.specs.Append.Order.{all-waiting}
 use Rattle.laws.specs.Append.Isolated.{at-back}
 use Rattle.laws.specs.Append.Calls.{lay-permutation}
-use Rattle.append.specs.declared.line.Line.{Line}
+use Rattle.line.specs.declared.Line.{Line}
 use Rattle.append.specs.declared.steps.Partial.{Partial}
-use Rattle.append.specs.Lines.{entries, entries-length}
+use Rattle.line.specs.Lines.{entries, entries-length, restOf, writtenOver, over-start}
 use Rattle.append.specs.Masks.{Words}
-use Rattle.append.specs.Rest.{Filled}
+use Rattle.append.specs.Rest.{Extended, rest-put}
 use Rattle.append.specs.Steps.{placingOf, LinkedPlaced}
 
 pub words-valid : (l : Layout) → T (valid l) → Words (l .n) (l .adjacency)
@@ -31,7 +31,13 @@ words-valid l t =
     record { small = right .small; bits = λ v h. right .bits v (lt-of-lt-of-le h (right .small)) }
 
 -- those with edges are placed, and then the rest: the list and the tally are those of the definition
-module _ {n : ℕ} {adj : List ℕ} {s : ℕ} {r : Partial} (linked : LinkedPlaced n adj s r) {line : Line} (filled : Filled n (r .line) line) where
+module _ {n : ℕ} (small : n ≤ 64) {adj : List ℕ} {s : ℕ} {r : Partial} (linked : LinkedPlaced n adj s r) where
+  abbrev line : Line
+  line = restOf (r .line) (r .placed) n
+
+  rest : Extended (r .line) line (unplaced n (entries (r .line)))
+  rest = rest-put small (linked .part)
+
   -- the rest are the isolated ones
   rest-isolated : waiting n (isolated adj) (entries (r .line)) ≡ unplaced n (entries (r .line))
   unfolding waiting hasEdges
@@ -44,37 +50,44 @@ module _ {n : ℕ} {adj : List ℕ} {s : ℕ} {r : Partial} (linked : LinkedPlac
   all-placed =
       let isolated-ones = all-mono (all-waiting n (isolated adj) (entries (r .line))) (λ v w. ap not (w .passes)) in
       ap (λ (xs : List ℕ). record { placed = xs; tally = r .tally })
-      (filled .entries-are ∙ ap (λ (vs : List ℕ). entries (r .line) ++ vs) (sym rest-isolated))
+      (rest .entries-are ∙ ap (λ (vs : List ℕ). entries (r .line) ++ vs) (sym rest-isolated))
       ∙ sym (at-back n adj (placingOf r) isolated-ones)
       ∙ ap (λ (x : Placing). placeAtBack n adj x (waiting n (isolated adj) (x .placed))) (linked .placing)
 
-module _ (l : Layout) (s : ℕ) (t : T (valid l)) (h : s < l .n) {r : Partial} (linked : LinkedPlaced (l .n) (l .adjacency) s r)
-    {line : Line} (filled : Filled (l .n) (r .line) line) where
-  permutation : Permutation (l .n) (entries line)
-  permutation = subst (λ (x : Placing). Permutation (l .n) (x .placed)) (sym (all-placed linked filled)) (lay-permutation l s t h)
+module _ (l : Layout) (s : ℕ) (t : T (valid l)) (h : s < l .n) {r : Partial} (linked : LinkedPlaced (l .n) (l .adjacency) s r) where
+  abbrev laid : List ℕ
+  laid = entries (line (sound l t .small) linked)
 
-  size : line .size ≡ l .n
-  size = omega (arith, entries-length (filled .centred), permutation .size)
+  permutation : Permutation (l .n) laid
+  permutation = subst (λ (x : Placing). Permutation (l .n) (x .placed)) (sym (all-placed (sound l t .small) linked)) (lay-permutation l s t h)
 
   -- the order, with the vertices as they were placed in its first n places
   laid-order : List ℕ
-  laid-order = entries line ++ drop (l .n) (l .order)
+  laid-order = laid ++ drop (l .n) (l .order)
+
+  laid-written : writtenOver (line (sound l t .small) linked) (l .order) ≡ laid-order
+  unfolding laid-order
+  laid-written =
+      let centred = rest (sound l t .small) linked .centred in
+      let size = sym (entries-length centred) ∙ permutation .size in
+      over-start centred (l .order) ∙ ap (λ (k : ℕ). laid ++ drop k (l .order)) size
 
   laid-drawn : Drawn (l .n) laid-order (l .adjacency)
   unfolding laid-order
   laid-drawn =
       record {
         small = sound l t .small;
-        permutation = rw (take-at (entries line) (drop (l .n) (l .order)) (l .n) (permutation .size)) permutation;
+        permutation = rw (take-at laid (drop (l .n) (l .order)) (l .n) (permutation .size)) permutation;
         symmetry = sound l t .symmetry;
       }
 
-  pub laid-right : {m : Layout} {order : List ℕ} → order ≡ entries line ++ drop (line .size) (l .order) → m ≡ recounted l (l .n) order (l .adjacency)
+  pub laid-right : {last : Line} {order : List ℕ} {m : Layout} → last ≡ restOf (r .line) (r .placed) (l .n) → order ≡ writtenOver last (l .order)
+      → m ≡ recounted l (l .n) order (l .adjacency)
       → record { refusal = 0; layout = m; tally = r .tally } ≡ layAnswer l (placeAll (l .n) (l .adjacency) s)
   unfolding reordered laid-order
-  laid-right {m} {order} e c =
+  laid-right {last} {order} {m} filled e c =
       ap (λ (k : Layout). record { refusal = 0; layout = k; tally = r .tally })
       (c
-      ∙ ap (λ (o : List ℕ). recounted l (l .n) o (l .adjacency)) (e ∙ ap (λ (k : ℕ). entries line ++ drop k (l .order)) size)
+      ∙ ap (λ (o : List ℕ). recounted l (l .n) o (l .adjacency)) (e ∙ ap (λ (x : Line). writtenOver x (l .order)) filled ∙ laid-written)
       ∙ recounted-changed l (l .n) laid-order (l .adjacency) t laid-drawn)
-      ∙ ap (layAnswer l) (all-placed linked filled)
+      ∙ ap (layAnswer l) (all-placed (sound l t .small) linked)

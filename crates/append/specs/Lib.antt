@@ -1,5 +1,4 @@
--- The loops and steps of greedy append: what they go through, and that it is what the definition says.
-pub mod Lines
+-- The steps of greedy append: what they go through, and that it is what the definition says.
 pub mod Masks
 pub mod Ends
 pub mod Choices

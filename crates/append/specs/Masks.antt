@@ -21,8 +21,8 @@ use Rattle.laws.specs.Sums.Bits.{bit-beyond, bit-complement, maskedOnes, set-sa
 use Rattle.laws.specs.Crossings.Masks.{Holds, masked-sum, weight-bit}
 use Rattle.laws.specs.Append.Order.{Placed, sumOver-unplaced}
 use Rattle.choice.specs.Choices.{complement}
-use Rattle.append.specs.declared.line.Line.{Line}
-use Rattle.append.specs.Lines.{entries, Centred}
+use Rattle.line.specs.declared.Line.{Line}
+use Rattle.line.specs.Lines.{entries, Centred}
 
 -- ---- a set of vertices as a word
 

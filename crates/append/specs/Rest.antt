@@ -1,7 +1,6 @@
--- The vertices that are not placed, put at the back in rising number.
-use Prim.Native.Nat.{ℕ, suc, _+_, _-_, _≤_, _<_}
-use native.Mathlib.Nat.{le-antisymm, add-sub-of-le}
-use native.Mathlib.Numerals.{add-one}
+-- Once the vertices with edges are placed, the rest at the back: the list is then that of all vertices.
+use Prim.Native.Nat.{ℕ, zero, suc, _+_, _-_, _≤_, _<_}
+use native.Mathlib.Nat.{le-refl, le-of-lt, add-sub-of-le}
 use native.Mathlib.Omega.{arith}
 use mathlib.Core.Path.{_≡_, refl, sym, ap, _∙_}
 use mathlib.Core.Bool.{Bool, true, false, not, cond}
@@ -14,18 +13,13 @@ use Rattle.model.specs.GreedyAppend.{unplaced}
 use Rattle.laws.specs.Sums.Lists.{keep-append, length-keep, sumOver-upto}
 use Rattle.laws.specs.Sums.Ranges.{sum, sum-cut}
 use Rattle.laws.specs.Append.Order.{placed-count}
-use Rattle.append.specs.declared.line.Line.{Line}
-use Rattle.append.specs.Lines.{entries, Centred, entries-length, atBack, back-centred, back-entries}
+use Rattle.line.specs.declared.Line.{Line}
+use Rattle.line.specs.Lines.{entries, Centred, entries-length, atBack, back-centred, back-entries, restOf}
 use Rattle.append.specs.Masks.{Partly, placed-test}
-
--- all of n vertices are placed: those that were left, at the back
-pub record Filled (n : ℕ) (l r : Line) : Type 0 where
-  pub centred : Centred r
-  pub entries-are : entries r ≡ entries l ++ unplaced n (entries l)
 
 module _ (l : Line) where
   -- those that are not placed, below k
-  unfoldable pub leftBelow : ℕ → List ℕ
+  leftBelow : ℕ → List ℕ
   leftBelow k = keep (λ v. not (member v (entries l))) (upto k)
 
   left-sum : (k : ℕ) → length (leftBelow k) ≡ sum k (λ v. one (not (member v (entries l))))
@@ -40,63 +34,58 @@ module _ (l : Line) where
       let all : sum n f ≡ sum (suc k + (n - suc k)) f = ap (λ (j : ℕ). sum j f) (sym (add-sub-of-le h)) in
       omega (arith, left-sum k, left-sum n, all, sum-cut (suc k) (n - suc k) f)
 
--- those below v are put
-pub record RestUpTo (n : ℕ) (l line : Line) (v : ℕ) : Type 0 where
-  pub inside : v ≤ n
-  pub centred : Centred line
-  pub entries-are : entries line ≡ entries l ++ leftBelow l v
+-- r is l with the vertices vs at the back
+pub record Extended (l r : Line) (vs : List ℕ) : Type 0 where
+  pub centred : Centred r
+  pub entries-are : entries r ≡ entries l ++ vs
 
-module _ {n : ℕ} {l : Line} where
-  pub rest-start : Centred l → RestUpTo n l l 0
-  unfolding leftBelow upto keep
-  rest-start c = record { inside = omega arith; centred = c; entries-are = sym (append-nil (entries l)) }
-
-  pub rest-end : {line : Line} {v : ℕ} → RestUpTo n l line v → n ≤ v → Filled n l line
-  unfolding leftBelow unplaced
-  rest-end {line} {v} r h =
-      record { centred = r .centred; entries-are = r .entries-are ∙ ap (λ (k : ℕ). entries l ++ leftBelow l k) (le-antisymm (r .inside) h) }
-
-  module _ {placed : ℕ} (small : n ≤ 64) (part : Partly n l placed) {line : Line} {v : ℕ} (r : RestUpTo n l line v) (h : v < n) where
-    placed-or-not : eqb (bit placed v) 1 ≡ member v (entries l)
-    placed-or-not = placed-test small (part .order) (part .held) v h
-
+module _ {n : ℕ} (small : n ≤ 64) {l : Line} {placed : ℕ} (part : Partly n l placed) where
+  module _ {line : Line} {k : ℕ} (e : Extended l line (leftBelow l k)) (h : k < n) where
     -- there is room for one that is not placed
-    pub rest-room : eqb (bit placed v) 1 ≡ false → line .size < 64
+    room : member k (entries l) ≡ false → line .size < 64
     unfolding unplaced leftBelow one
-    rest-room e =
-        let left : one (not (member v (entries l))) ≡ 1 = ap (λ (b : Bool). one (not b)) (sym placed-or-not ∙ e) in
+    room free =
+        let left : one (not (member k (entries l))) ≡ 1 = ap (λ (b : Bool). one (not b)) free in
         omega (
           arith,
-          entries-length (r .centred),
-          ap length (r .entries-are) ∙ length-append (entries l) (leftBelow l v),
+          entries-length (e .centred),
+          ap length (e .entries-are) ∙ length-append (entries l) (leftBelow l k),
           left,
-          left-most l n v h,
+          left-most l n k h,
           placed-count (part .order),
         )
 
-    pub rest-next : {next : Line} → next ≡ cond (eqb (bit placed v) 1) line (atBack line v) → RestUpTo n l next (v + 1)
+    next-put : Extended l (cond (eqb (bit placed k) 1) line (atBack line k)) (leftBelow l (suc k))
     unfolding leftBelow upto keep
-    rest-next {next} e = rw (add-one v, e) (by-test (eqb (bit placed v) 1) refl)
+    next-put = rw (placed-test small (part .order) (part .held) k h) (by-test (member k (entries l)) refl)
       where
-        more : (b : Bool) → eqb (bit placed v) 1 ≡ b → leftBelow l (suc v) ≡ leftBelow l v ++ cond (not b) (v ∷ []) []
+        more : (b : Bool) → member k (entries l) ≡ b → leftBelow l k ++ cond (not b) (k ∷ []) [] ≡ leftBelow l (suc k)
         more b t =
-            keep-append (λ u. not (member u (entries l))) (upto v) (v ∷ [])
-            ∙ ap (λ (c : Bool). leftBelow l v ++ cond (not c) (v ∷ []) []) (sym placed-or-not ∙ t)
+            sym (keep-append (λ v. not (member v (entries l))) (upto k) (k ∷ [])
+            ∙ ap (λ (c : Bool). leftBelow l k ++ cond (not c) (k ∷ []) []) t)
 
-        by-test : (b : Bool) → eqb (bit placed v) 1 ≡ b → RestUpTo n l (cond b line (atBack line v)) (suc v)
+        by-test : (b : Bool) → member k (entries l) ≡ b → Extended l (cond b line (atBack line k)) (leftBelow l (suc k))
         by-test true t =
             record {
-              inside = h;
-              centred = r .centred;
-              entries-are = r .entries-are ∙ ap (λ (vs : List ℕ). entries l ++ vs) (sym (more true t ∙ append-nil (leftBelow l v)));
+              centred = e .centred;
+              entries-are = e .entries-are ∙ ap (λ (vs : List ℕ). entries l ++ vs) (sym (append-nil (leftBelow l k)) ∙ more true t);
             }
         by-test false t =
+            let vertex : k < 64 = omega arith in
             record {
-              inside = h;
-              centred = back-centred (r .centred) (rest-room t) v;
+              centred = back-centred (e .centred) (room t) vertex;
               entries-are =
-                  back-entries (r .centred) (rest-room t) v
-                  ∙ ap (λ (vs : List ℕ). vs ++ (v ∷ [])) (r .entries-are)
-                  ∙ append-assoc (entries l) (leftBelow l v) (v ∷ [])
-                  ∙ ap (λ (vs : List ℕ). entries l ++ vs) (sym (more false t));
+                  back-entries (e .centred) (room t) vertex
+                  ∙ ap (λ (vs : List ℕ). vs ++ (k ∷ [])) (e .entries-are)
+                  ∙ append-assoc (entries l) (leftBelow l k) (k ∷ [])
+                  ∙ ap (λ (vs : List ℕ). entries l ++ vs) (more false t);
             }
+
+  all-put : (k : ℕ) → k ≤ n → Extended l (restOf l placed k) (leftBelow l k)
+  unfolding restOf leftBelow upto keep
+  all-put zero h = record { centred = part .centred; entries-are = sym (append-nil (entries l)) }
+  all-put (suc k) h = next-put (all-put k (le-of-lt h)) h
+
+  pub rest-put : Extended l (restOf l placed n) (unplaced n (entries l))
+  unfolding leftBelow unplaced
+  rest-put = all-put n (le-refl n)

@@ -20,11 +20,11 @@ use Rattle.laws.specs.Crossings.Masks.{weight-bit}
 use Rattle.laws.specs.Append.Order.{Placed, placed-start, placed-front, placed-back, placed-count, unplaced-front}
 use Rattle.laws.specs.Append.Order.{Waiting, next-waiting, waiting-less}
 use Rattle.laws.specs.Append.Calls.{step-unplaced}
-use Rattle.append.specs.declared.line.Line.{Line}
+use Rattle.line.specs.declared.Line.{Line}
 use Rattle.append.specs.declared.ends.Ends.{Ends}
 use Rattle.append.specs.declared.steps.Partial.{Partial}
-use Rattle.append.specs.Lines.{entries, Centred, entries-length, aloneAt, alone-centred, alone-entries, atFront, front-centred, front-entries, atBack}
-use Rattle.append.specs.Lines.{back-centred, back-entries}
+use Rattle.line.specs.Lines.{entries, Centred, entries-length, aloneAt, alone-centred, alone-entries, atFront, front-centred, front-entries, atBack}
+use Rattle.line.specs.Lines.{back-centred, back-entries}
 use Rattle.append.specs.Masks.{Held, held-none, held-front, held-back, Partly, Words, outside-count}
 use Rattle.append.specs.Ends.{openFrom, endsOf, ends-small}
 use Rattle.append.specs.Choices.{next-found, next-none}
@@ -171,10 +171,10 @@ module _ {n : ℕ} {adj : List ℕ} {s : Partial} (w : Words n adj) (u : Underwa
       }
     where
       centred : Centred (atFront (s .line) v)
-      centred = front-centred (u .part .centred) room v
+      centred = front-centred (u .part .centred) room below
 
       held : entries (atFront (s .line) v) ≡ v ∷ entries (s .line)
-      held = front-entries (u .part .centred) room v
+      held = front-entries (u .part .centred) room below
 
   step-back : ends .back ≤ ends .front
       → Stepped n adj s v (record { line = atBack (s .line) v; placed = next; tally = s .tally + ends .back })
@@ -192,10 +192,10 @@ module _ {n : ℕ} {adj : List ℕ} {s : Partial} (w : Words n adj) (u : Underwa
       }
     where
       centred : Centred (atBack (s .line) v)
-      centred = back-centred (u .part .centred) room v
+      centred = back-centred (u .part .centred) room below
 
       held : entries (atBack (s .line) v) ≡ entries (s .line) ++ (v ∷ [])
-      held = back-entries (u .part .centred) room v
+      held = back-entries (u .part .centred) room below
 
       longer : length (entries (s .line) ++ (v ∷ [])) ≡ suc (length (entries (s .line)))
       longer = length-append (entries (s .line)) (v ∷ []) ∙ omega arith
@@ -228,11 +228,12 @@ pub record PlacedUpTo (n : ℕ) (adj : List ℕ) (first : ℕ) (s : Partial) (v 
   pub rest : placeMore n adj (hasEdges adj) (length (toCome n adj s)) (placingOf s) ≡ placeLinked n adj first
 
 module _ {n : ℕ} {adj : List ℕ} {first : ℕ} where
-  pub place-start : {line : Line} {m v : ℕ} → first < n → line ≡ aloneAt first → m < 2 ^ 64 → m ≡ withBit 0 first → v ≡ bestBelow n adj m n .vertex
+  pub place-start : {line : Line} {m v : ℕ} → n ≤ 64 → first < n → line ≡ aloneAt first → m < 2 ^ 64 → m ≡ withBit 0 first → v ≡ bestBelow n adj m n .vertex
       → PlacedUpTo n adj first (record { line = line; placed = m; tally = 0 }) v
   unfolding placeLinked placingOf alone
-  place-start {line} {m} {v} h a l set found =
-      let e : entries line ≡ first ∷ [] = ap entries a ∙ alone-entries first in
+  place-start {line} {m} {v} small h a l set found =
+      let vertex : first < 64 = omega arith in
+      let e : entries line ≡ first ∷ [] = ap entries a ∙ alone-entries first vertex in
       record {
         underway =
             record {

@@ -1,5 +1,4 @@
 use borrow.Author.Needs.{needs}
-use Rattle.laws.specs.Layouts.Validity.{sound}
 use Rattle.append.specs.Calls.{words-valid, laid-right}
 use Rattle.append.proofs.appending.append_from.Statement.{statement}
 use Rattle.append.proofs.appending.append_from.Tie as tie
@@ -14,12 +13,10 @@ place-linked-requires c κs =
     (words-valid (start .args .l) (start .pre .0), start .pre .1)
 
 put-rest-requires : tie.Need-put-rest-requires
-put-rest-requires c κs =
-    let s = start c in
-    (sound (s .args .l) (s .pre .0) .small, c .place-linked .ensures .part)
+put-rest-requires c κs = search needs
 
 written-requires : tie.Need-written-requires
-written-requires c κs = c .put-rest .ensures .centred
+written-requires c κs = search needs
 
 recounted-requires : tie.Need-recounted-requires
 recounted-requires c κs = search needs

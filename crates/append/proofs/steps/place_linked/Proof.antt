@@ -13,7 +13,7 @@ abbrev μ-loop : tie.MeasureT-loop
 μ-loop n adjacency s so-far₀ v₀ so-far v = n - so-far .line .size
 
 alone-requires : tie.Need-alone-requires Inv-loop μ-loop
-alone-requires c κs = omega (arith, c .pre .0 .small)
+alone-requires c κs = tt
 
 set-requires : tie.Need-set-requires Inv-loop μ-loop
 set-requires c κs = tt
@@ -25,7 +25,7 @@ loop-holds : tie.Need-loop-holds Inv-loop μ-loop
 loop-holds c =
     let marked = c .before in
     let start = marked .before .before in
-    place-start (start .pre .1) (marked .before .alone .ensures) (marked .set .ok)
+    place-start (start .pre .0 .small) (start .pre .1) (marked .before .alone .ensures) (marked .set .ok)
     (set-within _ _ (omega (arith, start .pre .0 .small)) (marked .set .ensures))
     (rw (le-leb _ 64 (start .pre .0 .small)) at (c .next-vertex .ensures))
 

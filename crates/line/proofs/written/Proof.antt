@@ -1,8 +1,17 @@
 use borrow.Author.Needs.{needs}
-use mathlib.Core.Path.{_∙_}
-use Rattle.append.specs.Lines.{over-start}
-use Rattle.append.proofs.line.written.Statement.{statement}
-use Rattle.append.proofs.line.written.Tie as tie
+use native.Mathlib.Omega.{arith}
+use mathlib.Core.Path.{_≡_, _∙_}
+use lib.ListN.{length}
+use Rattle.line.specs.Lines.{copied-over}
+use Rattle.line.proofs.written.Statement.{statement}
+use Rattle.line.proofs.written.Tie as tie
+
+room : (c : tie.Start) → length (c .args .l .places) ≡ 128
+room c = search needs
+
+-- from the buffer's part to the start
+abbrev start : tie.After-places2 → tie.Start
+start c = c .before .before .before .before
 
 add-end : tie.Need-add-end
 add-end c = search needs
@@ -14,7 +23,7 @@ part-copy-start : tie.Need-part-copy-start
 part-copy-start c = search needs
 
 part-copy-end : tie.Need-part-copy-end
-part-copy-end c = search needs
+part-copy-end c = omega (arith, room (start c))
 
 slice-aggregate-copy : tie.Need-slice-aggregate-copy
 slice-aggregate-copy c = search needs
@@ -25,8 +34,8 @@ copy-requires c κs = search needs
 returns : tie.Need-returns
 returns c =
     let lent = c .before .before in
-    let start = lent .before .before .before .before .before in
-    c .before .copy .ensures .1 ∙ over-start (start .pre) (start .args .order)
+    let s = start (lent .before .before) in
+    c .before .copy .ensures .1 ∙ copied-over (s .args .l) (s .args .order) (room s)
 
 pub written-spec : {M : Type 1} → statement M
 written-spec =

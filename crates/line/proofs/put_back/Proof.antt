@@ -1,8 +1,8 @@
 use borrow.Author.Needs.{needs}
 use mathlib.Core.Path.{refl}
-use Rattle.append.specs.Lines.{atBack}
-use Rattle.append.proofs.line.put_back.Statement.{statement}
-use Rattle.append.proofs.line.put_back.Tie as tie
+use Rattle.line.specs.Lines.{atBack}
+use Rattle.line.proofs.put_back.Statement.{statement}
+use Rattle.line.proofs.put_back.Tie as tie
 
 add-end : tie.Need-add-end
 add-end c = search needs
@@ -13,12 +13,12 @@ cast-places c = search needs
 array-write-places : tie.Need-array-write-places
 array-write-places c = search needs
 
-add-t9 : tie.Need-add-t9
-add-t9 c = search needs
+add-t6 : tie.Need-add-t6
+add-t6 c = search needs
 
 returns : tie.Need-returns
 unfolding atBack
 returns c = refl
 
 pub put-back-spec : {M : Type 1} → statement M
-put-back-spec = tie.close (tie.spec add-end cast-places array-write-places add-t9 returns)
+put-back-spec = tie.close (tie.spec add-end cast-places array-write-places add-t6 returns)

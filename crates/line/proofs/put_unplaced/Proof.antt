@@ -1,7 +1,7 @@
 use borrow.Author.Needs.{needs}
 use mathlib.Core.Path.{sym, _∙_}
-use Rattle.append.proofs.rest.put_unplaced.Statement.{statement}
-use Rattle.append.proofs.rest.put_unplaced.Tie as tie
+use Rattle.line.proofs.put_unplaced.Statement.{statement}
+use Rattle.line.proofs.put_unplaced.Tie as tie
 
 is-set-requires : tie.Need-is-set-requires
 is-set-requires c κs = search needs
@@ -10,9 +10,7 @@ returns : tie.Need-returns
 returns c = rw (sym (c .before .is-set .ensures) ∙ c .if1 .taken)
 
 put-back-requires : tie.Need-put-back-requires
-put-back-requires c κs =
-    let start = c .before .before in
-    (start .pre .0, start .pre .2 (sym (c .before .is-set .ensures) ∙ c .if1 .left), start .pre .1)
+put-back-requires c κs = search needs
 
 returns-2 : tie.Need-returns-2
 returns-2 c = rw (sym (c .before .before .is-set .ensures) ∙ c .before .if1 .left) (c .put-back .ensures)

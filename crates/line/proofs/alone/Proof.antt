@@ -1,8 +1,8 @@
 use borrow.Author.Needs.{needs}
 use mathlib.Core.Path.{refl}
-use Rattle.append.specs.Lines.{aloneAt}
-use Rattle.append.proofs.line.alone.Statement.{statement}
-use Rattle.append.proofs.line.alone.Tie as tie
+use Rattle.line.specs.Lines.{aloneAt}
+use Rattle.line.proofs.alone.Statement.{statement}
+use Rattle.line.proofs.alone.Tie as tie
 
 cast-places : tie.Need-cast-places
 cast-places c = search needs
