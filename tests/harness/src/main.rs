@@ -7,6 +7,7 @@ mod entries;
 mod followed;
 mod input;
 mod label;
+mod laid;
 mod make;
 mod naive;
 mod options;

@@ -4,6 +4,7 @@ use crate::counted::{self, check_listing};
 use crate::followed::{check_lines, Step};
 use crate::input::{record_of, Failure, Input, Model};
 use crate::label::Output;
+use crate::laid;
 use crate::make::{charts, five, lists};
 use crate::naive;
 use crate::options::Options;
@@ -87,10 +88,10 @@ fn compare_list(
     let lines = input.compare(&options.play, model, plant)?;
     let check = |step: &Step| {
         written::check_line(step)?;
-        if naive {
-            return Ok(());
+        if !naive {
+            counted::check_line(step)?;
         }
-        counted::check_line(step)
+        laid::check_line(step)
     };
     check_lines(&made.bytes, &lines, check).map_err(|(line, text)| {
         let record = record_of(&made.bytes, line);

@@ -16,7 +16,8 @@ pub struct Appended {
 }
 
 /// Places `start`, then every other vertex at the end with fewer crossings of
-/// closing with open edges; on a tie, at the back.
+/// closing with open edges; on a tie, at the back. So there the isolated ones
+/// go, which come last and close no edge.
 pub fn greedy_append(circle: &Circle, start: usize) -> Appended {
     let mut queue = Queue::new(circle);
     let mut layout = VecDeque::from([start]);
@@ -55,13 +56,16 @@ fn end_crossings(queue: &Queue, layout: &VecDeque<usize>, v: usize) -> (u32, u32
     (front, back)
 }
 
-/// The unplaced vertices by most placed neighbours, then fewest unplaced
-/// neighbours, then lowest number: the priority queue of Theorem 2.
+/// Isolated vertices last (Note 2 of document 02), then by most placed
+/// neighbours, then fewest unplaced neighbours, then lowest number.
+type Key = (bool, Reverse<u32>, u32, usize);
+
+/// The unplaced vertices by their keys: the priority queue of Theorem 2.
 struct Queue<'a> {
     circle: &'a Circle,
     /// Each vertex's number of placed neighbours.
     placed: Vec<u32>,
-    waiting: BTreeSet<(Reverse<u32>, u32, usize)>,
+    waiting: BTreeSet<Key>,
 }
 
 impl Queue<'_> {
@@ -76,7 +80,7 @@ impl Queue<'_> {
     }
 
     fn first(&self) -> Option<usize> {
-        self.waiting.first().map(|&(_, _, v)| v)
+        self.waiting.first().map(|&(.., v)| v)
     }
 
     /// How many neighbours of v are unplaced.
@@ -84,8 +88,9 @@ impl Queue<'_> {
         self.circle.neighbours(v).len() as u32 - self.placed[v]
     }
 
-    fn key(&self, v: usize) -> (Reverse<u32>, u32, usize) {
-        (Reverse(self.placed[v]), self.unplaced(v), v)
+    fn key(&self, v: usize) -> Key {
+        let isolated = self.circle.neighbours(v).is_empty();
+        (isolated, Reverse(self.placed[v]), self.unplaced(v), v)
     }
 
     /// Takes v out, and moves its unplaced neighbours forward.

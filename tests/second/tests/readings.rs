@@ -225,9 +225,6 @@ fn the_second_vertex_goes_to_the_back() {
 
 #[test]
 fn with_nothing_placed_near_the_fewest_unplaced_neighbours_decide() {
-    let edges = [(1, 2), (1, 3), (2, 4), (3, 4)];
-    assert_eq!(laid(6, &edges, 5), (vec![3, 5, 0, 1, 2, 4], 0, 0));
-    assert_eq!(laid(4, &[(0, 1)], 3), (vec![3, 2, 0, 1], 0, 0));
     let edges = [(0, 1), (0, 2), (3, 4)];
     assert_eq!(laid(6, &edges, 5), (vec![5, 1, 0, 2, 3, 4], 0, 0));
 }

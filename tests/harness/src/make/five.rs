@@ -42,7 +42,7 @@ fn calls(number: usize) -> Vec<u8> {
 }
 
 /// The graph whose edges are the bits of a number.
-fn graph(number: usize) -> Graph {
+pub fn graph(number: usize) -> Graph {
     let mut pairs = all_pairs(VERTICES)
         .into_iter()
         .enumerate()

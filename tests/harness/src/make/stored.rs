@@ -146,15 +146,19 @@ impl List<'_> {
         }
     }
 
-    /// Lays from every vertex of graphs in rising order: one vertex, the ring
-    /// worked by hand in document 01, without and with a vertex without edges,
-    /// one that begins far from the edges, and one whose crossings rise.
+    /// Lays from every vertex of graphs in rising order: one vertex; the ring
+    /// worked by hand in document 01, alone, with an isolated vertex behind it,
+    /// and with one before and one behind it; two components with isolated
+    /// vertices before, between and behind them; no edges; and a graph whose
+    /// crossings rise.
     fn lays(&mut self) {
         for (n, edges) in [
             (1, vec![]),
             (4, vec![(0, 1), (0, 2), (1, 3), (2, 3)]),
             (5, vec![(0, 1), (0, 2), (1, 3), (2, 3)]),
             (6, vec![(1, 2), (1, 3), (2, 4), (3, 4)]),
+            (9, vec![(1, 2), (1, 3), (2, 4), (3, 4), (6, 7)]),
+            (3, vec![]),
             (
                 5,
                 vec![(0, 1), (0, 2), (0, 4), (1, 2), (1, 3), (2, 3), (3, 4)],

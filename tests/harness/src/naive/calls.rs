@@ -1,7 +1,7 @@
 //! The calls of documents 01 and 02, each with its questions in their order.
 
 use super::chart::written;
-use super::layout::{crossings, edges, first_pair, joined, list, valid, Edge, Layout};
+use super::layout::{crossings, edges, first_pair, isolated, joined, list, valid, Edge, Layout};
 
 /// The refusal number and the answers. Only an accepted call changes the
 /// layout.
@@ -93,27 +93,45 @@ fn refuse_one(layout: &Layout, v: u64) -> u8 {
 
 /// Greedy append (lay). Answers the tally.
 pub fn lay(layout: &mut Layout, s: u64) -> Reply<u32> {
+    let isolated = isolated(layout);
+    lay_with_last(layout, s, &isolated)
+}
+
+/// Lay as it was before Note 2 of document 02. No program is compared with it.
+pub fn former_lay(layout: &mut Layout, s: u64) -> Reply<u32> {
+    lay_with_last(layout, s, &[])
+}
+
+/// Places the start, then by the rule of document 01 all vertices but those
+/// that are to be last, then these at the back in their sequence.
+fn lay_with_last(layout: &mut Layout, s: u64, last: &[usize]) -> Reply<u32> {
     let refusal = refuse_one(layout, s);
     if refusal != 0 {
         return (refusal, 0);
     }
     let mut order = vec![s as usize];
     let mut tally = 0;
-    while let Some(v) = next_to_lay(layout, &order) {
+    while let Some(v) = next_to_lay(layout, &order, last) {
         let (front, back) = crossings_at_ends(layout, &order, v);
         let place = if front < back { 0 } else { order.len() };
         order.insert(place, v);
         tally += if front < back { front } else { back };
+    }
+    for &v in last {
+        if v != s as usize {
+            order.push(v);
+        }
     }
     set_order(layout, &order);
     (0, tally)
 }
 
 /// The unplaced vertex with most placed, then fewest unplaced neighbours, then
-/// the lowest number.
-fn next_to_lay(layout: &Layout, placed: &[usize]) -> Option<usize> {
+/// the lowest number; none of those that are to be last.
+fn next_to_lay(layout: &Layout, placed: &[usize], last: &[usize]) -> Option<usize> {
     let mut best: Option<(usize, usize, usize)> = None;
-    for v in (0..layout.n as usize).filter(|v| !placed.contains(v)) {
+    let may_follow = |v: &usize| !placed.contains(v) && !last.contains(v);
+    for v in (0..layout.n as usize).filter(may_follow) {
         let neighbours: Vec<usize> = (0..64).filter(|&w| joined(&layout.words, v, w)).collect();
         let there = neighbours.iter().filter(|w| placed.contains(w)).count();
         let missing = neighbours.len() - there;

@@ -74,6 +74,12 @@ pub fn edges(layout: &Layout) -> Vec<Edge> {
     edges
 }
 
+/// The isolated vertices (unlinked devices), in rising number.
+pub fn isolated(layout: &Layout) -> Vec<usize> {
+    let unlinked = |v: &usize| (*v as u64) < layout.n && layout.words[*v] == 0;
+    (0..64).filter(unlinked).collect()
+}
+
 /// So many edges are looked at together; that is quicker.
 const TOGETHER: usize = 32;
 

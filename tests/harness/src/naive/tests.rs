@@ -1,13 +1,14 @@
 //! The naive model on the rings worked by hand in document 01, on the points
-//! that it leaves open of lay, on charts written out again, and on random
-//! graphs.
+//! that it leaves open of lay, on isolated vertices, on charts written out
+//! again, and on random graphs.
 
-use super::calls;
+use super::calls::{self, Reply};
 use super::chart::{read, written};
 use super::layout::{crossings, edges, empty, list, Edge, Layout};
 use super::list::listing;
 use super::play::play;
 use crate::make::charts::Chart;
+use crate::make::five;
 use crate::make::graph::{all_pairs, vertices, Graph};
 use crate::rng::Rng;
 
@@ -24,12 +25,30 @@ fn complete(n: usize) -> Layout {
     layout(&vertices(n), &all_pairs(n))
 }
 
-/// The list, the tally and the crossings after laying vertices in rising order.
-fn laid(n: usize, edges: &[(u8, u8)], start: u64) -> (Vec<usize>, u32, u32) {
-    let mut ring = layout(&vertices(n), edges);
-    let (refusal, tally) = calls::lay(&mut ring, start);
+/// The list, the tally and the crossings behind a lay.
+type Laid = (Vec<usize>, u32, u32);
+
+fn laid_by(lay: fn(&mut Layout, u64) -> Reply<u32>, graph: &Graph, start: u64) -> Laid {
+    let mut ring = layout(&graph.order, &graph.edges);
+    let (refusal, tally) = lay(&mut ring, start);
     assert_eq!(refusal, 0);
     (list(&ring), tally, ring.count)
+}
+
+/// Vertices in rising order.
+fn rising(n: usize, edges: &[(u8, u8)]) -> Graph {
+    let (edges, order) = (edges.to_vec(), vertices(n));
+    Graph { edges, order }
+}
+
+/// After laying vertices in rising order.
+fn laid(n: usize, edges: &[(u8, u8)], start: u64) -> Laid {
+    laid_by(calls::lay, &rising(n, edges), start)
+}
+
+/// The same by the former rule.
+fn formerly_laid(n: usize, edges: &[(u8, u8)], start: u64) -> Laid {
+    laid_by(calls::former_lay, &rising(n, edges), start)
 }
 
 fn pair(layout: &Layout) -> Option<(Edge, Edge)> {
@@ -79,9 +98,6 @@ fn the_second_vertex_goes_to_the_back() {
 
 #[test]
 fn with_nothing_placed_near_the_fewest_unplaced_neighbours_decide() {
-    let edges = [(1, 2), (1, 3), (2, 4), (3, 4)];
-    assert_eq!(laid(6, &edges, 5), (vec![3, 5, 0, 1, 2, 4], 0, 0));
-    assert_eq!(laid(4, &[(0, 1)], 3), (vec![3, 2, 0, 1], 0, 0));
     let edges = [(0, 1), (0, 2), (3, 4)];
     assert_eq!(laid(6, &edges, 5), (vec![5, 1, 0, 2, 3, 4], 0, 0));
 }
@@ -97,6 +113,57 @@ fn laying_can_raise_the_crossings() {
     let edges = [(0, 1), (0, 2), (0, 4), (1, 2), (1, 3), (2, 3), (3, 4)];
     assert_eq!(layout(&vertices(5), &edges).count, 1);
     assert_eq!(laid(5, &edges, 1), (vec![1, 0, 2, 3, 4], 2, 2));
+}
+
+#[test]
+fn isolated_vertices_are_laid_last_but_for_the_start() {
+    let edges = [(1, 2), (1, 3), (2, 4), (3, 4)];
+    assert_eq!(laid(6, &edges, 5), (vec![3, 5, 1, 2, 4, 0], 0, 0));
+    assert_eq!(formerly_laid(6, &edges, 5), (vec![3, 5, 0, 1, 2, 4], 0, 0));
+    assert_eq!(laid(4, &[(0, 1)], 3), (vec![3, 0, 1, 2], 0, 0));
+    assert_eq!(formerly_laid(4, &[(0, 1)], 3), (vec![3, 2, 0, 1], 0, 0));
+    assert_eq!(laid(6, &[(2, 4)], 4), (vec![4, 2, 0, 1, 3, 5], 0, 0));
+    for start in 0..4 {
+        let mut due = vec![start];
+        due.extend((0..4).filter(|&v| v != start));
+        assert_eq!(laid(4, &[], start as u64), (due, 0, 0));
+    }
+}
+
+/// A vertex of another component isn't isolated, though none of its neighbours
+/// is placed.
+#[test]
+fn other_components_are_laid_before_isolated_vertices() {
+    let edges = [(1, 2), (1, 3), (2, 4), (3, 4), (6, 7)];
+    let due = vec![3, 6, 7, 1, 2, 4, 0, 5, 8];
+    assert_eq!(laid(9, &edges, 6), (due, 0, 0));
+    let former = vec![3, 6, 7, 0, 5, 8, 1, 2, 4];
+    assert_eq!(formerly_laid(9, &edges, 6), (former, 0, 0));
+    let due = vec![3, 5, 6, 7, 1, 2, 4, 0, 8];
+    assert_eq!(laid(9, &edges, 5), (due, 0, 0));
+}
+
+/// Of the former list the isolated vertices other than the start go to the back
+/// in rising number; the tally and the crossings stay. Tells whether the list
+/// is another one.
+fn only_isolated_vertices_move(graph: &Graph, start: usize) -> bool {
+    let (former, tally, crossings) = laid_by(calls::former_lay, graph, start as u64);
+    let words = graph.words();
+    let moves = |v: &usize| *v != start && words[*v] == 0;
+    let mut due = former.clone();
+    due.retain(|v| !moves(v));
+    due.extend((0..graph.n()).filter(moves));
+    let differs = due != former;
+    let laid = laid_by(calls::lay, graph, start as u64);
+    assert_eq!(laid, (due, tally, crossings), "{:?}", graph.edges);
+    differs
+}
+
+#[test]
+fn only_isolated_vertices_move_in_graphs_of_five_vertices() {
+    let starts = (0..five::GRAPHS).flat_map(|number| (0..5).map(move |v| (number, v)));
+    let differ = starts.filter(|&(number, v)| only_isolated_vertices_move(&five::graph(number), v));
+    assert!(differ.count() > 100);
 }
 
 /// A closing and an open edge that cross at the end taken do cross in the end:

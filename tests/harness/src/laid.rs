@@ -1,0 +1,70 @@
+//! Lays, compared with the rule before Note 2 of document 02.
+
+use crate::entries::Entry;
+use crate::followed::Step;
+use crate::make::ops::LAY;
+use crate::naive::calls::{former_lay, Reply};
+use crate::naive::layout::{isolated, Layout};
+
+/// What a lay would have answered and left by the former rule; none where no
+/// vertex but the start is isolated, so that the rules are the same.
+pub fn formerly(step: &Step) -> Option<(Reply<u32>, Layout)> {
+    let Entry::Record([LAY, start, ..]) = step.entry else {
+        return None;
+    };
+    let isolated = isolated(&step.before);
+    if isolated.iter().all(|&v| v as u64 == start) {
+        return None;
+    }
+    let mut former = step.before.clone();
+    let reply = former_lay(&mut former, start);
+    Some((reply, former))
+}
+
+/// Whether the crossings and the tally of a lay are those of the former rule.
+pub fn check_line(step: &Step) -> Result<(), String> {
+    let Some(((refusal, tally), former)) = formerly(step) else {
+        return Ok(());
+    };
+    let due = format!("lay {refusal} {tally} n ");
+    if step.line.starts_with(&due) && step.after.count == former.count {
+        Ok(())
+    } else {
+        Err(format!(
+            "by the former rule the tally is {tally}, the count {}",
+            former.count
+        ))
+    }
+}
+
+#[cfg(test)]
+mod tests {
+    use super::*;
+    use crate::followed::check_lines;
+    use crate::make::charts::Chart;
+    use crate::make::graph::{all_pairs, vertices, Graph};
+    use crate::make::records;
+    use crate::naive::play::play;
+
+    /// All edges of five vertices, and three isolated ones, laid from one of
+    /// these and from what isn't there.
+    #[test]
+    fn another_tally_or_count_is_found() {
+        let (edges, order) = (all_pairs(5), vertices(8));
+        let chart = Chart::of(&Graph { edges, order }).bytes();
+        let lays = [[LAY, 6, 0, 0], [LAY, 8, 0, 0]].map(records::bytes);
+        let list = [records::chart(&chart), lays.concat()].concat();
+        let lines = play(&list);
+        assert_eq!(check_lines(&list, &lines, check_line), Ok(()));
+        for (line, from, to) in [
+            (2, "lay 0 5 n", "lay 0 4 n"),
+            (2, "count 5 words\nlay 12", "count 6 words\nlay 12"),
+            (3, "lay 12 0 n", "lay 12 5 n"),
+        ] {
+            let wrong = lines.replacen(from, to, 1);
+            assert_ne!(wrong, lines, "{from}");
+            let found = check_lines(&list, &wrong, check_line).map_err(|(line, _)| line);
+            assert_eq!(found, Err(line), "{to}");
+        }
+    }
+}
