@@ -1,6 +1,6 @@
 //! The numbers that calls of a list are made with.
 
-use super::graph::{all_pairs, Edge};
+use super::graph::{all_pairs, vertices, Edge};
 use super::maker::Maker;
 use super::ops::*;
 
@@ -28,6 +28,13 @@ impl Maker {
         } else {
             v
         }
+    }
+
+    /// The isolated vertices.
+    pub fn isolated(&self) -> Vec<u64> {
+        let linked = |v: &u8| self.edges.iter().any(|(a, b)| v == a || v == b);
+        let isolated = vertices(self.n).into_iter().filter(|v| !linked(v));
+        isolated.map(u64::from).collect()
     }
 
     /// What is no vertex, unless there are 64.

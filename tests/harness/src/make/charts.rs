@@ -104,8 +104,7 @@ impl Shape {
         if !self.of_family {
             return (Graph::in_quarter(rng, self.n, self.turn % QUARTERS), None);
         }
-        let families = families::of_size(self.n);
-        let family = families[self.turn % families.len()];
+        let family = families::in_turn(self.turn, self.n);
         (family.graph_of_size(rng, self.n), Some(family.name))
     }
 }

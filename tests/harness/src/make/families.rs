@@ -1,5 +1,5 @@
-//! Families of graphs: those in which many vertices tie, those that fall apart,
-//! and those at the limits.
+//! Families of graphs: those in which many vertices tie, those with isolated
+//! vertices, those that fall apart, and those at the limits.
 
 use std::ops::Range;
 
@@ -16,8 +16,9 @@ pub struct Family {
     edges: fn(&mut Rng, usize) -> Vec<Edge>,
 }
 
-/// The families in which many vertices tie come first.
-const FAMILIES: [Family; 15] = [
+/// The families in which many vertices tie come first, then those with isolated
+/// vertices.
+const FAMILIES: [Family; 16] = [
     family("path", 2, 64, |_, n| path(n)),
     family("cycle", 3, 64, |_, n| {
         [path(n), vec![(0, n as u8 - 1)]].concat()
@@ -46,20 +47,25 @@ const FAMILIES: [Family; 15] = [
         edges.truncate(edges.len() - rng.within(1, FEW));
         edges
     }),
+    family("no edges", 2, 64, |_, _| Vec::new()),
+    family("component and isolated vertices", 3, 64, |rng, n| {
+        let linked = rng.within(2, n - 1);
+        connected(rng, linked)
+    }),
+    family("components and isolated vertices", 5, 64, |rng, n| {
+        let linked = rng.within(4, n - 1);
+        components(rng, linked)
+    }),
     family("tree", 2, 64, tree),
     family("components", 4, 64, components),
-    family("isolated vertices", 3, 64, |rng, n| {
-        let others = rng.within(2, n - 1);
-        connected(rng, others)
-    }),
     family("complete", 3, 64, |_, n| all_pairs(n)),
-    family("no edges", 2, 64, |_, _| Vec::new()),
     family("one vertex", 1, 1, |_, _| Vec::new()),
     family("no vertex", 0, 0, |_, _| Vec::new()),
 ];
 
-/// How many families with ties there are.
+/// How many families with ties there are, and how many with isolated vertices.
 const WITH_TIES: usize = 8;
+const WITH_ISOLATED: usize = 3;
 
 /// The most edges that are less than all but a few.
 const FEW: usize = 5;
@@ -87,14 +93,32 @@ pub fn with_ties() -> &'static [Family] {
     &FAMILIES[..WITH_TIES]
 }
 
+/// The families with isolated vertices.
+pub fn with_isolated() -> &'static [Family] {
+    &FAMILIES[WITH_TIES..][..WITH_ISOLATED]
+}
+
 /// Those families that have a graph of n vertices.
 pub fn of_size(n: usize) -> Vec<Family> {
     let mut families = FAMILIES.to_vec();
-    families.retain(|family| (family.fewest..=family.most).contains(&n));
+    families.retain(|family| family.has(n));
     families
 }
 
+/// The family whose turn it is, or the next that has a graph of n vertices.
+pub fn in_turn(turn: usize, n: usize) -> Family {
+    let mut families = FAMILIES;
+    families.rotate_left(turn % FAMILIES.len());
+    let mut families = families.into_iter();
+    let next = families.find(|family| family.has(n));
+    next.expect("a family of every size")
+}
+
 impl Family {
+    fn has(&self, n: usize) -> bool {
+        (self.fewest..=self.most).contains(&n)
+    }
+
     /// A graph of the family with at most so many vertices, or as few as it
     /// can have.
     pub fn graph(&self, rng: &mut Rng, most: usize) -> Graph {
@@ -204,6 +228,8 @@ fn connected(rng: &mut Rng, n: usize) -> Vec<Edge> {
 mod tests {
     use super::*;
     use crate::make::density;
+    use crate::make::graph::component_count;
+    use std::collections::BTreeSet;
 
     /// The degrees of a graph's vertices, sorted.
     fn degrees(graph: &Graph) -> Vec<u32> {
@@ -212,22 +238,6 @@ mod tests {
         let mut degrees: Vec<u32> = degrees.map(u64::count_ones).collect();
         degrees.sort_unstable();
         degrees
-    }
-
-    /// How many components a graph falls apart into.
-    fn component_count(graph: &Graph) -> usize {
-        let mut component = vertices(graph.n());
-        for &(a, b) in &graph.edges {
-            let [one, other] = [a, b].map(|v| component[usize::from(v)]);
-            for held in &mut component {
-                if *held == one {
-                    *held = other;
-                }
-            }
-        }
-        component.sort_unstable();
-        component.dedup();
-        component.len()
     }
 
     /// In a grid no vertex has more than four neighbours, there are fewer than
@@ -253,7 +263,9 @@ mod tests {
     /// Whether a graph is what the name of its family says.
     fn belongs(name: &str, graph: &Graph) -> bool {
         let (n, m) = (graph.n(), graph.edges.len());
-        let (degrees, components) = (degrees(graph), component_count(graph));
+        let (degrees, with_edges) = (degrees(graph), component_count(&graph.words()));
+        let isolated = degrees.iter().filter(|&&degree| degree == 0).count();
+        let components = with_edges + isolated;
         let all = |degree: usize| degrees.iter().all(|&d| d as usize == degree);
         match name {
             "path" => m == n - 1 && components == 1 && degrees[n - 1] <= 2,
@@ -268,10 +280,11 @@ mod tests {
             "disjoint cliques" => components >= 2 && are_cliques(graph),
             "complete less a few edges" => (1..=FEW).contains(&(density::possible(n) - m)),
             "tree" => m == n - 1 && components == 1,
-            "components" => components >= 2 && degrees[0] > 0,
-            "isolated vertices" => degrees[0] == 0 && m > 0,
-            "complete" => n >= 3 && all(n - 1),
             "no edges" => n >= 2 && m == 0,
+            "component and isolated vertices" => with_edges == 1 && isolated > 0,
+            "components and isolated vertices" => with_edges >= 2 && isolated > 0,
+            "components" => with_edges >= 2 && isolated == 0,
+            "complete" => n >= 3 && all(n - 1),
             "one vertex" => n == 1 && m == 0,
             "no vertex" => n == 0 && m == 0,
             _ => false,
@@ -288,6 +301,21 @@ mod tests {
                 assert!(graph.n() <= most.max(family.fewest), "{}", family.name);
                 assert!(belongs(family.name, &graph), "{}", family.name);
             }
+        }
+    }
+
+    #[test]
+    fn isolated_vertices_have_numbers_before_between_and_behind_the_others() {
+        for family in &with_isolated()[1..] {
+            let mut sides = BTreeSet::new();
+            for index in 0..50 {
+                let graph = family.graph(&mut Rng::new(4, family.name, index), 20);
+                let linked = graph.words().map(|word| word != 0);
+                for v in (0..graph.n()).filter(|&v| !linked[v]) {
+                    sides.insert([&linked[..v], &linked[v..]].map(|side| side.contains(&true)));
+                }
+            }
+            assert_eq!(sides.len(), 3, "{}", family.name);
         }
     }
 

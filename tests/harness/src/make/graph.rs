@@ -79,6 +79,20 @@ pub fn all_pairs(n: usize) -> Vec<Edge> {
     (0..n as u8).flat_map(pairs).collect()
 }
 
+/// How many components with edges the graph of some adjacency words has.
+pub fn component_count(words: &[u64; 64]) -> usize {
+    let mut components: Vec<u64> = Vec::new();
+    let linked = words.iter().enumerate().filter(|(_, &word)| word != 0);
+    for (v, word) in linked {
+        let near = word | 1 << v;
+        let (met, apart): (Vec<u64>, Vec<u64>) =
+            components.iter().partition(|&other| other & near != 0);
+        components = apart;
+        components.push(met.iter().fold(near, |all, other| all | other));
+    }
+    components.len()
+}
+
 /// How many of all edges there are: none, all, nearly all, few, or any.
 fn edge_count(rng: &mut Rng, n: usize, all: usize) -> usize {
     match rng.below(10) {

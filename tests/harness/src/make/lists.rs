@@ -4,7 +4,7 @@ use std::collections::BTreeSet;
 
 use super::charts;
 use super::density::{LARGE, QUARTERS};
-use super::families;
+use super::families::{self, Family};
 use super::graph::Graph;
 use super::maker::Maker;
 use super::ops::*;
@@ -93,19 +93,25 @@ impl Maker {
         self.any_calls(200, 400);
     }
 
-    /// Lays graphs with many ties from each vertex, and from one that isn't
-    /// there.
+    /// Graphs with many ties, and one with isolated vertices.
     fn lay_from_every_vertex(&mut self, _: usize) {
         for _ in 0..self.rng.within(1, 3) {
-            let most = if self.rng.once_in(8) { 64 } else { 16 };
-            self.start_family(families::with_ties(), most);
-            let mut vertices: Vec<u64> = (0..=self.n as u64).collect();
-            if self.rng.once_in(2) {
-                self.rng.shuffle(&mut vertices);
-            }
-            for v in vertices {
-                self.emit(LAY, v, 0);
-            }
+            self.lay_family(families::with_ties());
+        }
+        self.lay_family(families::with_isolated());
+    }
+
+    /// Lays a graph of one of some families from each vertex, and from one that
+    /// isn't there.
+    fn lay_family(&mut self, families: &[Family]) {
+        let most = if self.rng.once_in(8) { 64 } else { 16 };
+        self.start_family(families, most);
+        let mut vertices: Vec<u64> = (0..=self.n as u64).collect();
+        if self.rng.once_in(2) {
+            self.rng.shuffle(&mut vertices);
+        }
+        for v in vertices {
+            self.emit(LAY, v, 0);
         }
     }
 
@@ -166,8 +172,8 @@ impl Maker {
     }
 
     /// What takes its turn from list to list: each size with some density, each
-    /// length of a buffer, each number of edges that is written, each refusal
-    /// number of each call, and each special chart.
+    /// length of a buffer, each number of edges that is written, each family,
+    /// each refusal number of each call, and each special chart.
     fn in_turn(&mut self, seed: u64, index: usize) {
         let n = ((seed % 65) as usize + 7 * index) % 65;
         let graph = Graph::in_quarter(&mut self.rng, n, index % QUARTERS);
@@ -175,6 +181,7 @@ impl Maker {
         self.any_calls(2, 5);
         self.emit(ORDER, index as u64 % 66, 7);
         self.call_write_in_turn(&graph, index);
+        self.lay_in_turn(index);
         let refused = self.known.refused();
         let (_, op, number) = refused[index % refused.len()];
         self.refused_call(op, number);
@@ -183,6 +190,19 @@ impl Maker {
             self.chart(&chart.bytes);
             self.forget();
             self.emit(COUNT, 0, 0);
+        }
+    }
+
+    /// Lays a graph of the family whose turn it is from any vertex, and from an
+    /// isolated one, if there is one.
+    fn lay_in_turn(&mut self, index: usize) {
+        let families = families::all();
+        self.start_family(&[families[index % families.len()]], 64);
+        self.call(LAY);
+        let isolated = self.isolated();
+        if !isolated.is_empty() {
+            let start = self.rng.pick(&isolated);
+            self.emit(LAY, start, 0);
         }
     }
 
@@ -222,7 +242,7 @@ mod tests {
     use crate::followed::{steps, Step};
     use crate::make::density::quarter;
     use crate::naive::chart::{read, written};
-    use crate::naive::layout::empty;
+    use crate::naive::layout::{empty, isolated};
     use crate::naive::play::play;
     use crate::written::is_read_back;
 
@@ -256,19 +276,39 @@ mod tests {
         }
     }
 
+    /// The last graph of a list is the one of the family whose turn it is.
     #[test]
-    fn graphs_with_ties_are_laid_from_every_vertex() {
+    fn graphs_with_ties_and_isolated_vertices_are_laid_from_every_vertex() {
         for made in lists("lay from every vertex") {
             let lines = play(&made.bytes);
             let lines: Vec<&str> = lines.lines().collect();
             let starts = lines.split(|line| is_start(line)).skip(1);
-            for behind in starts.take(made.graphs.len()) {
+            let laid = &made.graphs[..made.graphs.len() - 1];
+            let mut isolated = families::with_isolated().iter();
+            assert!(isolated.any(|family| laid.last() == Some(&family.name)));
+            for behind in starts.take(laid.len()) {
                 let lays = |start: &str| behind.iter().filter(|l| l.starts_with(start)).count();
                 let n = behind[0].split(" n ").nth(1).expect("a line has n");
                 let n = n.split(' ').next().expect("a number");
                 assert_eq!(lays("lay 0 ").to_string(), n);
                 assert_eq!(lays("lay 12 "), 1);
             }
+        }
+    }
+
+    #[test]
+    fn every_family_is_laid_in_its_turn_from_an_isolated_vertex_if_there_is_one() {
+        for (index, family) in families::all().iter().enumerate() {
+            let mut maker = Maker::new(Rng::new(1, "turn", index), &Known::all());
+            maker.lay_in_turn(index);
+            assert_eq!(maker.graphs, [family.name]);
+            let lines = play(&maker.bytes);
+            let step = steps(&maker.bytes, &lines).last().expect("a lay");
+            let Entry::Record([LAY, start, ..]) = step.entry else {
+                panic!("{}", step.line);
+            };
+            let isolated = isolated(&step.before);
+            assert!(isolated.is_empty() || isolated.contains(&(start as usize)));
         }
     }
 

@@ -8,6 +8,7 @@ use super::layout::{crossings, edges, empty, list, Edge, Layout};
 use super::list::listing;
 use super::play::play;
 use crate::make::charts::Chart;
+use crate::make::families;
 use crate::make::five;
 use crate::make::graph::{all_pairs, vertices, Graph};
 use crate::rng::Rng;
@@ -164,6 +165,20 @@ fn only_isolated_vertices_move_in_graphs_of_five_vertices() {
     let starts = (0..five::GRAPHS).flat_map(|number| (0..5).map(move |v| (number, v)));
     let differ = starts.filter(|&(number, v)| only_isolated_vertices_move(&five::graph(number), v));
     assert!(differ.count() > 100);
+}
+
+#[test]
+fn only_isolated_vertices_move_in_random_graphs() {
+    for family in families::with_isolated() {
+        let mut differ = 0;
+        for index in 0..100 {
+            let mut rng = Rng::new(1, family.name, index);
+            let graph = family.graph(&mut rng, 64);
+            let start = rng.below(graph.n());
+            differ += usize::from(only_isolated_vertices_move(&graph, start));
+        }
+        assert_eq!(differ > 10, family.name != "no edges", "{}", family.name);
+    }
 }
 
 /// A closing and an open edge that cross at the end taken do cross in the end:

@@ -3,7 +3,7 @@
 use std::collections::BTreeSet;
 use std::ops::RangeInclusive;
 
-use super::{writes, Counts, Quarters, Tally};
+use super::{lays, writes, Counts, Quarters, Tally};
 use crate::make::ops::{Known, ORDER, WRITE};
 use crate::make::{charts, families, lists, starts};
 
@@ -28,6 +28,7 @@ impl Tally {
         if known.has(ORDER) {
             missing.extend(without("buffer of", 0..=65, &self.buffers));
         }
+        missing.extend(absent("lay", lays::due(known), &self.lays));
         missing.extend(absent("write", writes::due(known), &self.writes));
         if known.has(WRITE) {
             missing.extend(without("write of size", 0..=64, &self.written_sizes));
@@ -110,19 +111,21 @@ fn without(title: &str, numbers: RangeInclusive<usize>, met: &BTreeSet<usize>) -
 #[cfg(test)]
 mod tests {
     use super::*;
-    use crate::make::ops::{ADD, LINK, SET_COUNT, SET_N};
+    use crate::make::ops::{ADD, LAY, LINK, SET_COUNT, SET_N, SET_ORDER};
     use crate::make::records;
 
     /// What there is of each: kinds of list, of which two need lay, ways to
     /// start, of which one needs add and three chart, and families of graphs.
     const LISTS: usize = 5;
     const STARTS: usize = 10;
-    const GRAPHS: usize = 15;
+    const GRAPHS: usize = 16;
     /// Calls, and their answers; those of charts.
     const CALLS: usize = 12;
     const ANSWERS: usize = 47;
     const LISTINGS: usize = 9;
-    /// What is to occur of charts that are written, one of which needs chart.
+    /// What is to occur of lays, and of charts that are written, one of which
+    /// needs chart.
+    const LAYS: usize = 6;
     const WRITES: usize = 9;
 
     fn list(records: &[[u64; 4]]) -> lists::Made {
@@ -163,7 +166,7 @@ mod tests {
         let of_charts = LISTINGS + 3 + GRAPHS + 65 + 4;
         let of_lists = ANSWERS + 4 * CALLS + LISTS + STARTS + GRAPHS + 65 + 66;
         let of_writes = WRITES + 65;
-        let of_all = of_charts + of_lists + of_writes;
+        let of_all = of_charts + of_lists + LAYS + of_writes;
         assert_eq!(missing(&Tally::default()).len(), of_all);
         let few = Known::parse("add,order").expect("known names");
         let of_few = 6 + 4 * 2 + (LISTS - 2) + (STARTS - 3) + GRAPHS + 65 + 66;
@@ -233,6 +236,18 @@ mod tests {
         tally.chart(&chart(), "refused 3\n");
         assert_eq!(tally.without_naive(), (1, 0));
         assert!(tally.text().contains("answers of order:, 18 1\n"));
+    }
+
+    #[test]
+    fn isolated_vertices_are_met_by_an_accepted_lay() {
+        let records = [[SET_N, 2, 0, 0], [SET_ORDER, 1, 1, 0], [LAY, 1, 0, 0]];
+        let line = "lay 0 0 n 2 order 1 0 count 0 words\n";
+        let accepted = met(|tally| tally.list(&list(&records), line));
+        let due = "lay, two vertices or more, all isolated".to_string();
+        assert!(accepted.contains(&due));
+        let line = "lay 12 0 n 2 order 0 1 count 0 words\n";
+        let refused = met(|tally| tally.list(&list(&records), line));
+        assert!(!refused.contains(&due));
     }
 
     /// The empty layout's chart, as a list has it and as a line shows it.

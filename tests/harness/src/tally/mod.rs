@@ -1,5 +1,6 @@
 //! How often each thing occurred in a run.
 
+mod lays;
 mod missing;
 mod writes;
 
@@ -43,6 +44,8 @@ pub struct Tally {
     call_quarters: BTreeMap<String, Quarters>,
     /// The lengths of buffers lent for an order.
     buffers: BTreeSet<usize>,
+    /// What occurred of isolated vertices in accepted lays.
+    lays: Counts,
     /// What occurred of charts that were written, and the numbers of vertices
     /// in those layouts.
     writes: Counts,
@@ -110,6 +113,11 @@ impl Tally {
             "order" => {
                 self.buffers.insert(numbers(step.line, " buffer ").len());
             }
+            "lay" if refusal == 0 => {
+                for sort in lays::met(step) {
+                    add(&mut self.lays, sort);
+                }
+            }
             "write" => self.write(step, refusal),
             _ => {}
         }
@@ -145,6 +153,7 @@ impl Tally {
             ("list", &self.lists),
             ("start", &self.starts),
             ("graph in lists", &self.list_graphs),
+            ("lay", &self.lays),
             ("write", &self.writes),
         ] {
             for (name, times) in counts {
