@@ -2,7 +2,7 @@
 
 use std::hint::black_box;
 
-use layouts::{chart, fan, layout, pairs};
+use layouts::{chart, fan, layout, pairs, with_isolated};
 use rostulanda::{PLACES, WRITTEN_CHART_BYTES};
 use second::calls;
 use second::layout::Layout;
@@ -195,15 +195,23 @@ fn written_charts(rows: &mut Rows) -> Outcome {
     Ok(())
 }
 
-/// Laying 64 vertices with 1,000 edges.
+/// Laying 64 vertices: with 1,000 edges, and half of them without edges.
 fn appending(rows: &mut Rows) -> Outcome {
-    let l = layout(64, 1000);
-    let lent = fields(&l);
-    rows.two(
-        "lay, 64 vertices, 1000 edges",
-        || proved::greedy_append(&lent, 5),
-        || calls::greedy_append(l, 5),
-    )
+    for (vertices, l) in [
+        ("64 vertices, 1000 edges", layout(64, 1000)),
+        (
+            "64 vertices, 250 edges between 32",
+            with_isolated(layout(32, 250)),
+        ),
+    ] {
+        let lent = fields(&l);
+        rows.two(
+            &format!("lay, {vertices}"),
+            || proved::greedy_append(&lent, 5),
+            || calls::greedy_append(l, 5),
+        )?;
+    }
+    Ok(())
 }
 
 /// Sifting 64 vertices with 1,000 edges.

@@ -256,7 +256,8 @@ uint8_t rl_remove_edge(rl_layout *l, size_t a, size_t b);
  * Refused: 12, 13. */
 uint8_t rl_move_after(rl_layout *l, size_t a, size_t b);
 
-/* Makes a new order by greedy append from a first vertex (lay from s).
+/* Makes a new order by greedy append from a first vertex (lay from s). The
+ * vertices without edges stand last, in rising number, but for the first.
  * Refused: 12. */
 rl_tally rl_greedy_append(rl_layout *l, size_t start);
 

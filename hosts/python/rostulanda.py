@@ -387,7 +387,8 @@ class Layout:
     def greedy_append(self, start: int) -> int:
         """Makes a new order by greedy append from a first vertex (document 01: lay from s).
 
-        Gives the tally of the crossings at the ends taken.
+        The vertices without edges stand last, in rising number, but for the
+        first. Gives the tally of the crossings at the ends taken.
         """
         answer = _library.rl_greedy_append(self.fields, _vertex(start))
         _accept(answer.refusal)

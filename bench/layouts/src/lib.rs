@@ -25,6 +25,15 @@ pub fn fan() -> Layout {
     Layout::new(&order, &all.chain(next).collect::<Vec<_>>())
 }
 
+/// A layout with vertices without edges behind the others, up to 64.
+pub fn with_isolated(mut layout: Layout) -> Layout {
+    for v in layout.n as u8..64 {
+        layout.order[usize::from(v)] = v;
+    }
+    layout.n = 64;
+    layout
+}
+
 /// The edges, or the pairs that aren't edges.
 pub fn pairs(layout: &Layout, are_edges: bool) -> Vec<(u64, u64)> {
     let pairs = |a| (a + 1..layout.n).map(move |b| (a, b));
