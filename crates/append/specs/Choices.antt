@@ -12,7 +12,7 @@ use Rattle.model.specs.Lists.{upto, keep, member}
 use Rattle.model.specs.GreedyAppend.{unplaced, waiting, isolated, hasEdges, degreeIn, preferred, bestOf, nextVertex}
 use Rattle.laws.specs.Sums.Lists.{keep-append}
 use Rattle.laws.specs.Sums.Bits.{maskedOnes-le}
-use Rattle.laws.specs.Append.Order.{Placed, next-waiting}
+use Rattle.laws.specs.Append.Order.{Placed, unplaced-next, next-waiting}
 use Rattle.choice.specs.declared.Choice.{Choice}
 use Rattle.choice.specs.Choices.{comesBefore, preferredOf, candidate, consideredOf, noChoice, bestBelow}
 use Rattle.choice.specs.Choices.{complement}
@@ -54,47 +54,43 @@ module _ {n : ℕ} {adj : List ℕ} (w : Words n adj) {xs : List ℕ} (p : Place
   candidate-counts v l =
       ap₂ (λ (a b : ℕ). record { vertex = v; placed = a; unplaced = b }) (inside-count w p h v) (outside-count w p h v l)
 
-  best-choice : (k : ℕ) → k ≤ n → bestBelow n adj m k ≡ choiceOf n adj xs (keep (hasEdges adj) (keep (λ v. not (member v xs)) (upto k)))
-  unfolding bestBelow choiceOf upto keep consideredOf hasEdges isolated
+  best-choice : (k : ℕ) → k ≤ n → bestBelow n adj m k ≡ choiceOf n adj xs (waiting k (hasEdges adj) xs)
+  unfolding bestBelow choiceOf unplaced waiting upto keep consideredOf hasEdges isolated
   best-choice zero l = refl
   best-choice (suc k) l =
       ap (λ (c : Choice). consideredOf c k (getD adj k 0) m) (best-choice k (le-of-lt l))
       ∙ ap₂ (λ (t : Bool) (c : Choice). cond (isolated adj k) so-far (cond t so-far (preferredOf so-far c)))
       (placed-test (w .small) p h k l) (candidate-counts k l)
       ∙ by-tests (isolated adj k) (member k xs) refl
-      ∙ ap (choiceOf n adj xs) (sym (keep-append (hasEdges adj) free (cond (not (member k xs)) (k ∷ []) [])))
-      ∙ ap (λ (vs : List ℕ). choiceOf n adj xs (keep (hasEdges adj) vs)) (sym (keep-append (λ v. not (member v xs)) (upto k) (k ∷ [])))
+      ∙ ap (choiceOf n adj xs)
+      (sym (ap (keep (hasEdges adj)) (unplaced-next k xs) ∙ keep-append (hasEdges adj) (unplaced k xs) (cond (not (member k xs)) (k ∷ []) [])))
     where
-      free : List ℕ
-      free = keep (λ v. not (member v xs)) (upto k)
+      before : List ℕ
+      before = waiting k (hasEdges adj) xs
 
       so-far : Choice
-      so-far = choiceOf n adj xs (keep (hasEdges adj) free)
+      so-far = choiceOf n adj xs before
 
       -- nothing more to choose from
-      same : so-far ≡ choiceOf n adj xs (keep (hasEdges adj) free ++ [])
-      same = ap (choiceOf n adj xs) (sym (append-nil (keep (hasEdges adj) free)))
+      same : so-far ≡ choiceOf n adj xs (before ++ [])
+      same = ap (choiceOf n adj xs) (sym (append-nil before))
 
       by-tests : (i t : Bool) → isolated adj k ≡ i
           → cond i so-far (cond t so-far (preferredOf so-far (counts n adj xs k)))
-          ≡ choiceOf n adj xs (keep (hasEdges adj) free ++ keep (hasEdges adj) (cond (not t) (k ∷ []) []))
+          ≡ choiceOf n adj xs (before ++ keep (hasEdges adj) (cond (not t) (k ∷ []) []))
       by-tests true true e = same
       by-tests true false e = rw e same
       by-tests false true e = same
       by-tests false false e =
           let few = le-trans (le-of-eq (sym (outside-count w p h k l))) (maskedOnes-le (getD adj k 0) (complement m)) in
-          rw e (choice-last n adj xs (keep (hasEdges adj) free) k few)
+          rw e (choice-last n adj xs before k few)
 
   abbrev candidates : List ℕ
   candidates = waiting n (hasEdges adj) xs
 
-  best-waiting : bestBelow n adj m n ≡ choiceOf n adj xs candidates
-  unfolding waiting unplaced
-  best-waiting = best-choice n (le-refl n)
-
   module _ {v : ℕ} (e : v ≡ bestBelow n adj m n .vertex) where
     chosen : v ≡ choiceOf n adj xs candidates .vertex
-    chosen = e ∙ ap (λ (c : Choice). c .vertex) best-waiting
+    chosen = e ∙ ap (λ (c : Choice). c .vertex) (best-choice n (le-refl n))
 
     -- a vertex was found: it is the next one
     pub next-found : v < n → (0 < length candidates) × (v ≡ nextVertex n adj xs candidates)

@@ -74,7 +74,7 @@ pub record Underway (n : ℕ) (s : Partial) : Type 0 where
   pub bounded : s .tally ≤ 262144 * s .line .size
 
 -- r is s with v placed
-pub record Stepped (n : ℕ) (adj : List ℕ) (s : Partial) (v : ℕ) (r : Partial) : Type 0 where
+record Stepped (n : ℕ) (adj : List ℕ) (s : Partial) (v : ℕ) (r : Partial) : Type 0 where
   pub underway : Underway n r
   pub size : r .line .size ≡ s .line .size + 1
   pub step : placingOf r ≡ placeVertex n adj (placingOf s) v
@@ -94,13 +94,13 @@ module _ {n : ℕ} {adj : List ℕ} {s : Partial} (w : Words n adj) (u : Underwa
   at-front : Placed n (v ∷ entries (s .line))
   at-front = placed-front (u .part .order) (q .below) (q .free)
 
-  pub step-room : s .line .size < n
+  step-room : s .line .size < n
   step-room = omega (arith, entries-length (u .part .centred), placed-count at-front)
 
   room : s .line .size < 64
   room = omega (arith, step-room, w .small)
 
-  pub step-fits : Fitting s v
+  step-fits : Fitting s v
   step-fits =
       record {
         centred = u .part .centred;
@@ -200,7 +200,7 @@ module _ {n : ℕ} {adj : List ℕ} {s : Partial} (w : Words n adj) (u : Underwa
       longer : length (entries (s .line) ++ (v ∷ [])) ≡ suc (length (entries (s .line)))
       longer = length-append (entries (s .line)) (v ∷ []) ∙ omega arith
 
-  pub step-right : Stepped n adj s v (placedOf adj s v)
+  step-right : Stepped n adj s v (placedOf adj s v)
   unfolding placedOf putOf
   step-right =
       elim (order (ends .front) (ends .back)) [

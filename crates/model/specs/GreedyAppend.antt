@@ -75,6 +75,7 @@ unfoldable pub alone : ℕ → Placing
 alone s = record { placed = s ∷ []; tally = 0 }
 
 module _ (n : ℕ) (adj : List ℕ) where
+  -- v at an end, with the crossings that it makes there
   unfoldable pub placeFront : Placing → ℕ → Placing
   placeFront s v = record { placed = v ∷ s .placed; tally = s .tally + frontCrossings n adj (s .placed) v }
 

@@ -57,7 +57,7 @@ module _ (n : ℕ) (adj : List ℕ) where
     pub size : length (s .placed) ≡ m
     pub tallied : s .tally ≡ crossingsMet (weight adj) (openTo adj (unplaced n (s .placed))) (s .placed)
 
-  pub laid-start : (s : ℕ) → s < n → Laid 1 (alone s)
+  laid-start : (s : ℕ) → s < n → Laid 1 (alone s)
   unfolding alone
   laid-start s h = record { order = placed-start h; size = refl; tallied = sym (met-start (weight adj) (openTo adj (unplaced n (s ∷ []))) s) }
 
@@ -115,7 +115,7 @@ module _ {n : ℕ} (adj : List ℕ) (symmetry : Symmetric n (weight adj)) where
         }
 
   -- k steps place k more of those that pass
-  pub laid-more : (p : ℕ → Bool) (k : ℕ) {m : ℕ} {s : Placing} → k ≤ length (waiting n p (s .placed)) → Laid n adj m s
+  laid-more : (p : ℕ → Bool) (k : ℕ) {m : ℕ} {s : Placing} → k ≤ length (waiting n p (s .placed)) → Laid n adj m s
       → Laid n adj (m + k) (placeMore n adj p k s) × (length (waiting n p (placeMore n adj p k s .placed)) + k ≡ length (waiting n p (s .placed)))
   unfolding placeMore
   laid-more p zero {m} {s} h laid = (subst (λ (j : ℕ). Laid n adj j s) (omega arith) laid, omega arith)

@@ -13,7 +13,7 @@ use Rattle.model.specs.Lists.{one, upto, any, keep, sumOver, member, occurrence
 use Rattle.model.specs.GreedyAppend.{unplaced, waiting, preferred, bestOf, nextVertex}
 use Rattle.laws.specs.Sums.Indicators.{one-eq, one-ne, one-lt, one-le, eqb-swap}
 use Rattle.laws.specs.Sums.Ranges.{sum, sum-ext, sum-add, sum-const, sum-at, all-one}
-use Rattle.laws.specs.Sums.Lists.{All, none, also, all-append, all-at, all-mono, all-kept, all-upto, keep-keep, sumOver-keep, sumOver-places}
+use Rattle.laws.specs.Sums.Lists.{All, none, also, all-append, all-at, all-mono, all-kept, all-upto, keep-append, keep-keep, sumOver-keep}
 use Rattle.laws.specs.Sums.Lists.{sumOver-upto, keep-swap, length-keep, keep-whole}
 use Rattle.laws.specs.Orders.Permutations.{at, Permutation, occurrences-nil, occurrences-cons, occurrences-append, member-occurs, occurrences-total}
 use Rattle.laws.specs.Sums.Any.{any-append}
@@ -70,7 +70,7 @@ not-member v xs e = member-occurs v xs ∙ le-ltb 0 (occurrences v xs) (omega ar
 
 module _ (n : ℕ) (xs : List ℕ) where
   -- each of them is below n and does not occur among the placed
-  pub all-unplaced : All (λ v. (v < n) × (occurrences v xs ≡ 0)) (unplaced n xs)
+  all-unplaced : All (λ v. (v < n) × (occurrences v xs ≡ 0)) (unplaced n xs)
   unfolding unplaced
   all-unplaced =
       all-mono (all-kept (λ v. not (member v xs)) (all-upto n))
@@ -81,6 +81,15 @@ module _ (n : ℕ) (xs : List ℕ) where
   unfolding unplaced
   sumOver-unplaced f =
       sumOver-keep f (λ v. not (member v xs)) (upto n) ∙ sumOver-upto (λ v. one (not (member v xs)) * f v) n
+
+  pub unplaced-length : length (unplaced n xs) ≡ sum n (λ v. one (not (member v xs)))
+  unfolding unplaced
+  unplaced-length = length-keep (λ v. not (member v xs)) (upto n) ∙ sumOver-upto (λ v. one (not (member v xs))) n
+
+  -- with one vertex more
+  pub unplaced-next : unplaced (suc n) xs ≡ unplaced n xs ++ cond (not (member n xs)) (n ∷ []) []
+  unfolding unplaced upto keep
+  unplaced-next = keep-append (λ v. not (member v xs)) (upto n) (n ∷ [])
 
   -- those other than v
   abbrev pub unplacedBut : ℕ → List ℕ
@@ -151,17 +160,14 @@ module _ {n : ℕ} {xs : List ℕ} (p : Placed n xs) where
   pub placed-count : length (unplaced n xs) + length xs ≡ n
   unfolding one
   placed-count =
-      ap₂ (λ (a b : ℕ). a + b)
-      (sym (sumOver-places (λ v. 1) 0 (unplaced n xs) ∙ sum-const (length (unplaced n xs)) 1 ∙ mul-one (length (unplaced n xs)))
-      ∙ sumOver-unplaced n xs (λ v. 1))
-      (sym (total p))
-      ∙ sym (sum-add n (λ v. one (not (member v xs)) * 1) (λ v. occurrences v xs))
-      ∙ sum-ext n (λ v. one (not (member v xs)) * 1 + occurrences v xs) (λ v. 1)
+      ap₂ (λ (a b : ℕ). a + b) (unplaced-length n xs) (sym (total p))
+      ∙ sym (sum-add n (λ v. one (not (member v xs))) (λ v. occurrences v xs))
+      ∙ sum-ext n (λ v. one (not (member v xs)) + occurrences v xs) (λ v. 1)
       (λ v h. rw (member-occurs v xs) (by-number (occurrences v xs) (p .once v)))
       ∙ sum-const n 1
       ∙ mul-one n
     where
-      by-number : (k : ℕ) → k ≤ 1 → one (not (ltb 0 k)) * 1 + k ≡ 1
+      by-number : (k : ℕ) → k ≤ 1 → one (not (ltb 0 k)) + k ≡ 1
       by-number zero h = refl
       by-number (suc zero) h = refl
       by-number (suc (suc k)) h = absurd (omega arith)
