@@ -2,13 +2,12 @@
 use Prim.Native.Nat.{ℕ, _+_, _*_}
 use native.Mathlib.Omega.{arith}
 use mathlib.Core.Path.{_≡_, refl, sym, ap, _∙_}
-use mathlib.Core.Bool.{Bool, true, false, true≢false, cond, _&&_}
+use mathlib.Core.Bool.{Bool, true, false, cond, _&&_, _||_, and-false}
 use mathlib.Core.List.{List, [], _∷_}
-use lib.Dec.{eqb, ltb}
-use Rattle.model.specs.Lists.{one, keep, sumOver, sumPairs, member, occurrences}
-use Rattle.laws.specs.Sums.Indicators.{one-ne}
-use Rattle.laws.specs.Sums.Lists.{All, sumOver-ext, sumOver-keep, sumOver-scale, sumPairs-ext, keep-keep, all-places}
-use Rattle.laws.specs.Orders.Permutations.{member-occurs}
+use lib.Dec.{eqb}
+use borrow.Author.Tests.{eqb-true}
+use Rattle.model.specs.Lists.{one, any, keep, sumOver, sumPairs, member}
+use Rattle.laws.specs.Sums.Lists.{All, sumOver-ext, sumOver-keep, sumOver-scale, sumPairs-ext}
 
 -- a term that is 0 where a test fails has the test as a factor already
 factor : (b : Bool) (c : ℕ) → (b ≡ false → c ≡ 0) → one b * c ≡ c
@@ -17,17 +16,7 @@ factor true c h = omega arith
 factor false c h = omega (arith, h refl)
 
 module _ {A : Type 0} where
-  -- those that pass a narrower test as well
-  pub keep-narrower : (p q : A → Bool) → ((x : A) → q x ≡ true → p x ≡ true) → (xs : List A) → keep q (keep p xs) ≡ keep q xs
-  keep-narrower p q narrower xs = keep-keep q p xs ∙ (λ i. keep (λ x. both (p x) (q x) (narrower x) i) xs)
-    where
-      both : (a b : Bool) → (b ≡ true → a ≡ true) → (a && b) ≡ b
-      both true b h = refl
-      both false true h = h refl
-      both false false h = refl
-
-  -- ---- sums of terms that are 0 where an entry does not pass
-
+  -- sums of terms that are 0 where an entry does not pass
   pub sumOver-kept : {P : A → Type 0} (p : A → Bool) (f : A → ℕ) {xs : List A} → All P xs → ((x : A) → P x → p x ≡ false → f x ≡ 0)
       → sumOver f xs ≡ sumOver f (keep p xs)
   sumOver-kept p f {xs} all zero =
@@ -52,13 +41,15 @@ module _ {A : Type 0} where
       ∙ sumPairs-ext (λ x y. one (p x) * (one (p y) * f x y)) f all
       (λ x y q r. ap (λ (c : ℕ). one (p x) * c) (factor (p y) (f x y) (second x y q r)) ∙ factor (p x) (f x y) (first x y q r)))
 
--- what passes is an entry of the whole list if it is one of those kept
-pub member-kept : (p : ℕ → Bool) (v : ℕ) → p v ≡ true → (xs : List ℕ) → member v xs ≡ member v (keep p xs)
-unfolding occurrences
-member-kept p v t xs =
-    member-occurs v xs
-    ∙ ap (ltb 0) (sumOver-kept {P = λ x. Unit {0}} p (λ x. one (eqb v x)) (all-places xs (λ i l. tt)) (λ x q f. other x f))
-    ∙ sym (member-occurs v (keep p xs))
+-- the entries that are kept are those that pass
+pub member-keep : (q : ℕ → Bool) (v : ℕ) (xs : List ℕ) → member v (keep q xs) ≡ (q v && member v xs)
+unfolding member any keep
+member-keep q v [] = sym (and-false (q v))
+member-keep q v (x ∷ xs) = by-test (q x) (eqb v x) refl refl (member-keep q v xs)
   where
-    other : (x : ℕ) → p x ≡ false → one (eqb v x) ≡ 0
-    other x f = one-ne v x (λ e. true≢false (sym t ∙ ap p e ∙ f))
+    by-test : (k t : Bool) → q x ≡ k → eqb v x ≡ t → any (eqb v) (keep q xs) ≡ (q v && any (eqb v) xs)
+        → any (eqb v) (cond k (x ∷ keep q xs) (keep q xs)) ≡ (q v && (t || any (eqb v) xs))
+    by-test true true e same rest = rw (same, ap q (eqb-true v x same) ∙ e)
+    by-test true false e same rest = rw same rest
+    by-test false true e same rest = rest ∙ rw (ap q (eqb-true v x same) ∙ e)
+    by-test false false e same rest = rest

@@ -1,7 +1,7 @@
 -- Lay and the former rule: open AsFormerly first.
 -- Kept: lists of which some entries are kept. Choices: if the best vertex of a list passes a test, it is the best of those that pass.
 -- Unseen: isolated vertices among the placed ones change neither the next vertex with edges nor the crossings at an end.
--- Runs: so without their isolated vertices both rules place the same list. AsFormerly: the call, by either rule.
+-- Runs: so the rule's list is the former one with the isolated vertices, but for the start, at the back. AsFormerly: the call, by either rule.
 pub mod Kept
 pub mod Choices
 pub mod Unseen

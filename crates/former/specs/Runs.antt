@@ -1,37 +1,71 @@
--- The rule and the former one, step by step: without their isolated vertices the two place the same list and have the same tally.
+-- The former rule, step by step: but for isolated vertices it places what the rule places, at the same ends and with the same tally.
 use Prim.Native.Nat.{ℕ, zero, suc, _-_, _<_}
 use native.Mathlib.Nat.{add-zero}
 use native.Mathlib.Omega.{arith}
 use mathlib.Core.Path.{_≡_, refl, sym, ap, ap₂, _∙_}
-use mathlib.Core.Bool.{Bool, true, false, not, cond}
-use mathlib.Core.List.{List, [], _∷_, append-nil}
+use mathlib.Core.Bool.{Bool, true, false, not, cond, _&&_, _||_, and-true, and-false, or-true}
+use mathlib.Core.List.{List, [], _∷_, _++_, append-nil}
 use lib.ListN.{length}
-use lib.Dec.{ltb}
-use Rattle.model.specs.Lists.{keep}
+use lib.Dec.{eqb, ltb}
+use borrow.Author.Tests.{eq-eqb, ne-eqb, eqb-true, lt-ltb}
+use Rattle.model.specs.Lists.{upto, keep, member, occurrences}
 use Rattle.model.specs.GreedyAppend.{unplaced, waiting, isolated, hasEdges, nextVertex, frontCrossings, backCrossings}
-use Rattle.model.specs.GreedyAppend.{Placing, alone, placeFront, placeBack, placeVertex, placeMore, placeAtBack, placeLinked, placeAll, formerPlaceAll}
-use Rattle.laws.specs.Sums.Lists.{All, none, also, all-append, all-mono, keep-append, keep-true, keep-split}
+use Rattle.model.specs.GreedyAppend.{Placing, alone, placeFront, placeBack, placeVertex, placeMore, placeLinked, placeAll, formerPlaceAll, stays}
+use Rattle.laws.specs.Sums.Indicators.{one-eq}
+use Rattle.laws.specs.Sums.Lists.{All, none, also, all-append, all-mono, keep-append, keep-keep, keep-true, keep-split}
 use Rattle.laws.specs.Sums.Pairs.{Symmetric}
+use Rattle.laws.specs.Orders.Permutations.{Permutation, occurrences-cons, occurrences-append, member-occurs}
 use Rattle.laws.specs.Crossings.Edges.{weight}
-use Rattle.laws.specs.Append.Order.{placed-start, placed-count, Waiting, all-waiting, next-waiting, waiting-less}
-use Rattle.laws.specs.Append.Order.{unplaced-front}
-use Rattle.laws.specs.Append.Isolated.{front-none, back-none}
+use Rattle.laws.specs.Append.Order.{placed-start, placed-count, Waiting, all-waiting, next-waiting, waiting-less, unplaced-front}
+use Rattle.laws.specs.Append.Isolated.{front-none, back-none, at-back}
 use Rattle.laws.specs.Append.Calls.{either-end, step-unplaced}
-use Rattle.former.specs.Kept.{keep-narrower}
+use Rattle.former.specs.Kept.{member-keep}
 use Rattle.former.specs.Choices.{next-kept}
-use Rattle.former.specs.Unseen.{withEdges, waiting-seen, next-seen, front-seen, back-seen}
+use Rattle.former.specs.Unseen.{Dropping, waiting-seen, next-seen, front-seen, back-seen}
 
 abbrev placing : List ℕ → ℕ → Placing
 placing xs t = record { placed = xs; tally = t }
 
--- the list so far without its isolated vertices, and the tally
-abbrev pub linkedPart : List ℕ → Placing → Placing
-linkedPart adj s = placing (withEdges adj (s .placed)) (s .tally)
+module _ (n : ℕ) (adj : List ℕ) (start : ℕ) where
+  -- the list so far without the others, and the tally
+  abbrev stayingPart : Placing → Placing
+  stayingPart s = placing (keep (stays adj start) (s .placed)) (s .tally)
 
-module _ (n : ℕ) (adj : List ℕ) where
+  -- the list with all others at the back, in rising number
+  abbrev pub restAtBack : Placing → Placing
+  restAtBack s = placing (keep (stays adj start) (s .placed) ++ keep (λ v. not (stays adj start v)) (upto n)) (s .tally)
+
+  dropping : Dropping adj (stays adj start)
+  unfolding stays
+  dropping = record { dropped = λ v e. by-test (hasEdges adj v) (eqb v start) e }
+    where
+      by-test : (a b : Bool) → (a || b) ≡ false → a ≡ false
+      by-test false b e = refl
+      by-test true b e = e
+
+  linked-stays : (v : ℕ) → hasEdges adj v ≡ true → stays adj start v ≡ true
+  unfolding stays
+  linked-stays v e = rw e
+
+  lone-goes : (v : ℕ) → hasEdges adj v ≡ false → (v ≡ start → ⊥) → stays adj start v ≡ false
+  unfolding stays
+  lone-goes v e d = rw (e, ne-eqb v start d)
+
   -- ---- a step
 
-  module _ (v : ℕ) where
+  -- the start is placed
+  record Started (s : Placing) : Type 0 where
+    below : All (λ x. x < n) (s .placed)
+    first : 0 < occurrences start (s .placed)
+
+  module _ (v : ℕ) (s : Placing) where
+    step-started : Started s → v < n → Started (placeVertex n adj s v)
+    unfolding placeFront placeBack
+    step-started t h =
+        either-end n adj Started s v
+        (record { below = also h (t .below); first = omega (arith, t .first, occurrences-cons start v (s .placed)) })
+        (record { below = all-append (t .below) (also h none); first = omega (arith, t .first, occurrences-append start (s .placed) (v ∷ [])) })
+
     -- does v meet fewer crossings at the front? And v put there, or at the back
     abbrev frontFewer : List ℕ → Bool
     frontFewer xs = ltb (frontCrossings n adj xs v) (backCrossings n adj xs v)
@@ -39,45 +73,30 @@ module _ (n : ℕ) (adj : List ℕ) where
     abbrev placedAt : Bool → Placing → Placing
     placedAt front s = cond front (placeFront n adj s v) (placeBack n adj s v)
 
-    module _ (s : Placing) where
-      step-below : All (λ x. x < n) (s .placed) → v < n → All (λ x. x < n) (placeVertex n adj s v .placed)
-      unfolding placeFront placeBack
-      step-below below h = either-end n adj (λ t. All (λ x. x < n) (t .placed)) s v (also h below) (all-append below (also h none))
+    -- an isolated one changes nothing for those that stay
+    lone-next : hasEdges adj v ≡ false → (v ≡ start → ⊥) → stayingPart (placeVertex n adj s v) ≡ stayingPart s
+    unfolding placeVertex placeBack keep
+    lone-next lone d =
+        ap (λ (b : Bool). stayingPart (placedAt b s)) (ap₂ ltb (front-none adj v lone n (s .placed)) (back-none adj v lone n (s .placed)))
+        ∙ ap₂ placing (keep-append (stays adj start) (s .placed) (v ∷ []) ∙ rw (lone-goes v lone d) (append-nil _))
+        (rw (back-none adj v lone n (s .placed)) (add-zero _))
 
-      -- an isolated one changes nothing for those with edges
-      module _ (lone : hasEdges adj v ≡ false) where
-        lone-back : linkedPart adj (placeBack n adj s v) ≡ linkedPart adj s
-        unfolding placeBack keep
-        lone-back =
-            ap₂ placing (keep-append (hasEdges adj) (s .placed) (v ∷ []) ∙ rw lone (append-nil _)) (rw (back-none adj v lone n (s .placed)) (add-zero _))
+    -- one with edges goes to the end that it goes to without the others
+    linked-next : Symmetric n (weight adj) → All (λ x. x < n) (s .placed) → v < n → hasEdges adj v ≡ true
+        → stayingPart (placeVertex n adj s v) ≡ placeVertex n adj (stayingPart s) v
+    unfolding placeVertex placeFront placeBack keep
+    linked-next symmetry below h linked =
+        ap (λ (b : Bool). stayingPart (placedAt b s)) (ap₂ ltb front back) ∙ by-test (frontFewer (stayingPart s .placed))
+      where
+        front : frontCrossings n adj (s .placed) v ≡ frontCrossings n adj (stayingPart s .placed) v
+        front = front-seen symmetry dropping below h
 
-        lone-next : linkedPart adj (placeVertex n adj s v) ≡ linkedPart adj s
-        unfolding placeVertex
-        lone-next =
-            ap (λ (b : Bool). linkedPart adj (placedAt b s)) (ap₂ ltb (front-none adj v lone n (s .placed)) (back-none adj v lone n (s .placed)))
-            ∙ lone-back
+        back : backCrossings n adj (s .placed) v ≡ backCrossings n adj (stayingPart s .placed) v
+        back = back-seen symmetry dropping below h
 
-      -- one with edges goes to the end that it goes to without the isolated ones
-      linked-next : Symmetric n (weight adj) → All (λ x. x < n) (s .placed) → v < n → hasEdges adj v ≡ true
-          → linkedPart adj (placeVertex n adj s v) ≡ placeVertex n adj (linkedPart adj s) v
-      unfolding placeVertex placeFront placeBack keep
-      linked-next symmetry below h linked =
-          ap (λ (b : Bool). linkedPart adj (placedAt b s)) (ap₂ ltb front back) ∙ by-test (frontFewer (withEdges adj (s .placed)))
-        where
-          front : frontCrossings n adj (s .placed) v ≡ frontCrossings n adj (withEdges adj (s .placed)) v
-          front = front-seen adj symmetry below h
-
-          back : backCrossings n adj (s .placed) v ≡ backCrossings n adj (withEdges adj (s .placed)) v
-          back = back-seen adj symmetry below h
-
-          by-test : (b : Bool) → linkedPart adj (placedAt b s) ≡ placedAt b (linkedPart adj s)
-          by-test true = ap₂ placing (rw linked) (rw front)
-          by-test false = ap₂ placing (keep-append (hasEdges adj) (s .placed) (v ∷ []) ∙ rw linked) (rw back)
-
-  lone-at-back : {vs : List ℕ} → All (λ v. hasEdges adj v ≡ false) vs → (s : Placing) → linkedPart adj (placeAtBack n adj s vs) ≡ linkedPart adj s
-  unfolding placeAtBack
-  lone-at-back none s = refl
-  lone-at-back (also {x = v} h hs) s = lone-at-back hs (placeBack n adj s v) ∙ lone-back v s h
+        by-test : (b : Bool) → stayingPart (placedAt b s) ≡ placedAt b (stayingPart s)
+        by-test true = ap₂ placing (rw (linked-stays v linked)) (rw front)
+        by-test false = ap₂ placing (keep-append (stays adj start) (s .placed) (v ∷ []) ∙ rw (linked-stays v linked)) (rw back)
 
   -- ---- a run
 
@@ -87,10 +106,6 @@ module _ (n : ℕ) (adj : List ℕ) where
 
   run : (ℕ → Bool) → Placing → Placing
   run p s = placeMore n adj p (length (waiting n p (s .placed))) s
-
-  -- those with edges placed without the isolated ones
-  abbrev linkedRun : Placing → Placing
-  linkedRun s = run (hasEdges adj) (linkedPart adj s)
 
   module _ (p : ℕ → Bool) (s : Placing) where
     run-none : length (waiting n p (s .placed)) ≡ 0 → run p s ≡ s
@@ -108,56 +123,107 @@ module _ (n : ℕ) (adj : List ℕ) where
       unfolding run placeMore
       run-next = ap (λ (k : ℕ). placeMore n adj p k s) fewer
 
-  -- a run that places those with edges, with some isolated ones among them or none, places those with edges as if there were no others
-  module _ (symmetry : Symmetric n (weight adj)) (p : ℕ → Bool) (wider : (v : ℕ) → hasEdges adj v ≡ true → p v ≡ true) where
+  -- every vertex is one to choose from
+  abbrev every-one : ℕ → Bool
+  every-one v = true
+
+  -- those with edges placed without the others
+  abbrev linkedRun : Placing → Placing
+  linkedRun s = run (hasEdges adj) (stayingPart s)
+
+  module _ (symmetry : Symmetric n (weight adj)) where
     module _ (s : Placing) where
-      linked-waiting : keep (hasEdges adj) (waiting n p (s .placed)) ≡ waiting n (hasEdges adj) (withEdges adj (s .placed))
+      linked-waiting : keep (hasEdges adj) (waiting n every-one (s .placed)) ≡ waiting n (hasEdges adj) (stayingPart s .placed)
       unfolding waiting
-      linked-waiting = keep-narrower p (hasEdges adj) wider (unplaced n (s .placed)) ∙ waiting-seen n adj (s .placed)
+      linked-waiting = ap (keep (hasEdges adj)) (keep-true (unplaced n (s .placed))) ∙ waiting-seen dropping n (s .placed)
 
-      module _ (below : All (λ x. x < n) (s .placed)) where
-        linked-chosen : hasEdges adj (next p s) ≡ true → next p s ≡ next (hasEdges adj) (linkedPart adj s)
+      module _ (t : Started s) where
+        linked-chosen : hasEdges adj (next every-one s) ≡ true → next every-one s ≡ next (hasEdges adj) (stayingPart s)
         linked-chosen linked =
-            sym (next-kept n adj (s .placed) (hasEdges adj) (waiting n p (s .placed)) linked)
+            sym (next-kept n adj (s .placed) (hasEdges adj) (waiting n every-one (s .placed)) linked)
             ∙ ap (nextVertex n adj (s .placed)) linked-waiting
-            ∙ next-seen adj symmetry below (all-mono (all-waiting n (hasEdges adj) (withEdges adj (s .placed))) (λ v w. w .below))
+            ∙ next-seen symmetry dropping (t .below) (all-mono (all-waiting n (hasEdges adj) (stayingPart s .placed)) (λ v w. w .below))
 
-        linked-step : Waiting n p (s .placed) (next p s) → linkedRun (placeVertex n adj s (next p s)) ≡ linkedRun s
-        linked-step w = by-test (hasEdges adj (next p s)) refl
+        linked-step : Waiting n every-one (s .placed) (next every-one s) → linkedRun (placeVertex n adj s (next every-one s)) ≡ linkedRun s
+        linked-step w = by-test (hasEdges adj (next every-one s)) refl
           where
-            by-test : (b : Bool) → hasEdges adj (next p s) ≡ b → linkedRun (placeVertex n adj s (next p s)) ≡ linkedRun s
+            by-test : (b : Bool) → hasEdges adj (next every-one s) ≡ b → linkedRun (placeVertex n adj s (next every-one s)) ≡ linkedRun s
             by-test true e =
-                let linked : Waiting n (hasEdges adj) (s .placed) (next p s) = record { below = w .below; free = w .free; passes = e } in
-                let less = waiting-less linked (next p s ∷ s .placed) (unplaced-front n (s .placed) (next p s)) in
-                ap (run (hasEdges adj)) (linked-next (next p s) s symmetry below (w .below) e)
-                ∙ ap (λ (u : ℕ). run (hasEdges adj) (placeVertex n adj (linkedPart adj s) u)) (linked-chosen e)
-                ∙ sym (run-next (hasEdges adj) (linkedPart adj s)
-                (omega (arith, less, ap length (waiting-seen n adj (s .placed)))))
-            by-test false e = ap (run (hasEdges adj)) (lone-next (next p s) s e)
+                let linked : Waiting n (hasEdges adj) (s .placed) (next every-one s) = record { below = w .below; free = w .free; passes = e } in
+                let less = waiting-less linked (next every-one s ∷ s .placed) (unplaced-front n (s .placed) (next every-one s)) in
+                ap (run (hasEdges adj)) (linked-next (next every-one s) s symmetry (t .below) (w .below) e)
+                ∙ ap (λ (u : ℕ). run (hasEdges adj) (placeVertex n adj (stayingPart s) u)) (linked-chosen e)
+                ∙ sym (run-next (hasEdges adj) (stayingPart s) (omega (arith, less, ap length (waiting-seen dropping n (s .placed)))))
+            by-test false e =
+                ap (run (hasEdges adj))
+                (lone-next (next every-one s) s e (λ d. omega (arith, w .free, t .first, ap (λ (x : ℕ). occurrences x (s .placed)) d)))
 
-    linked-run : (k : ℕ) (s : Placing) → All (λ x. x < n) (s .placed) → length (waiting n p (s .placed)) ≡ k → linkedPart adj (run p s) ≡ linkedRun s
-    linked-run zero s below e =
-        ap (linkedPart adj) (run-none p s e)
-        ∙ sym (run-none (hasEdges adj) (linkedPart adj s)
-        (omega (arith, keep-split (hasEdges adj) (waiting n p (s .placed)), ap length (linked-waiting s))))
-    linked-run (suc k) s below e =
-        let some : 0 < length (waiting n p (s .placed)) = omega arith in
-        let w = waits p s some in
-        ap (linkedPart adj) (run-next p s some)
-        ∙ linked-run k (placeVertex n adj s (next p s)) (step-below (next p s) s below (w .below)) (omega (arith, fewer p s some))
-        ∙ linked-step s below w
+    linked-run : (k : ℕ) (s : Placing) → Started s → length (waiting n every-one (s .placed)) ≡ k → stayingPart (run every-one s) ≡ linkedRun s
+    linked-run zero s t e =
+        ap stayingPart (run-none every-one s e)
+        ∙ sym (run-none (hasEdges adj) (stayingPart s)
+        (omega (arith, keep-split (hasEdges adj) (waiting n every-one (s .placed)), ap length (linked-waiting s))))
+    linked-run (suc k) s t e =
+        let some : 0 < length (waiting n every-one (s .placed)) = omega arith in
+        let w = waits every-one s some in
+        ap stayingPart (run-next every-one s some)
+        ∙ linked-run k (placeVertex n adj s (next every-one s)) (step-started (next every-one s) s t (w .below)) (omega (arith, fewer every-one s some))
+        ∙ linked-step s t w
 
--- so the two rules differ in the places of isolated vertices alone
-pub same-linked : (n : ℕ) (adj : List ℕ) → Symmetric n (weight adj) → (s : ℕ) → s < n
-    → linkedPart adj (placeAll n adj s) ≡ linkedPart adj (formerPlaceAll n adj s)
-unfolding placeAll placeLinked formerPlaceAll alone run hasEdges waiting
-same-linked n adj symmetry s h =
-    lone-at-back n adj (all-mono (all-waiting n (isolated adj) (placeLinked n adj s .placed)) (λ v w. ap not (w .passes))) (placeLinked n adj s)
-    ∙ alike (hasEdges adj) (λ v e. e)
-    ∙ sym (ap (λ (k : ℕ). linkedPart adj (placeMore n adj (λ v. true) k (alone s))) steps ∙ alike (λ v. true) (λ v e. refl))
-  where
-    alike : (p : ℕ → Bool) → ((v : ℕ) → hasEdges adj v ≡ true → p v ≡ true) → linkedPart adj (run n adj p (alone s)) ≡ linkedRun n adj (alone s)
-    alike p wider = linked-run n adj symmetry p wider (length (waiting n p (s ∷ []))) (alone s) (also h none) refl
+    -- ---- from the start on
 
-    steps : n - 1 ≡ length (waiting n (λ v. true) (s ∷ []))
-    steps = omega (arith, placed-count (placed-start h), ap length (keep-true (unplaced n (s ∷ []))))
+    module _ (h : start < n) where
+      abbrev formerly : Placing
+      formerly = formerPlaceAll n adj start
+
+      start-stays : stayingPart (alone start) ≡ alone start
+      unfolding alone keep stays
+      start-stays =
+          ap (λ (b : Bool). placing (cond b (start ∷ []) []) 0)
+          (ap (λ (b : Bool). hasEdges adj start || b) (eq-eqb start start refl) ∙ or-true (hasEdges adj start))
+
+      -- the rule places those with edges as the former one did
+      linked-formerly : placeLinked n adj start ≡ stayingPart formerly
+      unfolding placeLinked formerPlaceAll alone run waiting
+      linked-formerly =
+          sym (ap (λ (k : ℕ). stayingPart (placeMore n adj every-one k (alone start))) steps
+          ∙ linked-run (length (waiting n every-one (start ∷ []))) (alone start) started refl
+          ∙ ap (run (hasEdges adj)) start-stays)
+        where
+          steps : n - 1 ≡ length (waiting n every-one (start ∷ []))
+          steps = omega (arith, placed-count (placed-start h), ap length (keep-true (unplaced n (start ∷ []))))
+
+          started : Started (alone start)
+          started = record { below = also h none; first = omega (arith, occurrences-cons start start [], one-eq start start refl) }
+
+      -- what is left then are the others, in rising number
+      rest-goes : Permutation n (formerly .placed)
+          → waiting n (isolated adj) (placeLinked n adj start .placed) ≡ keep (λ v. not (stays adj start v)) (upto n)
+      unfolding waiting unplaced stays hasEdges
+      rest-goes once =
+          ap (λ (s : Placing). waiting n (isolated adj) (s .placed)) linked-formerly
+          ∙ keep-keep (isolated adj) (λ v. not (member v (stayingPart formerly .placed))) (upto n)
+          ∙ (λ i. keep (λ v. by-test v (isolated adj v) refl i) (upto n))
+        where
+          -- of the isolated ones only the start is placed
+          by-start : (v : ℕ) (b : Bool) → eqb v start ≡ b → (b && member v (formerly .placed)) ≡ b
+          by-start v true d =
+              let often = ap (λ (x : ℕ). occurrences x (formerly .placed)) (eqb-true v start d) in
+              member-occurs v (formerly .placed) ∙ lt-ltb 0 (occurrences v (formerly .placed)) (omega (arith, once .once start h, often))
+          by-start v false d = refl
+
+          among : (v : ℕ) → isolated adj v ≡ true → member v (stayingPart formerly .placed) ≡ eqb v start
+          among v e = member-keep (stays adj start) v (formerly .placed) ∙ rw e (by-start v (eqb v start) refl)
+
+          by-test : (v : ℕ) (b : Bool) → isolated adj v ≡ b
+              → (not (member v (stayingPart formerly .placed)) && b) ≡ not (not b || eqb v start)
+          by-test v true e = ap (λ (m : Bool). not m && true) (among v e) ∙ and-true (not (eqb v start))
+          by-test v false e = and-false (not (member v (stayingPart formerly .placed)))
+
+      -- so the list is the former one with the others at the back, and the tally is the same
+      pub all-formerly : Permutation n (formerly .placed) → placeAll n adj start ≡ restAtBack formerly
+      unfolding placeAll hasEdges
+      all-formerly once =
+          at-back n adj (placeLinked n adj start)
+          (all-mono (all-waiting n (isolated adj) (placeLinked n adj start .placed)) (λ v w. ap not (w .passes)))
+          ∙ ap₂ (λ (s : Placing) (vs : List ℕ). placing (s .placed ++ vs) (s .tally)) linked-formerly (rest-goes once)

@@ -1,9 +1,8 @@
--- An isolated vertex among the placed ones changes nothing: the next vertex with edges and the crossings at either end are those of the placed
--- vertices with edges.
+-- A placed vertex without edges changes nothing: the next vertex with edges and the crossings at either end are the same without it.
 use Prim.Native.Nat.{ℕ, _*_, _<_}
 use native.Mathlib.Nat.{zero-mul, mul-zero}
 use mathlib.Core.Path.{_≡_, refl, sym, ap, _∙_}
-use mathlib.Core.Bool.{Bool, true, false, not, cond, _&&_, and-false}
+use mathlib.Core.Bool.{Bool, true, false, true≢false, not, cond, _&&_, and-false}
 use mathlib.Core.List.{List}
 use lib.Dec.{eqb}
 use Rattle.model.specs.Lists.{upto, keep, member}
@@ -14,86 +13,103 @@ use Rattle.laws.specs.Sums.Pairs.{Symmetric}
 use Rattle.laws.specs.Crossings.Edges.{weight}
 use Rattle.laws.specs.Append.Order.{unplacedBut}
 use Rattle.laws.specs.Append.Isolated.{no-edge, no-degree}
-use Rattle.former.specs.Kept.{sumOver-kept, sumPairs-kept, member-kept}
+use Rattle.former.specs.Kept.{sumOver-kept, sumPairs-kept, member-keep}
 
--- of the vertices xs, those with edges
-abbrev pub withEdges : List ℕ → List ℕ → List ℕ
-withEdges adj xs = keep (hasEdges adj) xs
+-- a test that drops isolated vertices alone
+pub record Dropping (adj : List ℕ) (q : ℕ → Bool) : Type 0 where
+  pub dropped : (v : ℕ) → q v ≡ false → hasEdges adj v ≡ false
 
--- placed or not is the same for those with edges
-pub waiting-seen : (n : ℕ) (adj xs : List ℕ) → waiting n (hasEdges adj) xs ≡ waiting n (hasEdges adj) (withEdges adj xs)
-unfolding waiting unplaced
-waiting-seen n adj xs =
-    keep-keep (hasEdges adj) (λ v. not (member v xs)) (upto n)
-    ∙ (λ i. keep (λ v. by-test v (hasEdges adj v) refl i) (upto n))
-    ∙ sym (keep-keep (hasEdges adj) (λ v. not (member v (withEdges adj xs))) (upto n))
-  where
-    by-test : (v : ℕ) (b : Bool) → hasEdges adj v ≡ b → (not (member v xs) && b) ≡ (not (member v (withEdges adj xs)) && b)
-    by-test v true e = ap (λ (m : Bool). not m && true) (member-kept (hasEdges adj) v e xs)
-    by-test v false e = and-false (not (member v xs)) ∙ sym (and-false (not (member v (withEdges adj xs))))
+module _ {adj : List ℕ} {q : ℕ → Bool} (d : Dropping adj q) where
+  passed : (v : ℕ) → hasEdges adj v ≡ true → q v ≡ true
+  passed v linked = by-test (q v) refl
+    where
+      by-test : (b : Bool) → q v ≡ b → b ≡ true
+      by-test true e = refl
+      by-test false e = absurd (true≢false (sym linked ∙ d .dropped v e))
 
-module _ {n : ℕ} (adj : List ℕ) (symmetry : Symmetric n (weight adj)) where
+  -- those with edges that are not placed are the same
+  pub waiting-seen : (n : ℕ) (xs : List ℕ) → waiting n (hasEdges adj) xs ≡ waiting n (hasEdges adj) (keep q xs)
+  unfolding waiting unplaced
+  waiting-seen n xs =
+      keep-keep (hasEdges adj) (λ v. not (member v xs)) (upto n)
+      ∙ (λ i. keep (λ v. by-test v (hasEdges adj v) refl i) (upto n))
+      ∙ sym (keep-keep (hasEdges adj) (λ v. not (member v (keep q xs))) (upto n))
+    where
+      by-test : (v : ℕ) (b : Bool) → hasEdges adj v ≡ b → (not (member v xs) && b) ≡ (not (member v (keep q xs)) && b)
+      by-test v true e = rw (member-keep q v xs, passed v e)
+      by-test v false e = and-false (not (member v xs)) ∙ sym (and-false (not (member v (keep q xs))))
+
   -- edges to vertices
-  degree-seen : {u : ℕ} {us : List ℕ} → u < n → All (λ x. x < n) us → degreeIn adj u us ≡ degreeIn adj u (withEdges adj us)
+  degree-seen : {n : ℕ} → Symmetric n (weight adj) → {u : ℕ} {us : List ℕ} → u < n → All (λ x. x < n) us → degreeIn adj u us ≡ degreeIn adj u (keep q us)
   unfolding degreeIn
-  degree-seen {u} h below = sumOver-kept (hasEdges adj) (weight adj u) below (λ x l lone. symmetry .swap u x h l ∙ no-edge adj x lone u)
+  degree-seen symmetry {u} h below = sumOver-kept q (weight adj u) below (λ x l e. symmetry .swap u x h l ∙ no-edge adj x (d .dropped x e) u)
 
+-- one is the test for edges itself
+linked-only : (adj : List ℕ) → Dropping adj (hasEdges adj)
+linked-only adj = record { dropped = λ v e. e }
+
+module _ {n : ℕ} {adj : List ℕ} (symmetry : Symmetric n (weight adj)) {q : ℕ → Bool} (d : Dropping adj q) where
   unplaced-seen : (c : ℕ → Bool) (xs : List ℕ) {u : ℕ} → u < n
-      → degreeIn adj u (keep c (unplaced n xs)) ≡ degreeIn adj u (keep c (unplaced n (withEdges adj xs)))
+      → degreeIn adj u (keep c (unplaced n xs)) ≡ degreeIn adj u (keep c (unplaced n (keep q xs)))
   unfolding unplaced waiting
-  unplaced-seen c xs {u} h = to xs ∙ ap (λ (us : List ℕ). degreeIn adj u (keep c us)) (waiting-seen n adj xs) ∙ sym (to (withEdges adj xs))
+  unplaced-seen c xs {u} h = to xs ∙ ap (λ (us : List ℕ). degreeIn adj u (keep c us)) (waiting-seen d n xs) ∙ sym (to (keep q xs))
     where
       to : (ys : List ℕ) → degreeIn adj u (keep c (unplaced n ys)) ≡ degreeIn adj u (keep c (waiting n (hasEdges adj) ys))
       to ys =
-          degree-seen h (all-keep c (all-keep (λ v. not (member v ys)) (all-upto n)))
+          degree-seen (linked-only adj) symmetry h (all-keep c (all-keep (λ v. not (member v ys)) (all-upto n)))
           ∙ ap (degreeIn adj u) (keep-swap (hasEdges adj) c (unplaced n ys))
 
   module _ {xs : List ℕ} (below : All (λ x. x < n) xs) where
-    preferred-seen : {v u : ℕ} → v < n → u < n → preferred n adj xs v u ≡ preferred n adj (withEdges adj xs) v u
+    preferred-seen : {v u : ℕ} → v < n → u < n → preferred n adj xs v u ≡ preferred n adj (keep q xs) v u
     unfolding preferred
     preferred-seen {v} {u} h k =
-        rw (degree-seen h below, degree-seen k below, simp keep-true at (unplaced-seen (λ x. true) xs h), simp keep-true at (unplaced-seen (λ x. true) xs k))
+        rw (
+          degree-seen d symmetry h below,
+          degree-seen d symmetry k below,
+          simp keep-true at (unplaced-seen (λ x. true) xs h),
+          simp keep-true at (unplaced-seen (λ x. true) xs k),
+        )
 
-    best-seen : {b : ℕ} {vs : List ℕ} → b < n → All (λ x. x < n) vs → bestOf n adj xs b vs ≡ bestOf n adj (withEdges adj xs) b vs
+    best-seen : {b : ℕ} {vs : List ℕ} → b < n → All (λ x. x < n) vs → bestOf n adj xs b vs ≡ bestOf n adj (keep q xs) b vs
     unfolding bestOf
     best-seen h none = refl
     best-seen {b} h (also {x} {xs = vs} k ks) =
-        ap (λ (t : Bool). bestOf n adj xs (cond t x b) vs) (preferred-seen k h) ∙ best-seen (by-test (preferred n adj (withEdges adj xs) x b)) ks
+        ap (λ (t : Bool). bestOf n adj xs (cond t x b) vs) (preferred-seen k h) ∙ best-seen (by-test (preferred n adj (keep q xs) x b)) ks
       where
         by-test : (t : Bool) → cond t x b < n
         by-test true = k
         by-test false = h
 
-    pub next-seen : {vs : List ℕ} → All (λ x. x < n) vs → nextVertex n adj xs vs ≡ nextVertex n adj (withEdges adj xs) vs
+    pub next-seen : {vs : List ℕ} → All (λ x. x < n) vs → nextVertex n adj xs vs ≡ nextVertex n adj (keep q xs) vs
     unfolding nextVertex
     next-seen none = refl
     next-seen (also h hs) = best-seen h hs
 
     module _ {v : ℕ} (h : v < n) where
-      -- what v's edge to p, if there is one, meets of the open ones at q: nothing where either is isolated
+      -- what v's edge to p, if there is one, meets of the open ones at x: nothing where either is isolated
       met : List ℕ → ℕ → ℕ → ℕ
-      met ys p q = closing n adj ys v p * open′ n adj ys v q
+      met ys p x = closing n adj ys v p * open′ n adj ys v x
 
-      met-closing : (p q : ℕ) → p < n → hasEdges adj p ≡ false → met xs p q ≡ 0
+      met-closing : (p x : ℕ) → p < n → q p ≡ false → met xs p x ≡ 0
       unfolding met closing
-      met-closing p q k lone = rw (symmetry .swap v p h k, no-edge adj p lone v) (zero-mul _)
+      met-closing p x k e = rw (symmetry .swap v p h k, no-edge adj p (d .dropped p e) v) (zero-mul _)
 
-      met-open : (p q : ℕ) → hasEdges adj q ≡ false → met xs p q ≡ 0
+      met-open : (p x : ℕ) → q x ≡ false → met xs p x ≡ 0
       unfolding met open′
-      met-open p q lone = rw (no-degree adj q lone (unplacedBut n xs v)) (mul-zero _)
+      met-open p x e = rw (no-degree adj x (d .dropped x e) (unplacedBut n xs v)) (mul-zero _)
 
-      met-seen : (p q : ℕ) → q < n → met xs p q ≡ met (withEdges adj xs) p q
+      met-seen : (p x : ℕ) → x < n → met xs p x ≡ met (keep q xs) p x
       unfolding met closing open′
-      met-seen p q k = ap (λ (d : ℕ). weight adj v p * d) (unplaced-seen (λ x. not (eqb v x)) xs k)
+      met-seen p x k = ap (λ (e : ℕ). weight adj v p * e) (unplaced-seen (λ y. not (eqb v y)) xs k)
 
-      pub front-seen : frontCrossings n adj xs v ≡ frontCrossings n adj (withEdges adj xs) v
+      pub front-seen : frontCrossings n adj xs v ≡ frontCrossings n adj (keep q xs) v
       unfolding frontCrossings met
       front-seen =
-          sumPairs-kept (hasEdges adj) (λ q p. met xs p q) below (λ q p k l. met-open p q) (λ q p k l. met-closing p q l)
-          ∙ sumPairs-ext (λ q p. met xs p q) (λ q p. met (withEdges adj xs) p q) (all-keep (hasEdges adj) below) (λ q p k l. met-seen p q k)
+          sumPairs-kept q (λ x p. met xs p x) below (λ x p k l. met-open p x) (λ x p k l. met-closing p x l)
+          ∙ sumPairs-ext (λ x p. met xs p x) (λ x p. met (keep q xs) p x) (all-keep q below) (λ x p k l. met-seen p x k)
 
-      pub back-seen : backCrossings n adj xs v ≡ backCrossings n adj (withEdges adj xs) v
+      pub back-seen : backCrossings n adj xs v ≡ backCrossings n adj (keep q xs) v
       unfolding backCrossings met
       back-seen =
-          sumPairs-kept (hasEdges adj) (met xs) below (λ p q k l. met-closing p q k) (λ p q k l. met-open p q)
-          ∙ sumPairs-ext (met xs) (met (withEdges adj xs)) (all-keep (hasEdges adj) below) (λ p q k l. met-seen p q l)
+          sumPairs-kept q (met xs) below (λ p x k l. met-closing p x k) (λ p x k l. met-open p x)
+          ∙ sumPairs-ext (met xs) (met (keep q xs)) (all-keep q below) (λ p x k l. met-seen p x l)

@@ -125,3 +125,7 @@ layOf l s = checked (layChecks l s) (layAnswer l (placeAll (l .n) (l .adjacency)
 -- what lay gave by the former rule, for the claim that "its crossings equal those of the former rule"; no code runs it
 unfoldable pub formerLayOf : Layout → ℕ → Appended
 formerLayOf l s = checked (layChecks l s) (layAnswer l (formerPlaceAll (l .n) (l .adjacency) s)) (layRefused l)
+
+-- the vertices that keep their place from one rule to the other: those with edges, and the start
+unfoldable pub stays : List ℕ → ℕ → ℕ → Bool
+stays adj start v = hasEdges adj v || eqb v start

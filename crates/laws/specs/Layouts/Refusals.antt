@@ -103,15 +103,15 @@ module _ {A : Type 0} (cs : List Check) (accepted : A) (refused : ℕ → A) whe
       from zero e = a e
       from (suc k) e = r (suc k)
 
-  -- another call with the same checks and the same refusals answers the same in f if it does where it is accepted
-  pub checked-same : {B : Type 0} (f : A → B) (other : A) → (refusal cs ≡ 0 → f accepted ≡ f other)
-      → f (checked cs accepted refused) ≡ f (checked cs other refused)
+  -- another call with the same checks and refusals: what holds of the two where both are accepted, and of each refusal, holds of their answers
+  pub checked-both : (P : A → A → Type 0) (other : A) → (refusal cs ≡ 0 → P accepted other) → ((r : ℕ) → P (refused (suc r)) (refused (suc r)))
+      → P (checked cs accepted refused) (checked cs other refused)
   unfolding checked byRefusal
-  checked-same f other same = from (refusal cs) refl
+  checked-both P other a r = from (refusal cs) refl
     where
-      from : (r : ℕ) → refusal cs ≡ r → f (byRefusal r accepted refused) ≡ f (byRefusal r other refused)
-      from zero e = same e
-      from (suc r) e = refl
+      from : (k : ℕ) → refusal cs ≡ k → P (byRefusal k accepted refused) (byRefusal k other refused)
+      from zero e = a e
+      from (suc k) e = r k
 
 -- ---- calls on a layout
 
