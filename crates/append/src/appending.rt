@@ -34,6 +34,7 @@ fn append_from(l: Layout, s: usize) -> Appended
     let n = l.n;
     let before = l.order;
     let adjacency = l.adjacency;
+    // those with edges, and then the rest: the isolated ones (document 02, Note 2: unlinked devices)
     let linked = place_linked(n, &adjacency, s);
     let line = put_rest(n, linked.line, linked.placed);
     let order = written(line, before);

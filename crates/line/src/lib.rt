@@ -1,8 +1,8 @@
 // A list of vertices that grows at both ends, held in the middle of a buffer. Each function holds
-// for any line: a vertex is taken modulo 64, a place modulo 128.
+// for any line: a vertex is taken modulo 64, a place modulo 128, and what is written modulo 65. For
+// 64 vertices or fewer, beginning with one in the middle, that changes nothing.
 ghost use mathlib.Core.Path.{_≡_};
 ghost use mathlib.Core.Bool.{cond};
-ghost use Prim.Native.Nat.{_%_};
 ghost use lib.Dec.{eqb};
 ghost use Rattle.model.specs.Crossings.{bit};
 ghost use Rattle.line.specs.Lines.{aloneAt, atFront, atBack, restOf, writtenOver};
