@@ -3,7 +3,6 @@ use Prim.Native.Nat.{ℕ, _≤_, _<_}
 use native.Mathlib.Nat.{lt-of-lt-of-le}
 use native.Mathlib.Omega.{arith}
 use mathlib.Core.Path.{_≡_, sym, ap, _∙_, subst}
-use mathlib.Core.Bool.{not}
 use mathlib.Core.List.{List, _++_}
 use lib.ListN.{drop}
 use lib.Seq.{take-at}
@@ -11,12 +10,11 @@ use lib.Dec.{T}
 use Rattle.model.specs.declared.Layout.{Layout}
 use Rattle.model.specs.Layouts.{valid, reordered}
 use Rattle.model.specs.GreedyAppend.{Placing, unplaced, waiting, isolated, hasEdges, placeAtBack, placeAll, layAnswer}
-use Rattle.laws.specs.Sums.Lists.{all-mono, keep-split, keep-whole}
+use Rattle.laws.specs.Sums.Lists.{keep-split, keep-whole}
 use Rattle.laws.specs.Orders.Permutations.{Permutation}
 use Rattle.laws.specs.Layouts.Validity.{sound}
 use Rattle.laws.specs.Layouts.Recount.{Drawn, recounted, recounted-changed}
-use Rattle.laws.specs.Append.Order.{all-waiting}
-use Rattle.laws.specs.Append.Isolated.{at-back}
+use Rattle.laws.specs.Append.Isolated.{isolated-at-back}
 use Rattle.laws.specs.Append.Calls.{lay-permutation}
 use Rattle.line.specs.declared.Line.{Line}
 use Rattle.append.specs.declared.steps.Partial.{Partial}
@@ -46,12 +44,11 @@ module _ {n : ℕ} (small : n ≤ 64) {adj : List ℕ} {s : ℕ} {r : Partial} (
       keep-whole (isolated adj) us (omega (arith, linked .none-left, keep-split (isolated adj) us))
 
   all-placed : record { placed = entries line; tally = r .tally } ≡ placeAll n adj s
-  unfolding placeAll placingOf hasEdges
+  unfolding placeAll placingOf
   all-placed =
-      let isolated-ones = all-mono (all-waiting n (isolated adj) (entries (r .line))) (λ v w. ap not (w .passes)) in
       ap (λ (xs : List ℕ). record { placed = xs; tally = r .tally })
       (rest .entries-are ∙ ap (λ (vs : List ℕ). entries (r .line) ++ vs) (sym rest-isolated))
-      ∙ sym (at-back n adj (placingOf r) isolated-ones)
+      ∙ sym (isolated-at-back n adj (placingOf r))
       ∙ ap (λ (x : Placing). placeAtBack n adj x (waiting n (isolated adj) (x .placed))) (linked .placing)
 
 module _ (l : Layout) (s : ℕ) (t : T (valid l)) (h : s < l .n) {r : Partial} (linked : LinkedPlaced (l .n) (l .adjacency) s r) where

@@ -10,7 +10,7 @@ use lib.Dec.{ltb}
 use borrow.Author.Tests.{lt-ltb, le-ltb}
 use Rattle.model.specs.Crossings.{bit}
 use Rattle.model.specs.Edits.{withBit}
-use Rattle.model.specs.GreedyAppend.{Placing, unplaced, waiting, hasEdges, degreeIn, nextVertex, closing, open′, frontCrossings, backCrossings}
+use Rattle.model.specs.GreedyAppend.{Placing, waiting, hasEdges, degreeIn, nextVertex, closing, open′, frontCrossings, backCrossings}
 use Rattle.model.specs.GreedyAppend.{alone, placeFront, placeBack, placeVertex, placeMore, placeLinked}
 use Rattle.laws.specs.Sums.Bits.{set-lt}
 use Rattle.laws.specs.Sums.Indicators.{less, same, more, order}
@@ -18,8 +18,8 @@ use Rattle.laws.specs.Sums.Lists.{All, all-mono, sumPairs-ext}
 use Rattle.laws.specs.Orders.Permutations.{occurrences-nil}
 use Rattle.laws.specs.Crossings.Masks.{weight-bit}
 use Rattle.laws.specs.Append.Order.{Placed, placed-start, placed-front, placed-back, placed-count, unplaced-front}
-use Rattle.laws.specs.Append.Order.{Waiting, next-waiting, waiting-less}
-use Rattle.laws.specs.Append.Calls.{step-unplaced}
+use Rattle.laws.specs.Append.Order.{Waiting, next-waiting}
+use Rattle.laws.specs.Append.Calls.{step-waiting}
 use Rattle.line.specs.declared.Line.{Line}
 use Rattle.append.specs.declared.ends.Ends.{Ends}
 use Rattle.append.specs.declared.steps.Partial.{Partial}
@@ -275,8 +275,7 @@ module _ {n : ℕ} {adj : List ℕ} {first : ℕ} where
         to-come-less : suc (length (toCome n adj r)) ≡ length (toCome n adj s)
         unfolding placingOf
         to-come-less =
-            let left = ap (λ (x : Placing). unplaced n (x .placed)) placed-next ∙ step-unplaced n adj (placingOf s) v in
-            omega (arith, waiting-less next-waits (entries (r .line)) left)
+            ap (λ (x : Placing). suc (length (waiting n (hasEdges adj) (x .placed)))) placed-next ∙ step-waiting n adj (placingOf s) next-waits
 
         pub place-next : {v' : ℕ} → v' ≡ bestBelow n adj (r .placed) n .vertex → PlacedUpTo n adj first r v'
         unfolding placeMore placingOf

@@ -1,5 +1,5 @@
 -- The former rule, step by step: but for isolated vertices it places what the rule places, at the same ends and with the same tally.
-use Prim.Native.Nat.{ℕ, zero, suc, _-_, _<_}
+use Prim.Native.Nat.{ℕ, zero, suc, _<_}
 use native.Mathlib.Nat.{add-zero}
 use native.Mathlib.Omega.{arith}
 use mathlib.Core.Path.{_≡_, refl, sym, ap, ap₂, _∙_}
@@ -16,12 +16,12 @@ use Rattle.laws.specs.Sums.Lists.{All, none, also, all-append, all-mono, keep-a
 use Rattle.laws.specs.Sums.Pairs.{Symmetric}
 use Rattle.laws.specs.Orders.Permutations.{Permutation, occurrences-cons, occurrences-append, member-occurs}
 use Rattle.laws.specs.Crossings.Edges.{weight}
-use Rattle.laws.specs.Append.Order.{placed-start, placed-count, Waiting, all-waiting, next-waiting, waiting-less, unplaced-front}
-use Rattle.laws.specs.Append.Isolated.{front-none, back-none, at-back}
-use Rattle.laws.specs.Append.Calls.{either-end, step-unplaced}
+use Rattle.laws.specs.Append.Order.{Waiting, all-waiting, next-waiting, waiting-others}
+use Rattle.laws.specs.Append.Isolated.{front-none, back-none, isolated-at-back}
+use Rattle.laws.specs.Append.Calls.{either-end, step-waiting}
 use Rattle.former.specs.Kept.{member-keep}
 use Rattle.former.specs.Choices.{next-kept}
-use Rattle.former.specs.Unseen.{Dropping, waiting-seen, next-seen, front-seen, back-seen}
+use Rattle.former.specs.Unseen.{Dropping, passed, waiting-seen, next-seen, front-seen, back-seen}
 
 abbrev placing : List ℕ → ℕ → Placing
 placing xs t = record { placed = xs; tally = t }
@@ -42,10 +42,6 @@ module _ (n : ℕ) (adj : List ℕ) (start : ℕ) where
       by-test : (a b : Bool) → (a || b) ≡ false → a ≡ false
       by-test false b e = refl
       by-test true b e = e
-
-  linked-stays : (v : ℕ) → hasEdges adj v ≡ true → stays adj start v ≡ true
-  unfolding stays
-  linked-stays v e = rw e
 
   lone-goes : (v : ℕ) → hasEdges adj v ≡ false → (v ≡ start → ⊥) → stays adj start v ≡ false
   unfolding stays
@@ -95,8 +91,8 @@ module _ (n : ℕ) (adj : List ℕ) (start : ℕ) where
         back = back-seen symmetry dropping below h
 
         by-test : (b : Bool) → stayingPart (placedAt b s) ≡ placedAt b (stayingPart s)
-        by-test true = ap₂ placing (rw (linked-stays v linked)) (rw front)
-        by-test false = ap₂ placing (keep-append (stays adj start) (s .placed) (v ∷ []) ∙ rw (linked-stays v linked)) (rw back)
+        by-test true = ap₂ placing (rw (passed dropping v linked)) (rw front)
+        by-test false = ap₂ placing (keep-append (stays adj start) (s .placed) (v ∷ []) ∙ rw (passed dropping v linked)) (rw back)
 
   -- ---- a run
 
@@ -116,12 +112,9 @@ module _ (n : ℕ) (adj : List ℕ) (start : ℕ) where
       waits : Waiting n p (s .placed) (next p s)
       waits = next-waiting n p (s .placed) adj some
 
-      fewer : length (waiting n p (s .placed)) ≡ suc (length (waiting n p (placeVertex n adj s (next p s) .placed)))
-      fewer = omega (arith, waiting-less waits (placeVertex n adj s (next p s) .placed) (step-unplaced n adj s (next p s)))
-
       run-next : run p s ≡ run p (placeVertex n adj s (next p s))
       unfolding run placeMore
-      run-next = ap (λ (k : ℕ). placeMore n adj p k s) fewer
+      run-next = sym (ap (λ (k : ℕ). placeMore n adj p k s) (step-waiting n adj s waits))
 
   -- every vertex is one to choose from
   abbrev every-one : ℕ → Bool
@@ -150,7 +143,7 @@ module _ (n : ℕ) (adj : List ℕ) (start : ℕ) where
             by-test : (b : Bool) → hasEdges adj (next every-one s) ≡ b → linkedRun (placeVertex n adj s (next every-one s)) ≡ linkedRun s
             by-test true e =
                 let linked : Waiting n (hasEdges adj) (s .placed) (next every-one s) = record { below = w .below; free = w .free; passes = e } in
-                let less = waiting-less linked (next every-one s ∷ s .placed) (unplaced-front n (s .placed) (next every-one s)) in
+                let less = step-waiting n adj s linked in
                 ap (run (hasEdges adj)) (linked-next (next every-one s) s symmetry (t .below) (w .below) e)
                 ∙ ap (λ (u : ℕ). run (hasEdges adj) (placeVertex n adj (stayingPart s) u)) (linked-chosen e)
                 ∙ sym (run-next (hasEdges adj) (stayingPart s) (omega (arith, less, ap length (waiting-seen dropping n (s .placed)))))
@@ -167,7 +160,7 @@ module _ (n : ℕ) (adj : List ℕ) (start : ℕ) where
         let some : 0 < length (waiting n every-one (s .placed)) = omega arith in
         let w = waits every-one s some in
         ap stayingPart (run-next every-one s some)
-        ∙ linked-run k (placeVertex n adj s (next every-one s)) (step-started (next every-one s) s t (w .below)) (omega (arith, fewer every-one s some))
+        ∙ linked-run k (placeVertex n adj s (next every-one s)) (step-started (next every-one s) s t (w .below)) (omega (arith, step-waiting n adj s w))
         ∙ linked-step s t w
 
     -- ---- from the start on
@@ -186,13 +179,10 @@ module _ (n : ℕ) (adj : List ℕ) (start : ℕ) where
       linked-formerly : placeLinked n adj start ≡ stayingPart formerly
       unfolding placeLinked formerPlaceAll alone run waiting
       linked-formerly =
-          sym (ap (λ (k : ℕ). stayingPart (placeMore n adj every-one k (alone start))) steps
+          sym (ap (λ (k : ℕ). stayingPart (placeMore n adj every-one k (alone start))) (waiting-others h)
           ∙ linked-run (length (waiting n every-one (start ∷ []))) (alone start) started refl
           ∙ ap (run (hasEdges adj)) start-stays)
         where
-          steps : n - 1 ≡ length (waiting n every-one (start ∷ []))
-          steps = omega (arith, placed-count (placed-start h), ap length (keep-true (unplaced n (start ∷ []))))
-
           started : Started (alone start)
           started = record { below = also h none; first = omega (arith, occurrences-cons start start [], one-eq start start refl) }
 
@@ -222,8 +212,7 @@ module _ (n : ℕ) (adj : List ℕ) (start : ℕ) where
 
       -- so the list is the former one with the others at the back, and the tally is the same
       pub all-formerly : Permutation n (formerly .placed) → placeAll n adj start ≡ restAtBack formerly
-      unfolding placeAll hasEdges
+      unfolding placeAll
       all-formerly once =
-          at-back n adj (placeLinked n adj start)
-          (all-mono (all-waiting n (isolated adj) (placeLinked n adj start .placed)) (λ v w. ap not (w .passes)))
+          isolated-at-back n adj (placeLinked n adj start)
           ∙ ap₂ (λ (s : Placing) (vs : List ℕ). placing (s .placed ++ vs) (s .tally)) linked-formerly (rest-goes once)

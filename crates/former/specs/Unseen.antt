@@ -20,7 +20,7 @@ pub record Dropping (adj : List ℕ) (q : ℕ → Bool) : Type 0 where
   pub dropped : (v : ℕ) → q v ≡ false → hasEdges adj v ≡ false
 
 module _ {adj : List ℕ} {q : ℕ → Bool} (d : Dropping adj q) where
-  passed : (v : ℕ) → hasEdges adj v ≡ true → q v ≡ true
+  pub passed : (v : ℕ) → hasEdges adj v ≡ true → q v ≡ true
   passed v linked = by-test (q v) refl
     where
       by-test : (b : Bool) → q v ≡ b → b ≡ true

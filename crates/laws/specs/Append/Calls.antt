@@ -1,6 +1,6 @@
 -- The call lay: its list holds each vertex once, and its tally is exactly the crossings of the layout that it returns.
 use Prim.Native.Nat.{ℕ, zero, suc, _+_, _-_, _≤_, _<_}
-use native.Mathlib.Nat.{le-refl}
+use native.Mathlib.Nat.{le-refl, le-of-eq}
 use native.Mathlib.Omega.{arith}
 use native.Mathlib.Decide.{ℕ-discrete}
 use mathlib.Core.Path.{_≡_, refl, sym, ap, _∙_, subst}
@@ -17,7 +17,7 @@ use Rattle.model.specs.Checks.{refusal, isValid, isVertex}
 use Rattle.model.specs.GreedyAppend.{unplaced, waiting, isolated, hasEdges, degreeIn, nextVertex, closing, open′, frontCrossings, backCrossings}
 use Rattle.model.specs.GreedyAppend.{Placing, alone, placeFront, placeBack, placeVertex, placeMore, placeAtBack, placeLinked, placeAll}
 use Rattle.model.specs.GreedyAppend.{formerPlaceAll, layChecks, layAnswer, layRefused, layOf}
-use Rattle.laws.specs.Sums.Lists.{All, none, also, all-mono, keep-true, keep-split}
+use Rattle.laws.specs.Sums.Lists.{All, none, also, all-mono, keep-split}
 use Rattle.laws.specs.Orders.Permutations.{Permutation}
 use Rattle.laws.specs.Sums.Pairs.{Symmetric}
 use Rattle.laws.specs.Crossings.Counting.{crossingSum, placed}
@@ -27,7 +27,7 @@ use Rattle.laws.specs.Layouts.Sizes.{Sized, reordered-sized}
 use Rattle.laws.specs.Layouts.Refusals.{checked-either, vertex-passed, all-passed, when-accepted, when-refused, checked-number}
 use Rattle.laws.specs.Layouts.Reordering.{reordered-crossings, reordered-valid, Keeps, same-keeps, changed-keeps}
 use Rattle.laws.specs.Append.Order.{Placed, placed-start, placed-back, placed-front, placed-all, placed-count, all-placed}
-use Rattle.laws.specs.Append.Order.{Waiting, all-waiting, next-waiting, waiting-less, waiting-rest}
+use Rattle.laws.specs.Append.Order.{Waiting, all-waiting, next-waiting, waiting-less, waiting-rest, waiting-others}
 use Rattle.laws.specs.Append.Order.{unplacedBut, unplaced-front, unplaced-back, sumOver-but}
 use Rattle.laws.specs.Append.Crossings.{crossingsMet, Closing, met-start, met-back, met-front, met-finished}
 
@@ -46,10 +46,15 @@ module _ (n : ℕ) (adj : List ℕ) where
       by-test false = back
 
   -- the others are still to come
-  pub step-unplaced : (s : Placing) (v : ℕ) → unplaced n (placeVertex n adj s v .placed) ≡ unplacedBut n (s .placed) v
+  step-unplaced : (s : Placing) (v : ℕ) → unplaced n (placeVertex n adj s v .placed) ≡ unplacedBut n (s .placed) v
   unfolding placeFront placeBack
   step-unplaced s v =
       either-end (λ t. unplaced n (t .placed) ≡ unplacedBut n (s .placed) v) s v (unplaced-front n (s .placed) v) (unplaced-back n (s .placed) v)
+
+  -- so of those that pass one less waits
+  pub step-waiting : {p : ℕ → Bool} (s : Placing) {v : ℕ} → Waiting n p (s .placed) v
+      → suc (length (waiting n p (placeVertex n adj s v .placed))) ≡ length (waiting n p (s .placed))
+  step-waiting s {v} w = omega (arith, waiting-less w (placeVertex n adj s v .placed) (step-unplaced s v))
 
   -- m vertices are placed, and the tally is what they have met: the crossings of the edges between them, and of these with the edges to the others
   pub record Laid (m : ℕ) (s : Placing) : Type 0 where
@@ -122,7 +127,7 @@ module _ {n : ℕ} (adj : List ℕ) (symmetry : Symmetric n (weight adj)) where
   laid-more p (suc k) {m} {s} h laid =
       let v = nextVertex n adj (s .placed) (waiting n p (s .placed)) in
       let w = next-waiting n p (s .placed) adj (omega arith) in
-      let less = waiting-less w (placeVertex n adj s v .placed) (step-unplaced n adj s v) in
+      let less = step-waiting n adj s w in
       let more = laid-more p k (omega (arith, less)) (either-end n adj (Laid n adj (suc m)) s v (laid-front laid w) (laid-back laid w)) in
       (subst (λ (j : ℕ). Laid n adj j (placeMore n adj p k (placeVertex n adj s v))) (omega arith) (more .0), omega (arith, less, more .1))
 
@@ -156,7 +161,7 @@ module _ {n : ℕ} (adj : List ℕ) (symmetry : Symmetric n (weight adj)) where
     unfolding formerPlaceAll waiting alone
     former-laid-all =
         subst (λ (j : ℕ). Laid n adj j (formerPlaceAll n adj s)) (omega arith)
-        (laid-more (λ v. true) (n - 1) (omega (arith, placed-count (placed-start h), ap length (keep-true (unplaced n (s ∷ []))))) (laid-start n adj s h) .0)
+        (laid-more (λ v. true) (n - 1) (le-of-eq (waiting-others h)) (laid-start n adj s h) .0)
 
 -- ---- the call lay
 

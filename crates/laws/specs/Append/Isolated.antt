@@ -3,17 +3,18 @@ use Prim.Native.Nat.{ℕ, _+_, _*_}
 use native.Mathlib.Nat.{add-zero, zero-mul}
 use native.Mathlib.Omega.{arith}
 use mathlib.Core.Path.{_≡_, sym, ap, ap₂, _∙_}
-use mathlib.Core.Bool.{false}
+use mathlib.Core.Bool.{false, not}
 use mathlib.Core.List.{List, _∷_, [], _++_, append-nil, append-assoc}
 use lib.ListN.{getD}
 use lib.Dec.{eqb}
 use borrow.Author.Tests.{eqb-true, not-false}
 use Rattle.model.specs.Lists.{one, sumOver, sumPairs}
 use Rattle.model.specs.Crossings.{linked}
-use Rattle.model.specs.GreedyAppend.{isolated, hasEdges, degreeIn, closing, open′, frontCrossings, backCrossings, Placing, placeBack, placeAtBack}
+use Rattle.model.specs.GreedyAppend.{waiting, isolated, hasEdges, degreeIn, closing, open′, frontCrossings, backCrossings, Placing, placeBack, placeAtBack}
 use Rattle.laws.specs.Sums.Bits.{bit-beyond}
-use Rattle.laws.specs.Sums.Lists.{All, none, also, sumOver-scale, sumPairs-scale}
+use Rattle.laws.specs.Sums.Lists.{All, none, also, all-mono, sumOver-scale, sumPairs-scale}
 use Rattle.laws.specs.Crossings.Edges.{weight}
+use Rattle.laws.specs.Append.Order.{all-waiting}
 
 module _ (adj : List ℕ) (v : ℕ) (lone : hasEdges adj v ≡ false) where
   pub no-edge : (u : ℕ) → weight adj v u ≡ 0
@@ -39,7 +40,7 @@ module _ (adj : List ℕ) (v : ℕ) (lone : hasEdges adj v ≡ false) where
         (λ i. sumPairs (λ p q. no-edge p i * open′ n adj xs v q) xs) ∙ sumPairs-scale 0 (λ p q. open′ n adj xs v q) xs ∙ zero-mul _
 
 -- isolated vertices at the back
-pub at-back : (n : ℕ) (adj : List ℕ) (s : Placing) {vs : List ℕ} → All (λ v. hasEdges adj v ≡ false) vs
+at-back : (n : ℕ) (adj : List ℕ) (s : Placing) {vs : List ℕ} → All (λ v. hasEdges adj v ≡ false) vs
     → placeAtBack n adj s vs ≡ record { placed = s .placed ++ vs; tally = s .tally }
 unfolding placeAtBack placeBack
 at-back n adj s none = ap (λ (xs : List ℕ). record { placed = xs; tally = s .tally }) (sym (append-nil (s .placed)))
@@ -48,3 +49,9 @@ at-back n adj s (also {x = v} {xs = vs} lone more) =
     ∙ ap₂ (λ (xs : List ℕ) (t : ℕ). record { placed = xs; tally = t })
     (append-assoc (s .placed) (v ∷ []) vs)
     (ap (λ (k : ℕ). s .tally + k) (back-none adj v lone n (s .placed)) ∙ add-zero (s .tally))
+
+pub isolated-at-back : (n : ℕ) (adj : List ℕ) (s : Placing)
+    → let rest = waiting n (isolated adj) (s .placed) in
+    placeAtBack n adj s rest ≡ record { placed = s .placed ++ rest; tally = s .tally }
+unfolding hasEdges
+isolated-at-back n adj s = at-back n adj s (all-mono (all-waiting n (isolated adj) (s .placed)) (λ v w. ap not (w .passes)))

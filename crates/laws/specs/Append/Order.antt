@@ -1,5 +1,5 @@
 -- Greedy append's list of placed vertices: none stands in it twice. And the vertices that are not placed yet, of which the next one is taken.
-use Prim.Native.Nat.{ℕ, zero, suc, _+_, _*_, _≤_, _<_}
+use Prim.Native.Nat.{ℕ, zero, suc, _+_, _*_, _-_, _≤_, _<_}
 use native.Mathlib.Nat.{mul-one, one-mul, not-suc-le-zero}
 use native.Mathlib.Decide.{ℕ-discrete}
 use native.Mathlib.Omega.{arith}
@@ -14,7 +14,7 @@ use Rattle.model.specs.GreedyAppend.{unplaced, waiting, preferred, bestOf, next
 use Rattle.laws.specs.Sums.Indicators.{one-eq, one-ne, one-lt, one-le, eqb-swap}
 use Rattle.laws.specs.Sums.Ranges.{sum, sum-ext, sum-add, sum-const, sum-at, all-one}
 use Rattle.laws.specs.Sums.Lists.{All, none, also, all-append, all-at, all-mono, all-kept, all-upto, keep-append, keep-keep, sumOver-keep}
-use Rattle.laws.specs.Sums.Lists.{sumOver-upto, keep-swap, length-keep, keep-whole}
+use Rattle.laws.specs.Sums.Lists.{sumOver-upto, keep-swap, keep-true, length-keep, keep-whole}
 use Rattle.laws.specs.Orders.Permutations.{at, Permutation, occurrences-nil, occurrences-cons, occurrences-append, member-occurs, occurrences-total}
 use Rattle.laws.specs.Sums.Any.{any-append}
 
@@ -214,3 +214,8 @@ module _ {n : ℕ} {p : ℕ → Bool} {xs : List ℕ} {v : ℕ} (w : Waiting n p
           ∙ keep-swap p (λ x. not (eqb v x)) (unplaced n xs)
           ∙ ap (keep (λ x. not (eqb v x))) e
           ∙ rw (eq-eqb v v refl)
+
+-- behind the first all others wait
+pub waiting-others : {n s : ℕ} → s < n → n - 1 ≡ length (waiting n (λ v. true) (s ∷ []))
+unfolding waiting
+waiting-others {n} {s} h = omega (arith, placed-count (placed-start h), ap length (keep-true (unplaced n (s ∷ []))))
