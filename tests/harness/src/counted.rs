@@ -84,7 +84,7 @@ pub fn check_listing(chart: &[u8], listing: &str) -> Result<(), String> {
 #[cfg(test)]
 mod tests {
     use super::*;
-    use crate::followed::check_lines;
+    use crate::followed::{change_found, check_lines};
     use crate::make::charts::Chart;
     use crate::make::graph::Graph;
     use crate::make::lists;
@@ -120,7 +120,7 @@ mod tests {
         let list = [records::chart(&square()), calls.concat()].concat();
         let lines = play(&list);
         assert_eq!(check_lines(&list, &lines, check_line), Ok(()));
-        for (line, from, to) in [
+        for change in [
             (1, "count 1 words", "count 2 words"),
             (1, "words 0 4 1 8 2 1 3 2", "words 0 4 2 1"),
             (2, "sift 0 1 n", "sift 0 2 n"),
@@ -128,10 +128,7 @@ mod tests {
             (2, "count 0 words", "count 1 words"),
             (3, "settle 0 0", "settle 0 1"),
         ] {
-            let wrong = lines.replacen(from, to, 1);
-            assert_ne!(wrong, lines, "{from}");
-            let found = check_lines(&list, &wrong, check_line).map_err(|(line, _)| line);
-            assert_eq!(found, Err(line), "{to}");
+            change_found(&list, &lines, check_line, change);
         }
     }
 

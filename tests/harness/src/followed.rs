@@ -45,6 +45,22 @@ pub fn check_lines(
     Ok(())
 }
 
+/// Sees that lines which are changed once fail a check in the line named. Gives
+/// what is said of it.
+#[cfg(test)]
+pub fn change_found(
+    list: &[u8],
+    lines: &str,
+    check: impl Fn(&Step) -> Result<(), String>,
+    (line, from, to): (usize, &str, &str),
+) -> String {
+    let wrong = lines.replacen(from, to, 1);
+    assert_ne!(wrong, lines, "{from}");
+    let (found, text) = check_lines(list, &wrong, check).expect_err(to);
+    assert_eq!(found, line, "{to}");
+    text
+}
+
 impl Step<'_> {
     /// The name and the refusal number; the line `end` has none.
     pub fn answer(&self) -> Option<(&str, u8)> {

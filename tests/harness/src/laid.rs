@@ -40,7 +40,7 @@ pub fn check_line(step: &Step) -> Result<(), String> {
 #[cfg(test)]
 mod tests {
     use super::*;
-    use crate::followed::check_lines;
+    use crate::followed::{change_found, check_lines};
     use crate::make::charts::Chart;
     use crate::make::graph::{all_pairs, vertices, Graph};
     use crate::make::records;
@@ -56,15 +56,12 @@ mod tests {
         let list = [records::chart(&chart), lays.concat()].concat();
         let lines = play(&list);
         assert_eq!(check_lines(&list, &lines, check_line), Ok(()));
-        for (line, from, to) in [
+        for change in [
             (2, "lay 0 5 n", "lay 0 4 n"),
             (2, "count 5 words\nlay 12", "count 6 words\nlay 12"),
             (3, "lay 12 0 n", "lay 12 5 n"),
         ] {
-            let wrong = lines.replacen(from, to, 1);
-            assert_ne!(wrong, lines, "{from}");
-            let found = check_lines(&list, &wrong, check_line).map_err(|(line, _)| line);
-            assert_eq!(found, Err(line), "{to}");
+            change_found(&list, &lines, check_line, change);
         }
     }
 }

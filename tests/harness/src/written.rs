@@ -57,7 +57,7 @@ pub fn is_read_back(before: &Step, step: &Step) -> bool {
 #[cfg(test)]
 mod tests {
     use super::*;
-    use crate::followed::{check_lines, steps};
+    use crate::followed::{change_found, check_lines, steps};
     use crate::make::charts::Chart;
     use crate::make::graph::Graph;
     use crate::make::ops::{SET_COUNT, SET_N};
@@ -124,10 +124,7 @@ mod tests {
             ),
             (5, "write 11 0", "write 19 0", "not what"),
         ] {
-            let wrong = lines.replacen(from, to, 1);
-            assert_ne!(wrong, lines, "{from}");
-            let (found, text) = check_lines(&list, &wrong, check_line).expect_err(to);
-            assert_eq!(found, line, "{to}");
+            let text = change_found(&list, &lines, check_line, (line, from, to));
             assert!(text.contains(due), "{to}: {text}");
         }
     }

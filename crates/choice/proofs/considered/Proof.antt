@@ -3,8 +3,7 @@ use native.Mathlib.Omega.{arith}
 use Prim.Native.Nat.{ℕ}
 use mathlib.Core.Path.{sym, ap₂, _∙_}
 use borrow.Author.Tests.{eq-eqb, ne-eqb}
-use Rattle.choice.specs.Choices.{complement}
-use Rattle.choice.specs.Choices.{candidate, preferredOf, consideredOf}
+use Rattle.choice.specs.Choices.{complement, candidate, preferredOf, consideredOf}
 use Rattle.choice.proofs.considered.Statement.{statement}
 use Rattle.choice.proofs.considered.Tie as tie
 

@@ -3,7 +3,7 @@ use Rattle.append.specs.Calls.{words-valid, laid-right}
 use Rattle.append.proofs.appending.append_from.Statement.{statement}
 use Rattle.append.proofs.appending.append_from.Tie as tie
 
--- from the place of those with edges to the start
+-- from the moment when those with edges are placed to the start
 abbrev start : tie.After-place-linked → tie.Start
 start c = c .before .before .before .before
 
