@@ -2,7 +2,7 @@
 -- rounds that were run in it.
 use Prim.Native.Nat.{ℕ, zero, suc, _≤_, _<_}
 use mathlib.Core.Path.{_≡_}
-use mathlib.Core.Bool.{Bool, true, false, cond}
+use mathlib.Core.Bool.{Bool, true, false, cond, not, _&&_}
 use mathlib.Core.List.{List, [], _∷_, _++_, flatMap}
 use lib.Dec.{eqb}
 use Rattle.model.specs.declared.Layout.{Layout}
@@ -15,37 +15,37 @@ use Rattle.model.specs.declared.Converged.{Converged}
 use Rattle.model.specs.declared.Outcome.{Outcome}
 use Rattle.model.specs.declared.Call.{Call}
 use Rattle.model.specs.declared.Call.the-variants as call
-use Rattle.model.specs.Lists.{one, upto}
+use Rattle.model.specs.Lists.{one, upto, sumOver}
 use Rattle.model.specs.Layouts.{emptyLayout, crossingsOf}
 use Rattle.model.specs.Edits.{addOf, linkOf, unlinkOf, moveOf}
 use Rattle.model.specs.GreedyAppend.{layOf}
-use Rattle.model.specs.Sifting.{sifted, siftOf, moves, siftRound, roundOf, settleOf}
+use Rattle.model.specs.Sifting.{sifted, optimaOf, siftOf, moves, siftRound, roundOf, settleOf}
 use Rattle.model.specs.Charts.{readOf}
 
 -- ---- calls and what they answer
 
--- the refusal code, the layout, and up to three further numbers
-abbrev pub outcome : ℕ → Layout → ℕ → ℕ → ℕ → Outcome
-outcome refusal l a b c = record { refusal = refusal; layout = l; first = a; second = b; third = c }
+-- the refusal code, the layout, and up to four further numbers
+abbrev pub outcome : ℕ → Layout → ℕ → ℕ → ℕ → ℕ → Outcome
+outcome refusal l a b c d = record { refusal = refusal; layout = l; first = a; second = b; third = c; fourth = d }
 
 -- the answers as outcomes, "settled" told by 1
 abbrev pub ofAdded : Added → Outcome
-ofAdded a = outcome (a .refusal) (a .layout) (a .vertex) 0 0
+ofAdded a = outcome (a .refusal) (a .layout) (a .vertex) 0 0 0
 
 abbrev pub ofChanged : Changed → Outcome
-ofChanged a = outcome (a .refusal) (a .layout) 0 0 0
+ofChanged a = outcome (a .refusal) (a .layout) 0 0 0 0
 
 abbrev pub ofAppended : Appended → Outcome
-ofAppended a = outcome (a .refusal) (a .layout) (a .tally) 0 0
+ofAppended a = outcome (a .refusal) (a .layout) (a .tally) 0 0 0
 
 abbrev pub ofSifted : Sifted → Outcome
-ofSifted a = outcome (a .refusal) (a .layout) (a .reduction) 0 0
+ofSifted a = outcome (a .refusal) (a .layout) (a .reduction) (a .optima) 0 0
 
 abbrev pub ofRounded : Rounded → Outcome
-ofRounded a = outcome (a .refusal) (a .layout) (a .reduction) (a .moved) 0
+ofRounded a = outcome (a .refusal) (a .layout) (a .reduction) (a .moved) (a .optima) 0
 
 abbrev pub ofConverged : Converged → Outcome
-ofConverged a = outcome (a .refusal) (a .layout) (a .reduction) (a .rounds) (one (a .converged))
+ofConverged a = outcome (a .refusal) (a .layout) (a .reduction) (a .rounds) (one (a .converged)) (a .optima)
 
 -- what a call answers on a layout: the definition of each
 unfoldable pub answerOf : Layout → Call → Outcome
@@ -97,12 +97,13 @@ butLast (x ∷ y ∷ ys) = x ∷ butLast (y ∷ ys)
 
 -- ---- the sifts and rounds that a list ran
 
--- a sift: the state before it, the vertex, the state after it, and whether the vertex moved
+-- a sift: the state before it, the vertex, the state after it, whether the vertex moved, and how many of its candidate places are best
 pub record Sift (S : Type 0) : Type 0 where
   pub before : S
   pub vertex : ℕ
   pub after : S
   pub moved : Bool
+  pub optima : ℕ
 
 -- a round: the state before it and after it, and how many vertices moved
 pub record Round (S : Type 0) : Type 0 where
@@ -111,7 +112,7 @@ pub record Round (S : Type 0) : Type 0 where
   pub moved : ℕ
 
 abbrev pub siftOn : Layout → ℕ → Sift Layout
-siftOn l u = record { before = l; vertex = u; after = sifted l u; moved = moves l u }
+siftOn l u = record { before = l; vertex = u; after = sifted l u; moved = moves l u; optima = optimaOf l u }
 
 abbrev pub roundOn : Layout → Round Layout
 roundOn l = record { before = l; after = siftRound l .layout; moved = siftRound l .moved }
@@ -195,6 +196,17 @@ roundsDue (call.RemoveEdge u v) a = 0
 roundsDue (call.MoveAfter u v) a = 0
 roundsDue (call.GreedyAppend s) a = 0
 
+-- the number of best candidate places that the answer tells, the sum of them for a round and a settling
+unfoldable pub optimaTold : Call → Outcome → ℕ
+optimaTold (call.Sift u) a = a .second
+optimaTold call.SiftingRound a = a .third
+optimaTold (call.Converge limit) a = a .fourth
+optimaTold call.AddVertex a = 0
+optimaTold (call.AddEdge u v) a = 0
+optimaTold (call.RemoveEdge u v) a = 0
+optimaTold (call.MoveAfter u v) a = 0
+optimaTold (call.GreedyAppend s) a = 0
+
 -- does the answer say converged ("settled")?
 unfoldable pub saysConverged : Call → Outcome → Bool
 saysConverged (call.Converge limit) a = eqb (a .third) 1
@@ -213,6 +225,10 @@ saysConverged (call.GreedyAppend s) a = false
 abbrev pub BestPlace : Layout → ℕ → Type 0
 BestPlace l u =
     (v : ℕ) → v < l .n → (u ≡ v → ⊥) → (moveOf l u v .refusal ≡ 0) × (crossingsOf l ≤ crossingsOf (moveOf l u v .layout))
+
+-- behind how many of the other vertices u can be moved so that the layout then has k crossings
+unfoldable pub placesWith : Layout → ℕ → ℕ → ℕ
+placesWith l u k = sumOver (λ v. one (not (eqb u v) && eqb (crossingsOf (moveOf l u v .layout)) k)) (upto (l .n))
 
 -- "no move of one device behind another helps"
 abbrev pub LocalMinimum : Layout → Type 0

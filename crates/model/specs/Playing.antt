@@ -55,11 +55,11 @@ callsOf s = callsIn (length s / 3) s
 
 -- how many numbers a call's answer takes in the table
 abbrev pub answerWidth : ℕ
-answerWidth = 4
+answerWidth = 5
 
 -- the refusal code, and the further numbers
 unfoldable pub answerNumbers : Outcome → List ℕ
-answerNumbers a = a .refusal ∷ a .first ∷ a .second ∷ a .third ∷ []
+answerNumbers a = a .refusal ∷ a .first ∷ a .second ∷ a .third ∷ a .fourth ∷ []
 
 unfoldable pub answersOf : Layout → List Call → List ℕ
 answersOf l cs = flatMap (λ (s : Step). answerNumbers (s .answer)) (steps l cs)

@@ -29,13 +29,13 @@ unfoldable pub appendReport : Appended → AppendReport
 appendReport a = record { refusal = a .refusal; tally = a .tally }
 
 unfoldable pub siftReport : Sifted → SiftReport
-siftReport a = record { refusal = a .refusal; reduction = a .reduction }
+siftReport a = record { refusal = a .refusal; reduction = a .reduction; optima = a .optima }
 
 unfoldable pub roundReport : Rounded → RoundReport
-roundReport a = record { refusal = a .refusal; reduction = a .reduction; moved = a .moved }
+roundReport a = record { refusal = a .refusal; reduction = a .reduction; moved = a .moved; optima = a .optima }
 
 unfoldable pub convergeReport : Converged → ConvergeReport
-convergeReport a = record { refusal = a .refusal; reduction = a .reduction; rounds = a .rounds; converged = a .converged }
+convergeReport a = record { refusal = a .refusal; reduction = a .reduction; rounds = a .rounds; converged = a .converged; optima = a .optima }
 
 -- ---- a chart read over a lent layout
 

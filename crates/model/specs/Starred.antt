@@ -1,5 +1,5 @@
--- The starred rings of document 01, "Rings worked by hand", and rings with isolated vertices (document 02, Note 2): two tables, and one theorem about
--- the definitions that covers them.
+-- The starred rings of document 01, "Rings worked by hand", rings with isolated vertices (document 02, Note 2), and how many places of a vertex are best
+-- (Note 3): three tables, and one theorem about the definitions that covers them.
 use Prim.Native.Nat.{ℕ, _-_, _^_}
 use mathlib.Core.Bool.{Bool, true, false, Bool·beq, xor, _&&_}
 use mathlib.Core.List.{List, [], _∷_, _++_, map, flatMap}
@@ -19,7 +19,7 @@ use Rattle.model.specs.GreedyAppend.{unplaced, waiting, isolated, hasEdg
 use Rattle.model.specs.GreedyAppend.{frontCrossings, backCrossings, alone, placeFront, placeBack, placeVertex, placeMore, placeAtBack, placeLinked}
 use Rattle.model.specs.GreedyAppend.{placeAll, formerPlaceAll, layChecks, layOf, formerLayOf}
 use Rattle.model.specs.Sifting.{clockwiseFrom, candidates, least, leastCrossings, improves, siftedOrder, sifted, reduction, siftChecks, siftOf}
-use Rattle.model.specs.Sifting.{moves, siftAll, siftRound, roundOf, afterRound, stopped, roundsUpTo, settleChecks, settleOf}
+use Rattle.model.specs.Sifting.{countWith, optima, optimaOf, moves, siftAll, siftRound, roundOf, afterRound, stopped, roundsUpTo, settleChecks, settleOf}
 use Rattle.model.specs.Charts.{sameList, sameEdge, joins, wordIn}
 
 -- ---- the tables
@@ -46,6 +46,10 @@ pub data Claim : Type 0 where
   sifting : ℕ → List ℕ → ℕ → Claim
   -- settle with a limit: the rounds, "settled", the count and the order
   settling : ℕ → ℕ → Bool → ℕ → List ℕ → Claim
+  -- sift u, a round, settle with a limit: how many candidate places have the least crossings, summed over the sifts
+  siftOptima : ℕ → ℕ → Claim
+  roundOptima : ℕ → Claim
+  settleOptima : ℕ → ℕ → Claim
 
 pub record Row : Type 0 where
   pub ring : Ring
@@ -118,6 +122,19 @@ withIsolated =
     }
     ∷ []
 
+-- how many places are best, where a vertex moves, where it stays, and with one vertex and none
+unfoldable pub withOptima : List Row
+withOptima =
+    record { ring = first; claims = siftOptima 0 2 ∷ roundOptima 8 ∷ settleOptima 1 8 ∷ settleOptima 2 16 ∷ [] }
+    ∷ record {
+      ring = record { vertices = 4; links = complete 4; order = 0 ∷ 1 ∷ 2 ∷ 3 ∷ [] };
+      claims = siftOptima 0 3 ∷ [];
+    }
+    ∷ record { ring = record { vertices = 2; links = []; order = 0 ∷ 1 ∷ [] }; claims = siftOptima 0 1 ∷ siftOptima 1 1 ∷ [] }
+    ∷ record { ring = record { vertices = 1; links = []; order = 0 ∷ [] }; claims = siftOptima 0 0 ∷ roundOptima 0 ∷ [] }
+    ∷ record { ring = record { vertices = 0; links = []; order = [] }; claims = roundOptima 0 ∷ settleOptima 1 0 ∷ [] }
+    ∷ []
+
 -- ---- the theorem
 
 -- the layout of a ring of a table, with its true count
@@ -162,14 +179,17 @@ holds l (settling limit rounds settled count o) =
     && eqb (r .rounds) rounds
     && Bool·beq (r .converged) settled
     && eqb (r .layout .count) count
+holds l (siftOptima u k) = let r = siftOf l u in eqb (r .refusal) 0 && eqb (r .optima) k
+holds l (roundOptima k) = let r = roundOf l in eqb (r .refusal) 0 && eqb (r .optima) k
+holds l (settleOptima limit k) = let r = settleOf l limit in eqb (r .refusal) 0 && eqb (r .optima) k
 
 -- every claim of the tables holds, by computation
-pub starred-holds : T (every (λ row. every (holds (layoutOf (row .ring))) (row .claims)) (starred ++ withIsolated))
-unfolding starred withIsolated first complete _to_ layoutOf sameEdges gives lays holds one upto every any keep firstWith sumOver sumPairs noRepeats
+pub starred-holds : T (every (λ row. every (holds (layoutOf (row .ring))) (row .claims)) (starred ++ withIsolated ++ withOptima))
+unfolding starred withIsolated withOptima first complete _to_ layoutOf sameEdges gives lays holds one upto every any keep firstWith sumOver sumPairs noRepeats
     member occurrences place bit linked edges between alternate crosses crossings vertexOrder crossingsOf eachOnce zeroFrom symmetric loopless
     bitsBelow valid carried changed reordered refusal byRefusal checked isValid isVertex differ limitFits changedOr insertAfter movedAfter moveChecks
     moveOf pairWith orElse firstPair firstCrossingOf unplaced waiting isolated hasEdges degreeIn preferred bestOf nextVertex closing open′
     frontCrossings backCrossings alone placeFront placeBack placeVertex placeMore placeAtBack placeLinked placeAll formerPlaceAll layChecks layOf
-    formerLayOf clockwiseFrom candidates least leastCrossings improves siftedOrder sifted reduction siftChecks siftOf moves siftAll siftRound roundOf
-    afterRound stopped roundsUpTo settleChecks settleOf sameList sameEdge joins wordIn flatMap xor
+    formerLayOf clockwiseFrom candidates least leastCrossings countWith optima optimaOf improves siftedOrder sifted reduction siftChecks siftOf moves siftAll
+    siftRound roundOf afterRound stopped roundsUpTo settleChecks settleOf sameList sameEdge joins wordIn flatMap xor
 starred-holds = tt

@@ -42,29 +42,33 @@ pub struct Appended {
     pub tally: u32,
 }
 
-// Sifting one vertex (sift): the reduction (saving), crossings before less crossings after.
+// Sifting one vertex (sift): the reduction (saving), crossings before less crossings after; and how
+// many of its candidate places have the least crossings.
 pub struct Sifted {
     pub refusal: u8,
     pub layout: Layout,
     pub reduction: u32,
+    pub optima: u32,
 }
 
-// A sifting round (round): the summed reduction, and how many vertices moved.
+// A sifting round (round): the summed reduction, how many vertices moved, and the summed optima.
 pub struct Rounded {
     pub refusal: u8,
     pub layout: Layout,
     pub reduction: u32,
     pub moved: u32,
+    pub optima: u32,
 }
 
 // Sifting rounds until a local minimum or the limit (settle): the summed reduction, the rounds run,
-// and whether the last of them moved no vertex (settled).
+// whether the last of them moved no vertex (settled), and the summed optima of all of them.
 pub struct Converged {
     pub refusal: u8,
     pub layout: Layout,
     pub reduction: u32,
     pub rounds: u32,
     pub converged: bool,
+    pub optima: u32,
 }
 
 // The carried count.
@@ -142,6 +146,7 @@ pub struct Outcome {
     pub first: u64,
     pub second: u64,
     pub third: u64,
+    pub fourth: u64,
 }
 
 // A call read from three numbers, or the end of the list.
@@ -182,6 +187,7 @@ pub struct AppendReport {
 pub struct SiftReport {
     pub refusal: u8,
     pub reduction: u32,
+    pub optima: u32,
 }
 
 #[repr(C)]
@@ -189,6 +195,7 @@ pub struct RoundReport {
     pub refusal: u8,
     pub reduction: u32,
     pub moved: u32,
+    pub optima: u32,
 }
 
 #[repr(C)]
@@ -197,6 +204,7 @@ pub struct ConvergeReport {
     pub reduction: u32,
     pub rounds: u32,
     pub converged: bool,
+    pub optima: u32,
 }
 
 // found says that two edges cross, and first and second are then the pair. Neither refused nor found: no two edges cross.
