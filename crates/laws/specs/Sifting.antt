@@ -4,4 +4,5 @@
 pub mod LocalSearch
 pub mod Candidates
 pub mod Rounds
+pub mod Optima
 pub mod Calls

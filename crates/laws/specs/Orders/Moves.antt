@@ -255,7 +255,7 @@ module _ {n : ℕ} {o : List ℕ} (perm : Permutation n o) (a : ℕ) (ha : a < n
   rest-length : suc (length (takenOut (place o a) o)) ≡ n
   rest-length = length-takenOut (place o a) o place-a ∙ perm .size
 
-  pub rest-occurrences : (v : ℕ) → occurrences v o ≡ one (eqb v a) + occurrences v (takenOut (place o a) o)
+  rest-occurrences : (v : ℕ) → occurrences v o ≡ one (eqb v a) + occurrences v (takenOut (place o a) o)
   rest-occurrences v =
       occurrences-takenOut v (place o a) o place-a
       ∙ ap (λ (x : ℕ). one (eqb v x) + occurrences v (takenOut (place o a) o)) (at-of-place perm a ha)

@@ -6,13 +6,13 @@ use mathlib.Core.Path.{_≡_, refl, sym, ap, _∙_}
 use mathlib.Core.Bool.{Bool, true, false, cond, _||_}
 use mathlib.Core.List.{List, [], _∷_, _++_}
 use lib.ListN.{length, getD, take, drop}
-use lib.Seq.{split-at, take-suc, drop-cons}
+use lib.Seq.{take-suc, drop-cons}
 use lib.Dec.{eqb, ltb}
 use borrow.Author.Tests.{eq-eqb, eqb-true, lt-ltb}
 use Rattle.model.specs.Lists.{one, any, sumOver, member, occurrences, place}
 use Rattle.laws.specs.Sums.Indicators.{less, same, more, order, one-eq, one-ne, one-lt, one-ge, one-le, one-sym}
 use Rattle.laws.specs.Sums.Ranges.{sum, sum-ext, sum-zero, sum-scale, sum-const, sum-swap, sum-at, sum-at-right, all-one}
-use Rattle.laws.specs.Sums.Lists.{sumOver-append, sumOver-places}
+use Rattle.laws.specs.Sums.Lists.{sumOver-append, sumOver-split, sumOver-places}
 
 -- the vertex at a place
 abbrev pub at : List ℕ → ℕ → ℕ
@@ -43,9 +43,8 @@ occurrences-append v xs ys = sumOver-append (λ x. one (eqb v x)) xs ys
 
 pub occurrences-split : (v : ℕ) (o : List ℕ) (j : ℕ) → j < length o
     → occurrences v o ≡ occurrences v (take j o) + (one (eqb v (at o j)) + occurrences v (drop (suc j) o))
-occurrences-split v o j h =
-    ap (occurrences v) (split-at o j 0 h)
-    ∙ rw (occurrences-append v (take j o) (at o j ∷ drop (suc j) o), occurrences-cons v (at o j) (drop (suc j) o))
+unfolding occurrences
+occurrences-split v o j h = sumOver-split (λ x. one (eqb v x)) o j h
 
 -- what occurs has a place, and stands there
 pub place-lt : (o : List ℕ) (v : ℕ) → 0 < occurrences v o → place o v < length o

@@ -95,12 +95,15 @@ module _ (l : Layout) (limit : ℕ) where
   settle-number =
       checked-number (settleChecks l limit) (roundsUpTo limit l) (settleRefused l) (λ (c : Converged). c .refusal) (rounds-refusal limit l) (λ r. refl)
 
-  pub settle-passed : settleOf l limit .refusal ≡ 0 → T (valid l) × (1 ≤ limit) × (limit ≤ 1000)
+  pub limit-passed : refusal (settleChecks l limit) ≡ 0 → T (valid l) × (1 ≤ limit) × (limit ≤ 1000)
   unfolding settleChecks limitFits
-  settle-passed e =
-      let first = valid-passed l (limitFits limit ∷ []) (sym settle-number ∙ e) in
+  limit-passed e =
+      let first = valid-passed l (limitFits limit ∷ []) e in
       let fits = passed (limitFits limit) [] (omega arith) (first .1) .passes in
       (first .0, leb-true 1 limit (both-left (leb 1 limit) (leb limit 1000) fits), leb-true limit 1000 (both-right (leb 1 limit) (leb limit 1000) fits))
+
+  pub settle-passed : settleOf l limit .refusal ≡ 0 → T (valid l) × (1 ≤ limit) × (limit ≤ 1000)
+  settle-passed e = limit-passed (sym settle-number ∙ e)
 
   pub settle-accepted : T (valid l) → 1 ≤ limit → limit ≤ 1000 → settleOf l limit ≡ roundsUpTo limit l
   unfolding settleOf settleChecks isValid limitFits

@@ -10,17 +10,17 @@ use lib.Seq.{length-take-le, getD-take, getD-drop}
 use lib.Dec.{T, eqb}
 use borrow.Author.Tests.{ltb-true}
 use Rattle.model.specs.declared.Layout.{Layout}
-use Rattle.model.specs.Lists.{one, occurrences, place}
+use Rattle.model.specs.Lists.{one, sumOver, occurrences, place}
 use Rattle.model.specs.Crossings.{crossings}
 use Rattle.model.specs.Layouts.{vertexOrder, crossingsOf, valid, modulus, carried, changed, reordered}
 use Rattle.model.specs.Edits.{movedAfter}
 use Rattle.model.specs.Sifting.{clockwiseFrom, candidates, leastCrossings, improves, siftedOrder, sifted, reduction, moves}
 use Rattle.laws.specs.Sums.Indicators.{less, same, more, order, one-eq, one-ne}
-use Rattle.laws.specs.Sums.Lists.{All, all-mono, all-map, all-places}
-use Rattle.laws.specs.Orders.Permutations.{at, occurrences-append, Permutation, place-below, occurs-at, none-beyond}
+use Rattle.laws.specs.Sums.Lists.{All, all-mono, all-map, all-places, sumOver-append, sumOver-split}
+use Rattle.laws.specs.Orders.Permutations.{at, Permutation, place-below, at-of-place, occurs-at, none-beyond}
 use Rattle.laws.specs.Layouts.Validity.{sound}
 use Rattle.laws.specs.Sifting.LocalSearch.{least-default, chosen-stays, chosen-has, chosen-least}
-use Rattle.laws.specs.Orders.Moves.{at-right, rest-occurrences, moved-permutation, moved-again}
+use Rattle.laws.specs.Orders.Moves.{at-right, moved-permutation, moved-again}
 use Rattle.laws.specs.Layouts.Reordering.{reordered-order, reordered-crossings}
 use Rattle.laws.specs.Layouts.Reordering.{reordered-length, reordered-valid, carried-right, carried-carried, carried-lt, carried-same, crossings-fit}
 use Rattle.laws.specs.Layouts.Reordering.{CountRight}
@@ -33,12 +33,15 @@ all-occurring xs h = all-places xs (λ i l. h (at xs i) (occurs-at xs i l))
 
 module _ {n : ℕ} {o : List ℕ} (perm : Permutation n o) (u : ℕ) (h : u < n) where
   -- the vertices clockwise from u are the others, each once
-  clockwise-occurrences : (v : ℕ) → occurrences v o ≡ one (eqb v u) + occurrences v (clockwiseFrom u o)
+  pub clockwise-sum : (f : ℕ → ℕ) → sumOver f o ≡ f u + sumOver f (clockwiseFrom u o)
   unfolding clockwiseFrom
-  clockwise-occurrences v =
-      rest-occurrences perm u h v
-      ∙ rw (occurrences-append v (take (place o u) o) (drop (suc (place o u)) o), occurrences-append v (drop (suc (place o u)) o) (take (place o u) o))
-      (omega arith)
+  clockwise-sum f =
+      sumOver-split f o (place o u) (rw (perm .size) (place-below perm u h))
+      ∙ rw (at-of-place perm u h, sumOver-append f (drop (suc (place o u)) o) (take (place o u) o)) (omega arith)
+
+  clockwise-occurrences : (v : ℕ) → occurrences v o ≡ one (eqb v u) + occurrences v (clockwiseFrom u o)
+  unfolding occurrences
+  clockwise-occurrences v = clockwise-sum (λ x. one (eqb v x))
 
   pub clockwise-not : occurrences u (clockwiseFrom u o) ≡ 0
   clockwise-not = omega (arith, clockwise-occurrences u, perm .once u h, one-eq u u refl)

@@ -1,19 +1,20 @@
 -- Sifting over any state with a cost: which candidate is best, and what a sift, a round of sifts and rounds up to a limit give, whatever is counted
 -- and however a candidate is made.
 use Prim.Native.Nat.{ℕ, suc, _+_, _≤_, _<_, zero-le, suc-le-suc}
-use native.Mathlib.Nat.{le-refl, le-trans, le-of-eq, le-antisymm, min-le-left, min-le-right}
+use native.Mathlib.Nat.{le-refl, le-trans, le-of-eq, le-antisymm, min-le-left, min-le-right, min-eq-right}
 use native.Mathlib.Omega.{arith}
 use mathlib.Core.Path.{_≡_, refl, sym, ap, _∙_, subst}
 use mathlib.Core.Bool.{Bool, true, false, cond, _||_, true≢false, false≢true}
 use mathlib.Core.List.{List, [], _∷_, _++_, map, flatMap}
-use lib.ListN.{length}
+use lib.ListN.{length, getD}
 use lib.Dec.{T, eqb, ltb, eqb→eq}
 use borrow.Author.Tests.{eq-eqb, ltb-true, ltb-false}
 use Rattle.model.specs.Lists.{one, upto, any, firstWith, sumOver, All, none, also}
-use Rattle.model.specs.Sifting.{least}
+use Rattle.model.specs.Sifting.{least, countWith}
 use Rattle.model.specs.Histories.{Follow, ended, next, Sift, Round, butLast}
-use Rattle.laws.specs.Sums.Indicators.{less, same, more, order}
-use Rattle.laws.specs.Sums.Lists.{all-mono, all-map, all-below}
+use Rattle.laws.specs.Sums.Indicators.{less, same, more, order, one-le, one-eq, one-ne}
+use Rattle.laws.specs.Sums.Ranges.{term-le}
+use Rattle.laws.specs.Sums.Lists.{all-mono, all-map, all-below, sumOver-places}
 
 -- ---- the least of a list, and the first entry with a test
 
@@ -33,6 +34,12 @@ module _ {A : Type 0} (f : A → ℕ) (d : ℕ) where
   least-each (x ∷ xs) =
       also (min-le-left (f x) (least f d xs)) (all-mono (least-each xs) (λ y l. le-trans (min-le-right (f x) (least f d xs)) l))
 
+  -- where no entry is below the default, that is the least
+  pub least-stays : {xs : List A} → All (λ x. d ≤ f x) xs → least f d xs ≡ d
+  unfolding least
+  least-stays none = refl
+  least-stays (also h hs) = rw (least-stays hs) (min-eq-right h)
+
   -- a least below the default is that of an entry
   pub least-some : (xs : List A) (m : ℕ) → least f d xs ≡ m → m < d → T (any (λ x. eqb (f x) m) xs)
   unfolding least any
@@ -43,6 +50,50 @@ module _ {A : Type 0} (f : A → ℕ) (d : ℕ) where
         | same k ↦ rw (eq-eqb (f x) m k) tt
         | more l ↦ or-right (eqb (f x) m) (any (λ y. eqb (f y) m) xs) (least-some xs m (omega arith) h)
       ]
+
+-- ---- how many entries have a value
+
+module _ {A : Type 0} (f : A → ℕ) (k : ℕ) where
+  pub count-most : (xs : List A) → countWith f k xs ≤ length xs
+  unfolding countWith sumOver
+  count-most [] = zero-le
+  count-most (x ∷ xs) = omega (arith, one-le (eqb (f x) k), count-most xs)
+
+  -- none of those that are all above it
+  pub count-above : {xs : List A} → All (λ x. k < f x) xs → countWith f k xs ≡ 0
+  unfolding countWith sumOver
+  count-above none = refl
+  count-above (also {x} h hs) = rw (one-ne (f x) k (λ e. omega arith), count-above hs)
+
+  -- some where one is found, or stands at a place
+  pub count-any : (xs : List A) → T (any (λ x. eqb (f x) k) xs) → 1 ≤ countWith f k xs
+  unfolding countWith sumOver any one
+  count-any [] t = absurd t
+  count-any (x ∷ xs) t = by-test (eqb (f x) k) t (count-any xs)
+    where
+      by-test : (b : Bool) → T (b || any (λ y. eqb (f y) k) xs) → (T (any (λ y. eqb (f y) k) xs) → 1 ≤ countWith f k xs) → 1 ≤ one b + countWith f k xs
+      by-test true s r = omega arith
+      by-test false s r = omega (arith, r s)
+
+  pub count-at : (d : A) (xs : List A) (i : ℕ) → i < length xs → f (getD xs i d) ≡ k → 1 ≤ countWith f k xs
+  unfolding countWith
+  count-at d xs i h e =
+      omega (
+        arith,
+        sumOver-places (λ x. one (eqb (f x) k)) d xs,
+        term-le (length xs) (λ j. one (eqb (f (getD xs j d)) k)) i h,
+        one-eq (f (getD xs i d)) k e,
+      )
+
+-- the least is that of some entry, if the default is that of one
+pub least-counted : {A : Type 0} (f : A → ℕ) (k : ℕ) (d : A) (xs : List A) (i : ℕ) → i < length xs → f (getD xs i d) ≡ k
+    → 1 ≤ countWith f (least f k xs) xs
+least-counted f k d xs i h e =
+    elim (order (least f k xs) k) [
+      | less l ↦ count-any f (least f k xs) xs (least-some f k xs (least f k xs) refl l)
+      | same q ↦ count-at f (least f k xs) d xs i h (e ∙ sym q)
+      | more l ↦ absurd (omega (arith, least-default f k xs))
+    ]
 
 module _ {A : Type 0} where
   -- the first entry with the test has it, and whatever holds of each entry
@@ -129,6 +180,8 @@ module _ {S : Type 0} (size cost : S → ℕ) (Valid : S → Type 0) (candidates
     pub same-size : size (x .after) ≡ size (x .before)
     -- it leads to the least cost of the state and its candidates
     pub least-cost : cost (x .after) ≡ least cost (cost (x .before)) (candidates (x .vertex) (x .before))
+    -- it tells how many of the candidates have that cost
+    pub optima-are : x .optima ≡ countWith cost (cost (x .after)) (candidates (x .vertex) (x .before))
     -- what a candidate of a candidate is: none costs less than the candidates did
     pub again : (k : ℕ) → NoneBelow k (x .vertex) (x .before) → NoneBelow k (x .vertex) (x .after)
     -- a vertex moves only to a lower cost, and where it does not no candidate of any vertex has changed
@@ -137,11 +190,21 @@ module _ {S : Type 0} (size cost : S → ℕ) (Valid : S → Type 0) (candidates
     pub still-cost : x .moved ≡ false → cost (x .after) ≡ cost (x .before)
 
   module _ {x : Sift S} (p : Sifts x) where
+    -- no candidate costs less than the state that it leads to
+    pub none-less : NoneBelow (cost (x .after)) (x .vertex) (x .before)
+    none-less = all-mono (least-each cost (cost (x .before)) (candidates (x .vertex) (x .before))) (λ c l. le-trans (le-of-eq (p .least-cost)) l)
+
     -- the vertex stands best
     pub sift-best : Best (x .after) (x .vertex)
-    sift-best =
-        p .again (cost (x .after))
-        (all-mono (least-each cost (cost (x .before)) (candidates (x .vertex) (x .before))) (λ c l. le-trans (le-of-eq (p .least-cost)) l))
+    sift-best = p .again (cost (x .after)) none-less
+
+    -- it tells at most as many as there are candidates, and at least one where the state itself is among them by its cost
+    pub sift-most : x .optima ≤ length (candidates (x .vertex) (x .before))
+    sift-most = rw (p .optima-are) (count-most cost (cost (x .after)) (candidates (x .vertex) (x .before)))
+
+    pub sift-some : (d : S) (i : ℕ) → i < length (candidates (x .vertex) (x .before)) → cost (getD (candidates (x .vertex) (x .before)) i d) ≡ cost (x .before)
+        → 1 ≤ x .optima
+    sift-some d i h e = rw (p .optima-are, p .least-cost) (least-counted cost (cost (x .before)) d (candidates (x .vertex) (x .before)) i h e)
 
     -- no sift raises the cost, and one that moves its vertex lowers it
     pub sift-lowers : cost (x .after) + one (x .moved) ≤ cost (x .before)

@@ -4,7 +4,7 @@ use native.Mathlib.Nat.{le-trans, le-of-eq, add-zero, add-le-add, not-suc-le-zer
 use native.Mathlib.Omega.{arith}
 use mathlib.Core.Path.{_≡_, refl, sym, ap, ap₂, _∙_, subst}
 use mathlib.Core.Bool.{Bool, true, false}
-use mathlib.Core.List.{List, [], _∷_, map}
+use mathlib.Core.List.{List, [], _∷_, map, flatMap}
 use lib.ListN.{length, length-map}
 use lib.Dec.{T, eqb}
 use borrow.Author.Tests.{eqb-true, eqb-false}
@@ -17,10 +17,10 @@ use Rattle.model.specs.Crossings.{crossings}
 use Rattle.model.specs.Layouts.{vertexOrder, crossingsOf, valid, changed, reordered}
 use Rattle.model.specs.Edits.{movedAfter, moveOf}
 use Rattle.model.specs.Sifting.{clockwiseFrom, candidates, least, leastCrossings, sifted, reduction, moves, siftAll, siftRound, afterRound, stopped}
-use Rattle.model.specs.Sifting.{roundsUpTo}
+use Rattle.model.specs.Sifting.{countWith, optima, optimaOf, roundsUpTo}
 use Rattle.model.specs.Histories.{Follow, ended, next, Sift, Round, siftOn, roundOn, siftsFrom, siftsOfRound, roundsFrom, butLast, BestPlace}
 use Rattle.model.specs.Histories.{LocalMinimum}
-use Rattle.laws.specs.Sums.Lists.{All, none, also, all-mono, all-map, all-upto, length-upto}
+use Rattle.laws.specs.Sums.Lists.{All, none, also, all-mono, all-map, all-upto, length-upto, sumOver-ext, sumOver-map, sumOver-append}
 use Rattle.laws.specs.Layouts.Validity.{sound}
 use Rattle.laws.specs.Sifting.LocalSearch.{NoneBelow, Best, Minimum, Sifts, sift-best, chain-size, Rounds, round-lowers, Settles, spent, last}
 use Rattle.laws.specs.Sifting.LocalSearch.{further}
@@ -36,10 +36,10 @@ use Rattle.laws.specs.Sifting.Candidates.{sifted-crossings, sifted-impro
 abbrev pub candidateLayouts : ℕ → Layout → List Layout
 candidateLayouts u l = map (λ v. moveOf l u v .layout) (clockwiseFrom u (vertexOrder l))
 
-abbrev vertices : Layout → ℕ
+abbrev pub vertices : Layout → ℕ
 vertices l = l .n
 
-abbrev Valid : Layout → Type 0
+abbrev pub Valid : Layout → Type 0
 Valid l = T (valid l)
 
 abbrev pub ProperSift : Sift Layout → Type 0
@@ -70,13 +70,15 @@ abbrev Places : ℕ → ℕ → Layout → Type 0
 Places k u l = (v : ℕ) → v < l .n → (u ≡ v → ⊥) → k ≤ crossings (l .n) (movedAfter u v (vertexOrder l)) (l .adjacency)
 
 module _ (l : Layout) (t : T (valid l)) (u : ℕ) (h : u < l .n) where
-  -- that is to say, no candidate of u has
+  -- that is to say, no move of u behind another, and no candidate of u has
+  pub to-moves : (k : ℕ) → NoneBelow vertices crossingsOf Valid candidateLayouts k u l
+      → (v : ℕ) → v < l .n → (u ≡ v → ⊥) → k ≤ crossingsOf (moveOf l u v .layout)
+  to-moves k b v m d =
+      occurring (all-unmap (λ c. k ≤ crossingsOf c) (λ v. moveOf l u v .layout) (clockwiseFrom u (vertexOrder l)) b) v
+      (omega (arith, clockwise-once (sound l t .permutation) u h v m d))
+
   to-places : (k : ℕ) → NoneBelow vertices crossingsOf Valid candidateLayouts k u l → Places k u l
-  to-places k b v m d =
-      le-trans
-      (occurring (all-unmap (λ c. k ≤ crossingsOf c) (λ v. moveOf l u v .layout) (clockwiseFrom u (vertexOrder l)) b) v
-      (omega (arith, clockwise-once (sound l t .permutation) u h v m d)))
-      (le-of-eq (move-crossings l t u h v m d))
+  to-places k b v m d = le-trans (to-moves k b v m d) (le-of-eq (move-crossings l t u h v m d))
 
   from-places : (k : ℕ) → Places k u l → NoneBelow vertices crossingsOf Valid candidateLayouts k u l
   from-places k b =
@@ -85,10 +87,7 @@ module _ (l : Layout) (t : T (valid l)) (u : ℕ) (h : u < l .n) where
 
   -- a vertex that stands best stands so by the call move
   pub best-place : Best vertices crossingsOf Valid candidateLayouts l u → BestPlace l u
-  best-place b v m d = (
-    ap (λ (c : Changed). c .refusal) (move-accepted l u v t h m d),
-    le-trans (to-places (crossingsOf l) b v m d) (le-of-eq (sym (move-crossings l t u h v m d))),
-  )
+  best-place b v m d = (ap (λ (c : Changed). c .refusal) (move-accepted l u v t h m d), to-moves (crossingsOf l) b v m d)
 
 pub local-minimum : (l : Layout) → T (valid l) → Minimum vertices crossingsOf Valid candidateLayouts l → LocalMinimum l
 local-minimum l t b u h = best-place l t u h (b u h)
@@ -101,14 +100,35 @@ unfolding least
 least-same f g p q d none h = refl
 least-same f g p q d (also {x} r rs) h = ap₂ min (h x r) (least-same f g p q d rs h)
 
+count-same : {A B C : Type 0} {P : A → Type 0} (f : B → ℕ) (g : C → ℕ) (p : A → B) (q : A → C) (k : ℕ) {xs : List A} → All P xs
+    → ((x : A) → P x → f (p x) ≡ g (q x)) → countWith f k (map p xs) ≡ countWith g k (map q xs)
+unfolding countWith
+count-same f g p q k {xs} all h =
+    sumOver-map (λ y. one (eqb (f y) k)) p xs
+    ∙ sumOver-ext (λ x. one (eqb (f (p x)) k)) (λ x. one (eqb (g (q x)) k)) all (λ x r. ap (λ (y : ℕ). one (eqb y k)) (h x r))
+    ∙ sym (sumOver-map (λ y. one (eqb (g y) k)) q xs)
+
 module _ (l : Layout) (t : T (valid l)) (u : ℕ) (h : u < l .n) where
+  -- the candidates have the crossings of the layouts that moving gives
+  as-moved : (v : ℕ) → (v < l .n) × (u ≡ v → ⊥) → crossings (l .n) (movedAfter u v (vertexOrder l)) (l .adjacency) ≡ crossingsOf (moveOf l u v .layout)
+  as-moved v p = sym (move-crossings l t u h v (p .0) (p .1))
+
+  sifted-least : crossingsOf (sifted l u) ≡ leastCrossings (l .n) (l .adjacency) u (vertexOrder l)
+  sifted-least = sifted-crossings l t u h ∙ sift-least (sound l t .permutation) (l .adjacency) u h
+
+  optima-candidates : optimaOf l u ≡ countWith crossingsOf (crossingsOf (sifted l u)) (candidateLayouts u l)
+  unfolding optimaOf optima candidates
+  optima-candidates =
+      ap (λ (k : ℕ). countWith (λ c. crossings (l .n) c (l .adjacency)) k (candidates u (vertexOrder l))) (sym sifted-least)
+      ∙ count-same (λ c. crossings (l .n) c (l .adjacency)) crossingsOf (λ v. movedAfter u v (vertexOrder l)) (λ v. moveOf l u v .layout)
+      (crossingsOf (sifted l u)) (clockwise-others (sound l t .permutation) u h) as-moved
+
   leads-to-least : crossingsOf (sifted l u) ≡ least crossingsOf (crossingsOf l) (candidateLayouts u l)
   unfolding leastCrossings candidates crossingsOf
   leads-to-least =
-      sifted-crossings l t u h
-      ∙ sift-least (sound l t .permutation) (l .adjacency) u h
+      sifted-least
       ∙ least-same (λ c. crossings (l .n) c (l .adjacency)) crossingsOf (λ v. movedAfter u v (vertexOrder l)) (λ v. moveOf l u v .layout)
-      (crossingsOf l) (clockwise-others (sound l t .permutation) u h) (λ v p. sym (move-crossings l t u h v (p .0) (p .1)))
+      (crossingsOf l) (clockwise-others (sound l t .permutation) u h) as-moved
 
   -- the places of w where the order of the sifted layout makes no difference to them
   same-places : (w : ℕ) → ((v : ℕ) → movedAfter w v (vertexOrder (sifted l u)) ≡ movedAfter w v (vertexOrder l))
@@ -126,6 +146,7 @@ module _ (l : Layout) (t : T (valid l)) (u : ℕ) (h : u < l .n) where
         valid-after = after;
         same-size = refl;
         least-cost = leads-to-least;
+        optima-are = optima-candidates;
         again = λ k b.
             from-places (sifted l u) after u h k
             (same-places u (λ v. ap (movedAfter u v) (sifted-order l t u h) ∙ sift-moved (sound l t .permutation) (l .adjacency) u h v) k
@@ -161,10 +182,15 @@ unfolding siftsFrom siftAll sumOver
 sifts-counted [] l = refl
 sifts-counted (u ∷ us) l = ap (λ (k : ℕ). one (moves l u) + k) (sifts-counted us (sifted l u))
 
+pub sifts-optima : (us : List ℕ) (l : Layout) → siftAll us l .optima ≡ sumOver (λ (x : Sift Layout). x .optima) (siftsFrom us l)
+unfolding siftsFrom siftAll sumOver
+sifts-optima [] l = refl
+sifts-optima (u ∷ us) l = ap (λ (k : ℕ). optimaOf l u + k) (sifts-optima us (sifted l u))
+
 later-below : (l : Layout) {us : List ℕ} (t : T (valid l)) (u : ℕ) (h : u < l .n) → All (λ w. w < l .n) us → All (λ w. w < sifted l u .n) us
 later-below l t u h hs = all-mono hs (λ w k. rw (sifted-improved l t u h .same-n) k)
 
-sifts-proper : (us : List ℕ) (l : Layout) → T (valid l) → All (λ u. u < l .n) us → All ProperSift (siftsFrom us l)
+pub sifts-proper : (us : List ℕ) (l : Layout) → T (valid l) → All (λ u. u < l .n) us → All ProperSift (siftsFrom us l)
 unfolding siftsFrom
 sifts-proper [] l t none = none
 sifts-proper (u ∷ us) l t (also h hs) =
@@ -233,6 +259,17 @@ unfolding roundsUpTo stopped afterRound
 rounds-refusal zero l = refl
 rounds-refusal (suc limit) l = refl
 
+-- the optima of the sifts of rounds
+abbrev pub optimaIn : List (Round Layout) → ℕ
+optimaIn rs = sumOver (λ (x : Sift Layout). x .optima) (flatMap siftsOfRound rs)
+
+-- those of a round and of the rounds behind it
+pub one-more-round : (l : Layout) (rs : List (Round Layout)) → siftRound l .optima + optimaIn rs ≡ optimaIn (roundOn l ∷ rs)
+unfolding siftRound siftsOfRound flatMap
+one-more-round l rs =
+    ap (λ (k : ℕ). k + optimaIn rs) (sifts-optima (upto (l .n)) l)
+    ∙ sym (sumOver-append (λ (x : Sift Layout). x .optima) (siftsOfRound (roundOn l)) (flatMap siftsOfRound rs))
+
 -- what holds of a result of settling l with a limit, and of the rounds run
 pub record Settling (limit : ℕ) (l : Layout) (result : Converged) (rs : List (Round Layout)) : Type 0 where
   pub settles : SettlesTo limit l rs (result .layout) (result .converged)
@@ -240,11 +277,12 @@ pub record Settling (limit : ℕ) (l : Layout) (result : Converged) (rs : List (
   pub number : result .rounds ≡ length rs
   pub improved : Improved l (result .layout)
   pub exact : crossingsOf (result .layout) + result .reduction ≡ crossingsOf l
+  pub optima-are : result .optima ≡ optimaIn rs
 
 pub settling : (limit : ℕ) (l : Layout) → T (valid l) → Settling limit l (roundsUpTo limit l) (roundsFrom limit l)
-unfolding roundsUpTo roundsFrom stopped afterRound
+unfolding roundsUpTo roundsFrom stopped afterRound flatMap sumOver
 settling zero l t =
-    record { settles = spent; proper = none; number = refl; improved = improved-refl l t; exact = add-zero (crossingsOf l) }
+    record { settles = spent; proper = none; number = refl; improved = improved-refl l t; exact = add-zero (crossingsOf l); optima-are = refl }
 settling (suc limit) l t =
     by-test (eqb (siftRound l .moved) 0) refl (settling limit (siftRound l .layout) (round-reduced l t .improved .valid-after))
   where
@@ -260,6 +298,7 @@ settling (suc limit) l t =
           number = refl;
           improved = round-reduced l t .improved;
           exact = omega (arith, round-reduced l t .exact);
+          optima-are = one-more-round l [];
         }
     by-test false e s =
         let some : siftRound l .moved ≡ 0 → ⊥ = eqb-false (siftRound l .moved) 0 e in
@@ -269,6 +308,7 @@ settling (suc limit) l t =
           number = ap suc (s .number);
           improved = improved-trans (round-reduced l t .improved) (s .improved);
           exact = omega (arith, s .exact, round-reduced l t .exact);
+          optima-are = ap (λ (k : ℕ). siftRound l .optima + k) (s .optima-are) ∙ one-more-round l (roundsFrom limit (siftRound l .layout));
         }
       where
         positive : (k : ℕ) → (k ≡ 0 → ⊥) → 0 < k

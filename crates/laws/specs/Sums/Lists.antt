@@ -6,7 +6,7 @@ use mathlib.Core.Path.{_≡_, refl, sym, ap, ap₂, _∙_, subst}
 use mathlib.Core.Bool.{Bool, true, false, not, cond, _&&_, and-comm}
 use mathlib.Core.List.{List, [], _∷_, _++_, map, flatMap, append-assoc}
 use lib.ListN.{length, getD, take, drop, length-append, length-drop, List·getD-append}
-use lib.Seq.{length-take-le, getD-at, getD-take, getD-drop}
+use lib.Seq.{length-take-le, split-at, getD-at, getD-take, getD-drop}
 use Rattle.model.specs.Lists.{one, upto, keep, sumOver, sumPairs}
 pub use Rattle.model.specs.Lists.{All, none, also}
 use Rattle.laws.specs.Sums.Indicators.{less, same, more, order}
@@ -26,6 +26,12 @@ module _ {A : Type 0} where
   unfolding sumOver
   sumOver-add f g [] = refl
   sumOver-add f g (x ∷ xs) = rw (sumOver-add f g xs) (omega arith)
+
+  -- at most c for each entry
+  pub sumOver-most : (f : A → ℕ) (c : ℕ) {xs : List A} → All (λ x. f x ≤ c) xs → sumOver f xs ≤ c * length xs
+  unfolding sumOver
+  sumOver-most f c none = zero-le
+  sumOver-most f c (also {x} {xs} h hs) = omega (arith, sumOver-most f c hs)
 
   pub sumOver-append : (f : A → ℕ) (xs ys : List A) → sumOver f (xs ++ ys) ≡ sumOver f xs + sumOver f ys
   unfolding sumOver
@@ -259,6 +265,11 @@ module _ {P : ℕ → Type 0} where
   all-drop zero a = a
   all-drop (suc j) none = none
   all-drop (suc j) (also p ps) = all-drop j ps
+
+-- before a place, at it and behind it
+pub sumOver-split : (f : ℕ → ℕ) (o : List ℕ) (j : ℕ) → j < length o → sumOver f o ≡ sumOver f (take j o) + (f (getD o j 0) + sumOver f (drop (suc j) o))
+unfolding sumOver
+sumOver-split f o j h = ap (sumOver f) (split-at o j 0 h) ∙ sumOver-append f (take j o) (getD o j 0 ∷ drop (suc j) o)
 
 pub sumOver-take : (f : ℕ → ℕ) (o : List ℕ) (j : ℕ) → j ≤ length o → sumOver f (take j o) ≡ sum j (λ i. f (getD o i 0))
 sumOver-take f o j h =
