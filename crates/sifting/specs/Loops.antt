@@ -1,5 +1,5 @@
 -- A round as a loop over the vertices, and settling as a loop over rounds.
-use Prim.Native.Nat.{ℕ, suc, _+_, _-_, _≤_, _<_}
+use Prim.Native.Nat.{ℕ, suc, _+_, _-_, _*_, _≤_, _<_}
 use native.Mathlib.Nat.{add-zero, zero-add, add-comm, add-assoc, le-antisymm, sub-zero, sub-eq-zero-of-le}
 use native.Mathlib.Numerals.{add-one}
 use native.Mathlib.Omega.{arith}
@@ -12,16 +12,17 @@ use borrow.Author.Tests.{eq-eqb, ne-eqb}
 use Rattle.model.specs.declared.Layout.{Layout}
 use Rattle.model.specs.declared.Rounded.{Rounded}
 use Rattle.model.specs.declared.Converged.{Converged}
-use Rattle.model.specs.Lists.{one, upto}
+use Rattle.model.specs.Lists.{one, upto, All}
 use Rattle.model.specs.Crossings.{crossings}
 use Rattle.model.specs.Layouts.{vertexOrder, valid, crossingsOf, carried, changed, reordered}
 use Rattle.model.specs.Sifting.{leastCrossings, siftedOrder, sifted, reduction, moves, noSifts, afterSift, siftAll, siftRound, afterRound, stopped}
-use Rattle.model.specs.Sifting.{roundsUpTo}
-use Rattle.laws.specs.Sums.Lists.{all-upto, all-mono}
+use Rattle.model.specs.Sifting.{optimaOf, siftAnswer, roundsUpTo}
+use Rattle.laws.specs.Sums.Lists.{all-upto, all-mono, length-upto}
 use Rattle.laws.specs.Crossings.Bound.{mostCrossings}
 use Rattle.laws.specs.Layouts.Validity.{sound, crossings-bound}
 use Rattle.laws.specs.Sifting.Candidates.{sift-least, sifted-crossings, sifted-improved, sifted-still, sifted-less}
 use Rattle.laws.specs.Sifting.Rounds.{sifts-reduced, round-reduced, rounds-refusal}
+use Rattle.laws.specs.Sifting.Optima.{sifts-few, round-few}
 
 -- ---- one sift
 
@@ -45,6 +46,11 @@ module _ (l : Layout) (t : T (valid l)) (u : ℕ) (h : u < l .n) where
     unfolding reduction
     sifted-saves = (omega (arith, sifted-improved l t u h .no-more, sifted-fewest), ap₂ _-_ b (sym sifted-fewest))
 
+  -- the whole answer
+  pub sift-answered : {m : Layout} {x k : ℕ} → m ≡ sifted l u → x ≡ reduction l (sifted l u) → k ≡ optimaOf l u
+      → record { refusal = 0; layout = m; reduction = x; optima = k } ≡ siftAnswer l u
+  sift-answered a b c = rw (a, b, c)
+
   -- a vertex moves exactly where its sift takes crossings away
   pub moves-saving : cond (eqb (reduction l (sifted l u)) 0) 0 1 ≡ one (moves l u)
   unfolding reduction one
@@ -64,19 +70,21 @@ siftNext s u =
       layout = sifted (s .layout) u;
       reduction = s .reduction + reduction (s .layout) (sifted (s .layout) u);
       moved = s .moved + one (moves (s .layout) u);
+      optima = s .optima + optimaOf (s .layout) u;
     }
 
 pub sift-snoc : (us : List ℕ) (u : ℕ) (l : Layout) → siftAll (us ++ (u ∷ [])) l ≡ siftNext (siftAll us l) u
 unfolding siftAll siftNext
 sift-snoc [] u l =
-    ap₂ (λ (x y : ℕ). record { refusal = 0; layout = sifted l u; reduction = x; moved = y })
-    (add-comm (reduction l (sifted l u)) 0) (add-comm (one (moves l u)) 0)
+    rw (add-comm (reduction l (sifted l u)) 0, add-comm (one (moves l u)) 0, add-comm (optimaOf l u) 0)
 sift-snoc (v ∷ vs) u l =
     let rest = siftAll vs (sifted l v) in
     ap (afterSift l v) (sift-snoc vs u (sifted l v))
-    ∙ ap₂ (λ (x y : ℕ). record { refusal = 0; layout = sifted (rest .layout) u; reduction = x; moved = y })
-    (sym (add-assoc (reduction l (sifted l v)) (rest .reduction) (reduction (rest .layout) (sifted (rest .layout) u))))
-    (sym (add-assoc (one (moves l v)) (rest .moved) (one (moves (rest .layout) u))))
+    ∙ rw (
+      add-assoc (reduction l (sifted l v)) (rest .reduction) (reduction (rest .layout) (sifted (rest .layout) u)),
+      add-assoc (one (moves l v)) (rest .moved) (one (moves (rest .layout) u)),
+      add-assoc (optimaOf l v) (rest .optima) (optimaOf (rest .layout) u),
+    )
 
 -- the vertices below u sifted, as far as the numbers of a round go
 pub record RoundUpTo (l : Layout) (s : Rounded) (u : ℕ) : Type 0 where
@@ -89,12 +97,20 @@ pub record Ready (l : Layout) (s : Rounded) : Type 0 where
   pub same-n : s .layout .n ≡ l .n
   pub exact : crossingsOf (s .layout) + s .reduction ≡ crossingsOf l
   pub fewer : s .moved ≤ s .reduction
+  pub few : s .optima ≤ 4032
 
 pub ready : {l : Layout} {s : Rounded} {u : ℕ} → T (valid l) → RoundUpTo l s u → Ready l s
 ready {l} {s} {u} t r =
-    let p = sifts-reduced (upto u) l t (all-mono (all-upto u) (λ v b. omega (arith, r .inside))) in
+    let below : All (λ v. v < l .n) (upto u) = all-mono (all-upto u) (λ v b. omega (arith, r .inside)) in
+    let p = sifts-reduced (upto u) l t below in
     rw (r .state)
-    (record { is-valid = p .improved .valid-after; same-n = p .improved .same-n; exact = p .exact; fewer = p .fewer })
+    (record {
+      is-valid = p .improved .valid-after;
+      same-n = p .improved .same-n;
+      exact = p .exact;
+      fewer = p .fewer;
+      few = omega (arith, sifts-few (upto u) l t below, length-upto u, r .inside, sound l t .small);
+    })
 
 pub round-start : (l : Layout) → RoundUpTo l (noSifts l) 0
 unfolding siftAll upto
@@ -119,38 +135,38 @@ round-end {l} {s} {u} r h = r .state ∙ ap (λ (k : ℕ). siftAll (upto k) l) (
 -- ---- settling
 
 -- rounds that were run, before those that follow
-unfoldable pub afterRounds : ℕ → ℕ → Converged → Converged
-afterRounds saved run rest =
+unfoldable pub afterRounds : ℕ → ℕ → ℕ → Converged → Converged
+afterRounds saved run told rest =
     record {
       refusal = 0;
       layout = rest .layout;
       reduction = saved + rest .reduction;
       rounds = run + rest .rounds;
       converged = rest .converged;
+      optima = told + rest .optima;
     }
 
 -- run rounds lead from l to m, none of them still, and the rest is settled from there
-pub record SettlingUpTo (l : Layout) (limit : ℕ) (m : Layout) (saved run : ℕ) : Type 0 where
+pub record SettlingUpTo (l : Layout) (limit : ℕ) (m : Layout) (saved run told : ℕ) : Type 0 where
   pub inside : run ≤ limit
   pub is-valid : T (valid m)
   pub exact : crossingsOf m + saved ≡ crossingsOf l
-  pub whole : roundsUpTo limit l ≡ afterRounds saved run (roundsUpTo (limit - run) m)
+  pub few : told ≤ 4032 * run
+  pub whole : roundsUpTo limit l ≡ afterRounds saved run told (roundsUpTo (limit - run) m)
 
-pub settling-start : (l : Layout) (limit : ℕ) → T (valid l) → SettlingUpTo l limit l 0 0
+pub settling-start : (l : Layout) (limit : ℕ) → T (valid l) → SettlingUpTo l limit l 0 0 0
 unfolding afterRounds
 settling-start l limit t =
     record {
       inside = omega arith;
       is-valid = t;
       exact = add-zero (crossingsOf l);
-      whole = sym (ap (λ (k : ℕ). afterRounds 0 0 (roundsUpTo k l)) (sub-zero limit) ∙ nothing-yet (roundsUpTo limit l) (rounds-refusal limit l));
+      few = omega arith;
+      whole = sym (ap (λ (k : ℕ). afterRounds 0 0 0 (roundsUpTo k l)) (sub-zero limit) ∙ nothing-yet (roundsUpTo limit l) (rounds-refusal limit l));
     }
   where
-    nothing-yet : (c : Converged) → c .refusal ≡ 0 → afterRounds 0 0 c ≡ c
-    nothing-yet c e =
-        ap₂ (λ (x y : ℕ). record { refusal = 0; layout = c .layout; reduction = x; rounds = y; converged = c .converged })
-        (zero-add (c .reduction)) (zero-add (c .rounds))
-        ∙ ap (λ (r : ℕ). record { refusal = r; layout = c .layout; reduction = c .reduction; rounds = c .rounds; converged = c .converged }) (sym e)
+    nothing-yet : (c : Converged) → c .refusal ≡ 0 → afterRounds 0 0 0 c ≡ c
+    nothing-yet c e = rw (zero-add (c .reduction), zero-add (c .rounds), zero-add (c .optima), ← e)
 
 -- a round that moves something, and one that does not
 rounds-more : (k : ℕ) (m : Layout) → (siftRound m .moved ≡ 0 → ⊥) → roundsUpTo (suc k) m ≡ afterRound (siftRound m) (roundsUpTo k (siftRound m .layout))
@@ -161,18 +177,24 @@ rounds-still : (k : ℕ) (m : Layout) → siftRound m .moved ≡ 0 → roundsUpT
 unfolding roundsUpTo
 rounds-still k m e = rw (eq-eqb (siftRound m .moved) 0 e)
 
-after-more : (saved run : ℕ) (first : Rounded) (rest : Converged)
-    → afterRounds saved run (afterRound first rest) ≡ afterRounds (saved + first .reduction) (run + 1) rest
+after-more : (saved run told : ℕ) (first : Rounded) (rest : Converged)
+    → afterRounds saved run told (afterRound first rest) ≡ afterRounds (saved + first .reduction) (run + 1) (told + first .optima) rest
 unfolding afterRounds afterRound
-after-more saved run first rest =
-    ap₂ (λ (x y : ℕ). record { refusal = 0; layout = rest .layout; reduction = x; rounds = y; converged = rest .converged })
-    (sym (add-assoc saved (first .reduction) (rest .reduction))) (omega arith)
+after-more saved run told first rest =
+    let one-more : run + suc (rest .rounds) ≡ run + 1 + rest .rounds = omega arith in
+    rw (add-assoc saved (first .reduction) (rest .reduction), add-assoc told (first .optima) (rest .optima), one-more)
 
-module _ {l : Layout} {limit : ℕ} {m : Layout} {saved run : ℕ} (s : SettlingUpTo l limit m saved run) where
+none-after : (saved run told : ℕ) (m : Layout) (b : Bool)
+    → afterRounds saved run told (stopped m b) ≡ record { refusal = 0; layout = m; reduction = saved; rounds = run; converged = b; optima = told }
+unfolding afterRounds stopped
+none-after saved run told m b = rw (add-zero saved, add-zero run, add-zero told)
+
+module _ {l : Layout} {limit : ℕ} {m : Layout} {saved run told : ℕ} (s : SettlingUpTo l limit m saved run told) where
   one-more-left : run < limit → limit - run ≡ suc (limit - (run + 1))
   one-more-left h = omega arith
 
-  pub settling-next : {r : Rounded} → run < limit → r ≡ siftRound m → (r .moved ≡ 0 → ⊥) → SettlingUpTo l limit (r .layout) (saved + r .reduction) (run + 1)
+  pub settling-next : {r : Rounded} → run < limit → r ≡ siftRound m → (r .moved ≡ 0 → ⊥)
+      → SettlingUpTo l limit (r .layout) (saved + r .reduction) (run + 1) (told + r .optima)
   settling-next {r} h e d =
       let p = round-reduced m (s .is-valid) in
       rw e
@@ -180,35 +202,36 @@ module _ {l : Layout} {limit : ℕ} {m : Layout} {saved run : ℕ} (s : Settling
         inside = omega arith;
         is-valid = p .improved .valid-after;
         exact = omega (arith, p .exact, s .exact);
+        few = omega (arith, s .few, round-few m (s .is-valid));
         whole =
             s .whole
-            ∙ ap (λ (k : ℕ). afterRounds saved run (roundsUpTo k m)) (one-more-left h)
-            ∙ ap (afterRounds saved run) (rounds-more (limit - (run + 1)) m (λ z. d (ap (λ (x : Rounded). x .moved) e ∙ z)))
-            ∙ after-more saved run (siftRound m) (roundsUpTo (limit - (run + 1)) (siftRound m .layout));
+            ∙ ap (λ (k : ℕ). afterRounds saved run told (roundsUpTo k m)) (one-more-left h)
+            ∙ ap (afterRounds saved run told) (rounds-more (limit - (run + 1)) m (λ z. d (ap (λ (x : Rounded). x .moved) e ∙ z)))
+            ∙ after-more saved run told (siftRound m) (roundsUpTo (limit - (run + 1)) (siftRound m .layout));
       })
 
   pub settling-still : {r : Rounded} → run < limit → r ≡ siftRound m → r .moved ≡ 0
-      → record { refusal = 0; layout = r .layout; reduction = saved + r .reduction; rounds = run + 1; converged = true } ≡ roundsUpTo limit l
-  unfolding afterRounds stopped
+      → record { refusal = 0; layout = r .layout; reduction = saved + r .reduction; rounds = run + 1; converged = true; optima = told + r .optima }
+      ≡ roundsUpTo limit l
   settling-still {r} h e z =
       rw e
       (sym
       (s .whole
-      ∙ ap (λ (k : ℕ). afterRounds saved run (roundsUpTo k m)) (one-more-left h)
-      ∙ ap (afterRounds saved run) (rounds-still (limit - (run + 1)) m (ap (λ (x : Rounded). x .moved) (sym e) ∙ z))
-      ∙ after-more saved run (siftRound m) (stopped (siftRound m .layout) true)
-      ∙ ap₂ (λ (x y : ℕ). record { refusal = 0; layout = siftRound m .layout; reduction = x; rounds = y; converged = true })
-      (add-zero (saved + siftRound m .reduction)) (add-zero (run + 1))))
+      ∙ ap (λ (k : ℕ). afterRounds saved run told (roundsUpTo k m)) (one-more-left h)
+      ∙ ap (afterRounds saved run told) (rounds-still (limit - (run + 1)) m (ap (λ (x : Rounded). x .moved) (sym e) ∙ z))
+      ∙ after-more saved run told (siftRound m) (stopped (siftRound m .layout) true)
+      ∙ none-after (saved + siftRound m .reduction) (run + 1) (told + siftRound m .optima) (siftRound m .layout) true))
 
-  pub settling-limit : limit ≤ run → record { refusal = 0; layout = m; reduction = saved; rounds = run; converged = false } ≡ roundsUpTo limit l
-  unfolding roundsUpTo afterRounds stopped
+  pub settling-limit : limit ≤ run
+      → record { refusal = 0; layout = m; reduction = saved; rounds = run; converged = false; optima = told } ≡ roundsUpTo limit l
+  unfolding roundsUpTo
   settling-limit h =
       sym
-      (s .whole
-      ∙ ap (λ (k : ℕ). afterRounds saved run (roundsUpTo k m)) (sub-eq-zero-of-le h)
-      ∙ ap₂ (λ (x y : ℕ). record { refusal = 0; layout = m; reduction = x; rounds = y; converged = false }) (add-zero saved) (add-zero run))
+      (s .whole ∙ ap (λ (k : ℕ). afterRounds saved run told (roundsUpTo k m)) (sub-eq-zero-of-le h) ∙ none-after saved run told m false)
 
   -- the numbers stay small
-  pub settling-bounds : {r : Rounded} → T (valid l) → r ≡ siftRound m → saved + r .reduction ≤ mostCrossings
-  settling-bounds {r} t e =
-      omega (arith, crossings-bound l t, s .exact, round-reduced m (s .is-valid) .exact, ap (λ (x : Rounded). x .reduction) e)
+  pub settling-bounds : {r : Rounded} → T (valid l) → r ≡ siftRound m → (saved + r .reduction ≤ mostCrossings) × (told + r .optima ≤ 4032 * (run + 1))
+  settling-bounds {r} t e = (
+    omega (arith, crossings-bound l t, s .exact, round-reduced m (s .is-valid) .exact, ap (λ (x : Rounded). x .reduction) e),
+    omega (arith, s .few, round-few m (s .is-valid), ap (λ (x : Rounded). x .optima) e),
+  )

@@ -10,18 +10,19 @@ use lib.ListN.{length, getD, take, drop, length-map, take-append-drop, List·get
 use lib.Seq.{take-suc, take-all, take-at}
 use lib.Dec.{T, eqb, leb, ltb}
 use borrow.Author.Tests.{le-leb, lt-ltb, le-ltb, eq-eqb, ne-eqb}
-use Rattle.model.specs.Lists.{any, firstWith, place}
+use Rattle.model.specs.Lists.{one, any, firstWith, sumOver, place, All}
 use Rattle.model.specs.Crossings.{crossings}
 use Rattle.model.specs.Edits.{movedAfter}
-use Rattle.model.specs.Sifting.{clockwiseFrom, candidates, least, leastCrossings, improves, siftedOrder}
-use Rattle.laws.specs.Sums.Indicators.{less, same, more, order}
+use Rattle.model.specs.Sifting.{clockwiseFrom, candidates, least, leastCrossings, improves, siftedOrder, countWith, optima}
+use Rattle.laws.specs.Sums.Indicators.{less, same, more, order, one-eq}
+use Rattle.laws.specs.Sums.Lists.{all-mono, sumOver-last}
 use Rattle.laws.specs.Orders.Permutations.{at, Permutation, at-lt, place-below, place-of-at}
 use Rattle.laws.specs.Layouts.Recount.{Drawn, counted, counted-crossings}
 use Rattle.laws.specs.Orders.Moves.{moved-permutation}
 use Rattle.places.specs.MovedPlaces.{shifted, shifted-moved}
 use Rattle.walk.specs.declared.Walk.{Walk}
-use Rattle.walk.specs.Walks.{turned, movedPlaces, candidateArray, better, walkTo}
-use Rattle.laws.specs.Sifting.LocalSearch.{least-default, least-some}
+use Rattle.walk.specs.Walks.{turned, movedPlaces, candidateArray, taking, keeping, better, walkTo}
+use Rattle.laws.specs.Sifting.LocalSearch.{least-default, least-each, least-some, count-above}
 use Rattle.laws.specs.Sifting.Candidates.{clockwise-length, clockwise-behind, clockwise-before}
 
 -- ---- the first with the fewest, of the entries so far
@@ -50,22 +51,32 @@ module _ (f : List ℕ → ℕ) (o : List ℕ) where
       rw (ne-eqb (f y) (f x) (λ e. omega (arith, min-le-left (f y) (least f (f o) ys))))
       (first-new ys x (omega (arith, min-le-right (f y) (least f (f o) ys))))
 
-  pub record BestSoFar (xs : List (List ℕ)) (best : List ℕ) (fewest : ℕ) : Type 0 where
+  -- the first with the fewest, the fewest, and how many have them
+  pub record BestSoFar (xs : List (List ℕ)) (best : List ℕ) (fewest optima : ℕ) : Type 0 where
     pub fewest-is : fewest ≡ least f (f o) xs
     pub chosen : best ≡ cond (ltb fewest (f o)) (firstWith (λ c. eqb (f c) fewest) o xs) o
+    pub optima-are : optima ≡ countWith f fewest xs
 
-  pub best-none : BestSoFar [] o (f o)
-  unfolding least
+  -- one entry more, as it may have the fewest
+  count-snoc : (k : ℕ) (xs : List (List ℕ)) (x : List ℕ) → countWith f k (xs ++ (x ∷ [])) ≡ countWith f k xs + one (eqb (f x) k)
+  unfolding countWith
+  count-snoc k xs x = sumOver-last x (λ y. one (eqb (f y) k)) xs
+
+  pub best-none : BestSoFar [] o (f o) 0
+  unfolding least countWith sumOver
   best-none =
       record {
         fewest-is = refl;
+        optima-are = refl;
         chosen = sym (ap (λ (t : Bool). cond t (firstWith (λ c. eqb (f c) (f o)) o []) o) (le-ltb (f o) (f o) (le-refl (f o))));
       }
 
-  pub best-better : {xs : List (List ℕ)} {best : List ℕ} {fewest : ℕ} → BestSoFar xs best fewest → (x : List ℕ) → f x < fewest
-      → BestSoFar (xs ++ (x ∷ [])) x (f x)
+  pub best-better : {xs : List (List ℕ)} {best : List ℕ} {fewest optima : ℕ} → BestSoFar xs best fewest optima → (x : List ℕ) → f x < fewest
+      → BestSoFar (xs ++ (x ∷ [])) x (f x) 1
   best-better {xs} {best} {fewest} b x h =
+      let above : All (λ y. f x < f y) xs = all-mono (least-each f (f o) xs) (λ y l. omega (arith, b .fewest-is)) in
       record {
+        optima-are = sym (count-snoc (f x) xs x ∙ ap₂ _+_ (count-above f (f x) above) (one-eq (f x) (f x) refl));
         fewest-is = sym (least-snoc (f o) xs x ∙ min-eq-right (omega (arith, b .fewest-is)));
         chosen =
             sym
@@ -74,10 +85,11 @@ module _ (f : List ℕ → ℕ) (o : List ℕ) where
             ∙ first-new xs x (omega (arith, b .fewest-is)));
       }
 
-  pub best-same : {xs : List (List ℕ)} {best : List ℕ} {fewest : ℕ} → BestSoFar xs best fewest → (x : List ℕ) → fewest ≤ f x
-      → BestSoFar (xs ++ (x ∷ [])) best fewest
+  pub best-same : {xs : List (List ℕ)} {best : List ℕ} {fewest optima : ℕ} → BestSoFar xs best fewest optima → (x : List ℕ) → fewest ≤ f x
+      → BestSoFar (xs ++ (x ∷ [])) best fewest (optima + one (eqb (f x) fewest))
   best-same {xs} {best} {fewest} b x h =
       record {
+        optima-are = ap (λ (k : ℕ). k + one (eqb (f x) fewest)) (b .optima-are) ∙ sym (count-snoc fewest xs x);
         fewest-is = b .fewest-is ∙ sym (least-snoc (f o) xs x ∙ min-eq-left (omega (arith, b .fewest-is)));
         chosen =
             b .chosen
@@ -104,11 +116,11 @@ unfoldable pub candidate : ℕ → List ℕ → ℕ → ℕ → List ℕ
 candidate n places u j = movedAfter u (at (clockwiseFrom u (take n places)) j) (take n places)
 
 -- after j candidates: the array holds the first with fewest crossings, before the unused places
-pub record WalkUpTo (n : ℕ) (places adj : List ℕ) (u : ℕ) (best : List ℕ) (fewest j : ℕ) : Type 0 where
+pub record WalkUpTo (n : ℕ) (places adj : List ℕ) (u : ℕ) (w : Walk) (j : ℕ) : Type 0 where
   pub inside : j < n
   pub list : List ℕ
-  pub array : best ≡ list ++ drop n places
-  pub so-far : BestSoFar (λ c. crossings n c adj) (take n places) (take j (candidates u (take n places))) list fewest
+  pub array : w .order ≡ list ++ drop n places
+  pub so-far : BestSoFar (λ c. crossings n c adj) (take n places) (take j (candidates u (take n places))) list (w .after) (w .optima)
 
 -- what a walk starts from: an array of 64 places with an order and its edges, and one of the vertices
 pub record Walker (n : ℕ) (places adj : List ℕ) (u : ℕ) : Type 0 where
@@ -116,11 +128,12 @@ pub record Walker (n : ℕ) (places adj : List ℕ) (u : ℕ) : Type 0 where
   pub drawn : Drawn n places adj
   pub vertex : u < n
 
--- what it finds: the order after the sift, and the crossings before and after it
+-- what it finds: the order after the sift, the crossings before and after it, and how many candidates have as few
 pub record Found (n : ℕ) (places adj : List ℕ) (u : ℕ) (r : Walk) : Type 0 where
   pub order : r .order ≡ siftedOrder n adj u (take n places) ++ drop n places
   pub before : r .before ≡ crossings n (take n places) adj
   pub after : r .after ≡ leastCrossings n adj u (take n places)
+  pub optima-are : r .optima ≡ optima n adj u (take n places)
 
 module _ {n : ℕ} {places adj : List ℕ} {u : ℕ} (walker : Walker n places adj u) where
   size : length places ≡ 64
@@ -187,7 +200,8 @@ module _ {n : ℕ} {places adj : List ℕ} {u : ℕ} (walker : Walker n places a
   abbrev score : List ℕ → ℕ
   score c = crossings n c adj
 
-  walk-start : {fewest : ℕ} → fewest ≡ crossings n (take n places) adj → WalkUpTo n places adj u places fewest 0
+  walk-start : {fewest : ℕ} → fewest ≡ crossings n (take n places) adj
+      → WalkUpTo n places adj u (record { order = places; before = fewest; after = fewest; optima = 0 }) 0
   walk-start e =
       record {
         inside = omega arith;
@@ -201,9 +215,9 @@ module _ {n : ℕ} {places adj : List ℕ} {u : ℕ} (walker : Walker n places a
       take-suc (candidates u (take n places)) j (movedAfter u 0 (take n places)) (omega (arith, candidates-length))
       ∙ ap (λ (c : List ℕ). take j (candidates u (take n places)) ++ (c ∷ [])) (candidate-at j)
 
-  module _ {best : List ℕ} {fewest j : ℕ} (w : WalkUpTo n places adj u best fewest j) (l : j + 1 < n) where
+  module _ {best : Walk} {j : ℕ} (w : WalkUpTo n places adj u best j) (l : j + 1 < n) where
     walk-better : {xs : List ℕ} {c : ℕ} → xs ≡ candidate n places u j ++ drop n places → c ≡ crossings n (candidate n places u j) adj
-        → c < fewest → WalkUpTo n places adj u xs c (suc j)
+        → c < best .after → WalkUpTo n places adj u (taking best xs c) (suc j)
     walk-better {xs} {c} x e b =
         record {
           inside = omega arith;
@@ -212,25 +226,29 @@ module _ {n : ℕ} {places adj : List ℕ} {u : ℕ} (walker : Walker n places a
           so-far = rw (e, next-candidates j l) (best-better (λ c. crossings n c adj) (take n places) (w .so-far) (candidate n places u j) (rw e at b));
         }
 
-    walk-same : {c : ℕ} → c ≡ crossings n (candidate n places u j) adj → fewest ≤ c → WalkUpTo n places adj u best fewest (suc j)
+    walk-same : {c : ℕ} → c ≡ crossings n (candidate n places u j) adj → best .after ≤ c
+        → WalkUpTo n places adj u (keeping best (best .optima + one (eqb c (best .after)))) (suc j)
     walk-same {c} e b =
         record {
           inside = omega arith;
           list = w .list;
           array = w .array;
-          so-far = rw (next-candidates j l) (best-same (λ c. crossings n c adj) (take n places) (w .so-far) (candidate n places u j) (rw e at b));
+          so-far = rw (e, next-candidates j l) (best-same (λ c. crossings n c adj) (take n places) (w .so-far) (candidate n places u j) (rw e at b));
         }
 
-  walk-end : {best : List ℕ} {fewest j : ℕ} → WalkUpTo n places adj u best fewest j → n ≤ j + 1
-      → (best ≡ siftedOrder n adj u (take n places) ++ drop n places) × (fewest ≡ leastCrossings n adj u (take n places))
-  unfolding siftedOrder improves leastCrossings
-  walk-end {best} {fewest} {j} w l =
+  -- every candidate was looked at
+  walk-end : {r : Walk} {j : ℕ} → r .before ≡ crossings n (take n places) adj → WalkUpTo n places adj u r j → n ≤ j + 1 → Found n places adj u r
+  unfolding siftedOrder improves leastCrossings optima
+  walk-end {r} {j} e w l =
       let whole = candidates u (take n places) in
       let all : take j whole ≡ whole = take-all j whole (omega (arith, candidates-length)) in
-      let found : fewest ≡ least score (score (take n places)) (candidates u (take n places)) = rw all at (w .so-far .fewest-is) in (
-        w .array ∙ ap (λ (x : List ℕ). x ++ drop n places) (rw (all, found) at (w .so-far .chosen)),
-        found,
-      )
+      let found : r .after ≡ least score (score (take n places)) (candidates u (take n places)) = rw all at (w .so-far .fewest-is) in
+      record {
+        order = w .array ∙ ap (λ (x : List ℕ). x ++ drop n places) (rw (all, found) at (w .so-far .chosen));
+        before = e;
+        after = found;
+        optima-are = rw (all, found) at (w .so-far .optima-are);
+      }
 
   -- what the counter answers for a candidate
   candidate-counted : (j : ℕ) → j + 1 < n → counted n (candidateArray n places u j) adj ≡ crossings n (candidate n places u j) adj
@@ -249,7 +267,7 @@ module _ {n : ℕ} {places adj : List ℕ} {u : ℕ} (walker : Walker n places a
   -- ---- what the code walks
 
   -- every turn of it
-  walked : (j : ℕ) → j < n → let w = walkTo n places adj u j in WalkUpTo n places adj u (w .order) (w .after) j
+  walked : (j : ℕ) → j < n → WalkUpTo n places adj u (walkTo n places adj u j) j
   unfolding walkTo better
   walked zero l = walk-start (counted-crossings (walker .drawn))
   walked (suc j) l =
@@ -268,17 +286,17 @@ module _ {n : ℕ} {places adj : List ℕ} {u : ℕ} (walker : Walker n places a
   unfolding walkTo better
   kept zero = refl
   kept (suc j) =
-      by-test (ltb (counted n (candidateArray n places u j) adj) (walkTo n places adj u j .after)) (walkTo n places adj u j) (candidateArray n places u j)
-      (counted n (candidateArray n places u j) adj) (kept j)
+      let best = walkTo n places adj u j in
+      let count = counted n (candidateArray n places u j) adj in
+      by-test (ltb count (best .after)) best (candidateArray n places u j) count (best .optima + one (eqb count (best .after))) (kept j)
     where
-      by-test : (b : Bool) (w : Walk) (xs : List ℕ) (c : ℕ) → w .before ≡ counted n places adj
-          → cond b (record { order = xs; before = w .before; after = c }) w .before ≡ counted n places adj
-      by-test true w xs c e = e
-      by-test false w xs c e = e
+      by-test : (b : Bool) (w : Walk) (xs : List ℕ) (c k : ℕ) → w .before ≡ counted n places adj
+          → cond b (taking w xs c) (keeping w k) .before ≡ counted n places adj
+      by-test true w xs c k e = e
+      by-test false w xs c k e = e
 
   -- all of it
   pub walk-found : {r : Walk} → r ≡ walkTo n places adj u (cond (leb n 64) (n - 1) 0) → Found n places adj u r
   walk-found {r} e =
       let whole : r ≡ walkTo n places adj u (n - 1) = rw (le-leb n 64 small) at e in
-      let end = walk-end (walked (n - 1) (omega arith)) (omega arith) in
-      rw whole (record { order = end .0; before = kept (n - 1) ∙ counted-crossings (walker .drawn); after = end .1 })
+      rw whole (walk-end (kept (n - 1) ∙ counted-crossings (walker .drawn)) (walked (n - 1) (omega arith)) (omega arith))

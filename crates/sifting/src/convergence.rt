@@ -1,5 +1,6 @@
 // Sifting rounds until one moves no vertex, or the limit is reached (document 01: settle).
 ghost use mathlib.Core.Path.{_≡_};
+ghost use Prim.Native.Nat.{_≤_};
 ghost use lib.Dec.{T};
 ghost use Rattle.model.specs.Layouts.{valid};
 ghost use Rattle.model.specs.Sifting.{settleOf, roundsUpTo};
@@ -19,6 +20,7 @@ pub fn converge(l: Layout, limit: u32) -> Converged
             reduction: 0,
             rounds: 0,
             converged: false,
+            optima: 0,
         };
     }
     run_rounds(l, limit)
@@ -26,16 +28,19 @@ pub fn converge(l: Layout, limit: u32) -> Converged
 
 // Rounds, counted against the limit.
 fn run_rounds(l: Layout, limit: u32) -> Converged
-    requires { ⌜ T (valid l) ⌝ }
+    requires { ⌜ T (valid l) × (limit ≤ 1000) ⌝ }
     ensures { λ r. ⌜ r ≡ roundsUpTo limit l ⌝ }
 {
     let mut state = l;
     let mut reduction: u32 = 0;
     let mut rounds: u32 = 0;
+    let mut optima: u32 = 0;
     while rounds < limit {
         let round = sift_all(state);
         state = round.layout;
         reduction += round.reduction;
+        let told = round.optima;
+        optima += told;
         rounds += 1;
         if round.moved == 0 {
             return Converged {
@@ -44,6 +49,7 @@ fn run_rounds(l: Layout, limit: u32) -> Converged
                 reduction,
                 rounds,
                 converged: true,
+                optima,
             };
         }
     }
@@ -53,5 +59,6 @@ fn run_rounds(l: Layout, limit: u32) -> Converged
         reduction,
         rounds,
         converged: false,
+        optima,
     }
 }

@@ -21,6 +21,7 @@ pub fn sifting_round(l: Layout) -> Rounded
             layout: l,
             reduction: 0,
             moved: 0,
+            optima: 0,
         };
     }
     sift_all(l)
@@ -37,6 +38,7 @@ pub(crate) fn sift_all(l: Layout) -> Rounded
         layout: l,
         reduction: 0,
         moved: 0,
+        optima: 0,
     };
     let mut u = 0;
     while u < n {
@@ -48,19 +50,24 @@ pub(crate) fn sift_all(l: Layout) -> Rounded
 
 // One more vertex sifted.
 fn sift_next(s: Rounded, u: usize) -> Rounded
-    requires { ⌜ T (valid (s .layout)) × (u < s .layout .n) × (crossingsOf (s .layout) + s .reduction ≤ mostCrossings) × (s .moved ≤ s .reduction) ⌝ }
+    requires { ⌜ T (valid (s .layout)) × (u < s .layout .n) × (crossingsOf (s .layout) + s .reduction ≤ mostCrossings) × (s .moved ≤ s .reduction)
+        × (s .optima ≤ 4032) ⌝ }
     ensures { λ r. ⌜ r ≡ siftNext s u ⌝ }
 {
     let before = s.layout;
     let step = sift_vertex(before, u);
     let after = step.layout;
     let saved = step.reduction;
-    let moved = moved_by(saved);
+    let one = moved_by(saved);
+    let reduction = s.reduction + saved;
+    let moved = s.moved + one;
+    let optima = s.optima + step.optima;
     Rounded {
         refusal: 0,
         layout: after,
-        reduction: s.reduction + saved,
-        moved: s.moved + moved,
+        reduction,
+        moved,
+        optima,
     }
 }
 

@@ -3,7 +3,7 @@ ghost use mathlib.Core.Path.{_≡_};
 ghost use Prim.Native.Nat.{_<_};
 ghost use lib.Dec.{T};
 ghost use Rattle.model.specs.Layouts.{valid};
-ghost use Rattle.model.specs.Sifting.{sifted, reduction as reductionOf, siftOf};
+ghost use Rattle.model.specs.Sifting.{siftAnswer, siftOf};
 use carrying::carried;
 use model::Layout;
 use model::Sifted;
@@ -19,6 +19,7 @@ pub fn sift(l: Layout, u: usize) -> Sifted
             refusal,
             layout: l,
             reduction: 0,
+            optima: 0,
         };
     }
     sift_vertex(l, u)
@@ -27,7 +28,7 @@ pub fn sift(l: Layout, u: usize) -> Sifted
 // A sift whose checks have passed.
 pub(crate) fn sift_vertex(l: Layout, u: usize) -> Sifted
     requires { ⌜ T (valid l) × (u < l .n) ⌝ }
-    ensures { λ r. ⌜ r ≡ record { refusal = 0; layout = sifted l u; reduction = reductionOf l (sifted l u) } ⌝ }
+    ensures { λ r. ⌜ r ≡ siftAnswer l u ⌝ }
 {
     let n = l.n;
     let before = l.order;
@@ -45,5 +46,6 @@ pub(crate) fn sift_vertex(l: Layout, u: usize) -> Sifted
         refusal: 0,
         layout,
         reduction: best.before - best.after,
+        optima: best.optima,
     }
 }

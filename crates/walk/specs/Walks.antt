@@ -1,15 +1,16 @@
 -- The walk through the candidates of a sift, one after the other, over any bytes.
-use Prim.Native.Nat.{ℕ, zero, suc, _+_, _-_, _≤_, _<_, suc-le-suc}
-use native.Mathlib.Nat.{le-antisymm}
+use Prim.Native.Nat.{ℕ, zero, suc, _+_, _-_, _≤_, _<_, zero-le, suc-le-suc}
+use native.Mathlib.Nat.{le-antisymm, le-of-lt, add-zero}
 use native.Mathlib.Numerals.{add-one}
 use native.Mathlib.Omega.{arith}
-use mathlib.Core.Path.{_≡_, ap, ap₂, _∙_}
+use mathlib.Core.Path.{_≡_, sym, ap, ap₂, _∙_}
 use mathlib.Core.Bool.{Bool, true, false, cond, _&&_}
 use mathlib.Core.List.{List, [], _∷_}
 use lib.ListN.{length, take}
 use lib.Dec.{eqb, ltb}
 use borrow.Author.Tests.{lt-ltb, le-ltb}
-use Rattle.model.specs.Lists.{place}
+use Rattle.model.specs.Lists.{one, place}
+use Rattle.laws.specs.Sums.Indicators.{one-eq, one-ne, one-le}
 use Rattle.laws.specs.Layouts.Recount.{counted}
 use Rattle.places.specs.MovedPlaces.{shifted}
 use Rattle.walk.specs.declared.Walk.{Walk}
@@ -35,24 +36,55 @@ movedPlaces places p q = cond (ltb p 64 && ltb q 64) (shifted places p q) places
 unfoldable pub candidateArray : ℕ → List ℕ → ℕ → ℕ → List ℕ
 candidateArray n places u j = movedPlaces places (place (take n places) u) (turned n (place (take n places) u) j)
 
--- a candidate with fewer crossings takes the place of the best so far
+-- a candidate with fewer crossings takes the place of the best so far, one with as many stands beside it
+abbrev pub taking : Walk → List ℕ → ℕ → Walk
+taking best candidate count = record { order = candidate; before = best .before; after = count; optima = 1 }
+
+abbrev pub keeping : Walk → ℕ → Walk
+keeping best k = record { order = best .order; before = best .before; after = best .after; optima = k }
+
 unfoldable pub better : Walk → List ℕ → ℕ → Walk
-better best candidate count = cond (ltb count (best .after)) (record { order = candidate; before = best .before; after = count }) best
+better best candidate count =
+    cond (ltb count (best .after)) (taking best candidate count) (keeping best (best .optima + one (eqb count (best .after))))
 
 module _ (best : Walk) (candidate : List ℕ) {count counted : ℕ} (e : count ≡ counted) where
-  pub better-taken : count < best .after → record { order = candidate; before = best .before; after = count } ≡ better best candidate counted
+  pub better-taken : count < best .after → taking best candidate count ≡ better best candidate counted
   unfolding better
   better-taken h = rw (← e, lt-ltb count (best .after) h)
 
-  pub better-left : best .after ≤ count → best ≡ better best candidate counted
+  pub better-left : best .after < count → best ≡ better best candidate counted
   unfolding better
-  better-left h = rw (← e, le-ltb count (best .after) h)
+  better-left h =
+      rw (← e, le-ltb count (best .after) (le-of-lt h), one-ne count (best .after) (λ k. omega arith))
+      (ap (keeping best) (sym (add-zero (best .optima))))
+
+  pub better-beside : count ≡ best .after → keeping best (best .optima + 1) ≡ better best candidate counted
+  unfolding better
+  better-beside k = rw (← e, le-ltb count (best .after) (omega arith), one-eq count (best .after) k)
 
 -- the present order and the first j candidates
 unfoldable pub walkTo : ℕ → List ℕ → List ℕ → ℕ → ℕ → Walk
-walkTo n places adj u zero = record { order = places; before = counted n places adj; after = counted n places adj }
+walkTo n places adj u zero = record { order = places; before = counted n places adj; after = counted n places adj; optima = 0 }
 walkTo n places adj u (suc j) =
     better (walkTo n places adj u j) (candidateArray n places u j) (counted n (candidateArray n places u j) adj)
+
+-- at most one beside it for each candidate
+walk-few : (n : ℕ) (places adj : List ℕ) (u j : ℕ) → walkTo n places adj u j .optima ≤ j
+unfolding walkTo better one
+walk-few n places adj u zero = zero-le
+walk-few n places adj u (suc j) =
+    by-tests (ltb count (best .after)) (eqb count (best .after)) (walk-few n places adj u j)
+  where
+    best : Walk
+    best = walkTo n places adj u j
+
+    count : ℕ
+    count = counted n (candidateArray n places u j) adj
+
+    by-tests : (b c : Bool) → best .optima ≤ j
+        → cond b (taking best (candidateArray n places u j) count) (keeping best (best .optima + one c)) .optima ≤ suc j
+    by-tests true c h = suc-le-suc zero-le
+    by-tests false c h = omega (arith, one-le c)
 
 -- ---- the loop
 
@@ -62,9 +94,13 @@ pub record TriedUpTo (n : ℕ) (places adj : List ℕ) (u : ℕ) (best : Walk) (
   pub found : best ≡ walkTo n places adj u j
 
 module _ {n : ℕ} {places adj : List ℕ} {u : ℕ} where
-  pub tried-start : {count : ℕ} → count ≡ counted n places adj → TriedUpTo n places adj u (record { order = places; before = count; after = count }) 0
+  pub tried-start : {count : ℕ} → count ≡ counted n places adj
+      → TriedUpTo n places adj u (record { order = places; before = count; after = count; optima = 0 }) 0
   unfolding walkTo
-  tried-start e = record { inside = omega arith; found = ap (λ (x : ℕ). record { order = places; before = x; after = x }) e }
+  tried-start e = record { inside = omega arith; found = ap (λ (x : ℕ). record { order = places; before = x; after = x; optima = 0 }) e }
+
+  pub tried-few : {best : Walk} {j : ℕ} → TriedUpTo n places adj u best j → best .optima ≤ j
+  tried-few {best} {j} b = rw (b .found) (walk-few n places adj u j)
 
   pub tried-next : {best next : Walk} {j p q : ℕ} {xs : List ℕ} → TriedUpTo n places adj u best j → j + 1 < n
       → p ≡ place (take n places) u → q ≡ turned n p j → xs ≡ movedPlaces places p q → next ≡ better best xs (counted n xs adj)

@@ -6,7 +6,7 @@ use lib.ListN.{length, take}
 use lib.Seq.{length-take-le}
 use borrow.Author.Tests.{le-leb, lt-leb}
 use Rattle.laws.specs.Layouts.Recount.{counted}
-use Rattle.walk.specs.Walks.{movedPlaces, TriedUpTo, tried-start, tried-next, tried-end, place-most}
+use Rattle.walk.specs.Walks.{movedPlaces, TriedUpTo, tried-start, tried-few, tried-next, tried-end, place-most}
 use Rattle.walk.proofs.best_order.Statement.{statement}
 use Rattle.walk.proofs.best_order.Tie as tie
 
@@ -59,13 +59,15 @@ turned-requires c κs =
     let few = small found in
     let s = start few .args in
     let most = place-most (take (s .n) (s .t2)) (s .u) in
-    (few .if1 .left, omega (arith, found .place-of .ensures, most, length-take-le (s .n) (s .t2) (inside few)), c .loop-test .taken)
+    (few .if1 .left, omega (arith, found .place-of .ensures, most, length-take-le (s .n) (s .t2) (inside few)), omega (arith, c .loop-test .taken))
 
 moved-requires : tie.Need-moved-requires Inv-loop μ-loop
 moved-requires c κs = tt
 
 tried-requires : tie.Need-tried-requires Inv-loop μ-loop
-tried-requires c κs = tt
+tried-requires c κs =
+    let at = c .before .before .before in
+    omega (arith, tried-few (at .loop .inv), at .loop .inv .inside, small (at .before) .if1 .left)
 
 -- the turn of the loop that a candidate is tried in
 abbrev turn : tie.After-tried Inv-loop μ-loop → tie.In-loop Inv-loop μ-loop
@@ -82,11 +84,11 @@ unfolding movedPlaces
 loop-again c =
     let made = c .before in
     let at = turn c in
-    tried-next (at .before .loop .inv) (at .loop-test .taken) (at .before .before .place-of .ensures) (made .before .turned .ensures) (made .moved .ensures)
-    (c .tried .ensures)
+    tried-next (at .before .loop .inv) (omega (arith, at .loop-test .taken)) (at .before .before .place-of .ensures)
+    (made .before .turned .ensures) (made .moved .ensures) (c .tried .ensures)
 
 returns-2 : tie.Need-returns-2 Inv-loop μ-loop
-returns-2 c = rw (le-leb _ 64 (small (c .before .before) .if1 .left)) (tried-end (c .before .loop .inv) (c .loop-test .left))
+returns-2 c = rw (le-leb _ 64 (small (c .before .before) .if1 .left)) (tried-end (c .before .loop .inv) (omega (arith, c .loop-test .left)))
 
 pub best-order-spec : {M : Type 1} → statement M
 best-order-spec =

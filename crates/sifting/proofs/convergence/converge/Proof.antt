@@ -1,9 +1,9 @@
 use borrow.Author.Needs.{needs}
 use mathlib.Core.Path.{_≡_, sym, _∙_}
-use mathlib.Core.List.{[], _∷_}
-use Rattle.model.specs.Checks.{refusal, limitFits}
+use Rattle.model.specs.Checks.{refusal}
 use Rattle.model.specs.Sifting.{settleChecks, settleRefused, settleOf, roundsUpTo}
-use Rattle.laws.specs.Layouts.Refusals.{valid-passed, when-accepted, when-refused}
+use Rattle.laws.specs.Layouts.Refusals.{when-accepted, when-refused}
+use Rattle.laws.specs.Sifting.Calls.{limit-passed}
 use Rattle.sifting.proofs.convergence.converge.Statement.{statement}
 use Rattle.sifting.proofs.convergence.converge.Tie as tie
 
@@ -23,8 +23,9 @@ returns c =
     (c .before .limit-refusal .ensures) (c .if1 .taken))
 
 run-rounds-requires : tie.Need-run-rounds-requires
-unfolding settleChecks
-run-rounds-requires c κs = let s = c .before .before .args in valid-passed (s .l) (limitFits (s .limit) ∷ []) (accepted c) .0
+run-rounds-requires c κs =
+    let passed = limit-passed _ _ (accepted c) in
+    (passed .0, passed .2)
 
 returns-2 : tie.Need-returns-2
 unfolding settleOf

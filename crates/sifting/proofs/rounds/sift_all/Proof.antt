@@ -18,7 +18,7 @@ sift-next-requires : tie.Need-sift-next-requires Inv-loop μ-loop
 sift-next-requires c κs =
     let start = c .before .before in
     let s = ready (start .pre) (c .before .loop .inv) in
-    (s .is-valid, omega (arith, s .same-n), omega (arith, s .exact, crossings-bound (start .args .l) (start .pre)), s .fewer)
+    (s .is-valid, omega (arith, s .same-n), omega (arith, s .exact, crossings-bound (start .args .l) (start .pre)), s .fewer, s .few)
 
 add-u : tie.Need-add-u Inv-loop μ-loop
 add-u c = omega arith

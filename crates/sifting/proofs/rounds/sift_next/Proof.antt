@@ -10,6 +10,8 @@ use Rattle.model.specs.Lists.{one}
 use Rattle.model.specs.Layouts.{crossingsOf}
 use Rattle.model.specs.Sifting.{sifted, reduction, moves}
 use Rattle.laws.specs.Sums.Indicators.{one-le}
+use Rattle.laws.specs.Sifting.Rounds.{proper-sift}
+use Rattle.laws.specs.Sifting.Optima.{sift-few}
 use Rattle.sifting.specs.Loops.{siftNext, moves-saving}
 use Rattle.sifting.proofs.rounds.sift_next.Statement.{statement}
 use Rattle.sifting.proofs.rounds.sift_next.Tie as tie
@@ -36,26 +38,42 @@ sift-vertex-requires c κs = search needs
 moved-by-requires : tie.Need-moved-by-requires
 moved-by-requires c κs = search needs
 
-add-t8 : tie.Need-add-t8
+add-reduction : tie.Need-add-reduction
 unfolding reduction
-add-t8 c =
-    let sifting = c .before in
-    let s = start sifting .args in
-    omega (arith, saved sifting, sub-le (crossingsOf (s .s .layout)) (crossingsOf (sifted (s .s .layout) (s .u))))
+add-reduction c =
+    let s = start (c .before) .args in
+    omega (arith, saved (c .before), sub-le (crossingsOf (s .s .layout)) (crossingsOf (sifted (s .s .layout) (s .u))))
 
-add-t9 : tie.Need-add-t9
-add-t9 c =
+add-moved : tie.Need-add-moved
+add-moved c =
     let sifting = c .before .before in
     let s = start sifting .args in
     omega (arith, moved sifting, one-le (moves (s .s .layout) (s .u)))
 
+-- the vertex was sifted, and it is known whether it moved
+abbrev done : tie.After-struct-known4 → tie.After-moved-by
+done c = c .before .before .before .before
+
+add-optima : tie.Need-add-optima
+add-optima c =
+    let sifting = done c in
+    let s = start sifting .args in
+    let ready = start sifting .pre in
+    omega (
+      arith,
+      ready .4,
+      ap (λ (r : Sifted). r .optima) (sifting .before .before .sift-vertex .ensures),
+      sift-few (proper-sift (s .s .layout) (ready .0) (s .u) (ready .1)),
+    )
+
 returns : tie.Need-returns
 unfolding siftNext
 returns c =
-    let sifting = c .before .before in
+    let sifting = done c in
     let s = start sifting .args .s in
-    ap₂ (λ (r : Sifted) (k : ℕ). record { refusal = 0; layout = r .layout; reduction = s .reduction + r .reduction; moved = s .moved + k })
+    ap₂ (λ (r : Sifted) (k : ℕ).
+    record { refusal = 0; layout = r .layout; reduction = s .reduction + r .reduction; moved = s .moved + k; optima = s .optima + r .optima })
     (sifting .before .before .sift-vertex .ensures) (moved sifting)
 
 pub sift-next-spec : {M : Type 1} → statement M
-sift-next-spec = tie.close (tie.spec sift-vertex-requires moved-by-requires add-t8 add-t9 returns)
+sift-next-spec = tie.close (tie.spec sift-vertex-requires moved-by-requires add-reduction add-moved add-optima returns)

@@ -1,13 +1,12 @@
 use borrow.Author.Needs.{needs}
-use Prim.Native.Nat.{ℕ, _-_, _≤_}
+use Prim.Native.Nat.{_-_, _≤_}
 use native.Mathlib.Omega.{arith}
-use mathlib.Core.Path.{_≡_, ap₂}
-use Rattle.model.specs.declared.Layout.{Layout}
+use mathlib.Core.Path.{_≡_}
 use Rattle.model.specs.Layouts.{vertexOrder, crossingsOf}
-use Rattle.model.specs.Sifting.{sifted, reduction}
+use Rattle.model.specs.Sifting.{sifted, reduction, optimaOf}
 use Rattle.laws.specs.Layouts.Recount.{drawn}
 use Rattle.sifting.specs.Walk.{Found, walk-found}
-use Rattle.sifting.specs.Loops.{sifted-carried, sifted-saves}
+use Rattle.sifting.specs.Loops.{sifted-carried, sifted-saves, sift-answered}
 use Rattle.sifting.proofs.sifts.sift_vertex.Statement.{statement}
 use Rattle.sifting.proofs.sifts.sift_vertex.Tie as tie
 
@@ -41,15 +40,16 @@ sub-t12 : tie.Need-sub-t12
 sub-t12 c = omega (arith, saves (c .before .before .before) .0)
 
 returns : tie.Need-returns
-unfolding crossingsOf vertexOrder
+unfolding crossingsOf vertexOrder optimaOf
 returns c =
     let walked = c .before .before .before in
     let s = start walked .args in
     let ready = start walked .pre in
     let best = found walked in
-    ap₂ (λ (k : Layout) (x : ℕ). record { refusal = 0; layout = k; reduction = x })
+    sift-answered (s .l) (ready .0) (s .u) (ready .1)
     (sifted-carried (s .l) (ready .0) (s .u) (ready .1) (best .before) (best .after) (best .order) (c .before .carried .ensures))
     (saves walked .1)
+    (best .optima-are)
 
 pub sift-vertex-spec : {M : Type 1} → statement M
 sift-vertex-spec = tie.close (tie.spec best-order-requires carried-requires sub-t12 returns)
