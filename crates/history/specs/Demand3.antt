@@ -10,16 +10,18 @@ use borrow.Author.Tests.{eqb-true, eqb-false}
 use Rattle.model.specs.declared.Layout.{Layout}
 use Rattle.model.specs.declared.Call.{Call}
 use Rattle.model.specs.declared.Call.the-variants as call
-use Rattle.model.specs.Lists.{upto, All, none, also}
+use Rattle.model.specs.Lists.{upto, sumOver, All, none, also}
 use Rattle.model.specs.Layouts.{vertexOrder, crossingsOf, eachOnce, valid}
+use Rattle.model.specs.Edits.{moveOf}
 use Rattle.model.specs.Histories.{Start, Step, afterStep, steps, played, Follow, ended, next, Sift, Round, outcome, answerOf, accepted}
 use Rattle.model.specs.Histories.{siftCalled, roundsOfCall, siftsOfRound, roundsOfStep, siftsOfStep, roundsIn, siftsIn, sifting, roundsDue}
-use Rattle.model.specs.Histories.{saysConverged}
+use Rattle.model.specs.Histories.{saysConverged, optimaTold, placesWith}
 use Rattle.model.specs.Histories.{butLast, BestPlace, LocalMinimum}
 use Rattle.laws.specs.Sums.Indicators.{T-true}
 use Rattle.laws.specs.Sums.Lists.{all-mono, all-flatMap}
 use Rattle.laws.specs.Layouts.Validity.{sound, permutation-eachOnce}
 use Rattle.laws.specs.Sifting.Rounds.{ProperSift, ProperRound, best-sifted, round-no-more}
+use Rattle.laws.specs.Sifting.Optima.{optima-least, optima-counted, optima-some, optima-below}
 use Rattle.history.specs.StepLaws.{Right, start-right, call-keeps, call-refused, CallFacts, call-facts, stepOn, step-sifts, step-rounds}
 use Rattle.history.specs.StepLaws.{rounds-sifts, refused-says-nothing}
 
@@ -29,7 +31,7 @@ use Rattle.history.specs.StepLaws.{rounds-sifts, refused-says-nothing}
 -- code
 pub record Defined (s : Step) : Type 0 where
   pub answers : s .answer ≡ answerOf (s .before) (s .call)
-  pub unchanged : accepted s ≡ false → s .answer ≡ outcome (s .answer .refusal) (s .before) 0 0 0
+  pub unchanged : accepted s ≡ false → s .answer ≡ outcome (s .answer .refusal) (s .before) 0 0 0 0
 
 -- an accepted settling with this limit that did not say converged ran as many rounds as its limit, and each moved a vertex
 abbrev pub LimitReached : Step → ℕ → Type 0
@@ -37,12 +39,21 @@ LimitReached s limit =
     s .call ≡ call.Converge limit → s .answer .third ≡ 0
     → (s .answer .second ≡ limit) × All (λ (r : Round Layout). 0 < r .moved) (roundsOfStep s)
 
+-- the number of best places that a sift counts is right for the layout before it: behind no other vertex the sifted one has fewer crossings than the sift
+-- reached, behind as many of them as the number says it has just as many, and with two vertices or more there is one
+pub record OptimaRight (x : Sift Layout) : Type 0 where
+  pub none-fewer : (v : ℕ) → v < x .before .n → (x .vertex ≡ v → ⊥) → crossingsOf (x .after) ≤ crossingsOf (moveOf (x .before) (x .vertex) v .layout)
+  pub just-as-many : x .optima ≡ placesWith (x .before) (x .vertex) (crossingsOf (x .after))
+  pub some : 2 ≤ x .before .n → 1 ≤ x .optima
+  pub not-all : x .optima < x .before .n
+
 -- nothing is left out of an accepted step: a sift contributes one sift, a round one round, a settling as many as it answers, and each round n sifts;
--- the sifts lead from the layout before to the layout after
+-- the sifts lead from the layout before to the layout after, and the number of best places that is told is the sum of theirs
 pub record Complete (s : Step) : Type 0 where
   pub number-of-rounds : length (roundsOfStep s) ≡ roundsDue (s .call) (s .answer)
   pub number-of-sifts : length (siftsOfStep s) ≡ length (siftCalled (s .before) (s .call)) + length (roundsOfStep s) * (s .before .n)
   pub sifts-lead : T (sifting (s .call)) → Follow (λ (x : Sift Layout). x .before) (λ x. x .after) (s .before) (siftsOfStep s) (afterStep s)
+  pub optima-summed : optimaTold (s .call) (s .answer) ≡ sumOver (λ (x : Sift Layout). x .optima) (siftsOfStep s)
 
 -- a round sifts each vertex once, in rising number, from the layout before it to the layout after it
 pub record WholeRound (r : Round Layout) : Type 0 where
@@ -62,6 +73,8 @@ pub record Demand3 (start : Layout) (calls : List Call) : Type 0 where
   pub count-is-crossings : played start calls .count ≡ crossingsOf (played start calls)
   -- "every accepted sift left its device at a best place", those that rounds and settlings ran too
   pub best-places : All (λ (x : Sift Layout). (x .vertex < x .after .n) × BestPlace (x .after) (x .vertex)) (siftsIn (steps start calls))
+  -- "how many of its n − 1 candidate places have the least crossings" (document 02, Note 3): the number of each sift
+  pub optima-right : All OptimaRight (siftsIn (steps start calls))
   -- "no round raised the count", those that settlings ran too
   pub no-round-raised : All (λ (r : Round Layout). crossingsOf (r .after) ≤ crossingsOf (r .before)) (roundsIn (steps start calls))
   -- ""settled" means that no move of one device behind another helps"
@@ -126,6 +139,7 @@ module _ (l : Layout) (c : Call) where
             (length-append (siftCalled l c) (flatMap siftsOfRound (roundsOfCall l c))
             ∙ ap (λ (k : ℕ). length (siftCalled l c) + k) (rounds-sifts (f .follow) (f .rounds)));
         sifts-lead = λ s. rw (sifts-are t) (f .lead s);
+        optima-summed = rw (sifts-are t) (f .optima-are);
       }
 
   reaches-limit : T (accepted (stepOn l c)) → (limit : ℕ) → LimitReached (stepOn l c) limit
@@ -149,6 +163,10 @@ module _ (l : Layout) (c : Call) where
           let same = call-refused l c (eqb-false (answerOf l c .refusal) 0 e) in
           absurd (subst T (ap (saysConverged c) same ∙ refused-says-nothing (answerOf l c .refusal) l c) t)
 
+is-optima : {x : Sift Layout} → ProperSift x → OptimaRight x
+is-optima p =
+    record { none-fewer = optima-least p; just-as-many = optima-counted p; some = optima-some p; not-all = optima-below p }
+
 -- ---- the theorem
 
 pub demand-3 : {start : Layout} → Start start → (calls : List Call) → Demand3 start calls
@@ -158,6 +176,8 @@ demand-3 {start} s calls =
     let end = end-right r calls in
     let proper : All ProperRound (flatMap roundsOfStep (steps start calls)) =
     all-flatMap roundsOfStep (all-steps (λ x. All ProperRound (roundsOfStep x)) (λ l c q. step-rounds l c) r calls) (λ x p. p) in
+    let sifted : All ProperSift (flatMap siftsOfStep (steps start calls)) =
+    all-flatMap siftsOfStep (all-steps (λ x. All ProperSift (siftsOfStep x)) (λ l c q. step-sifts l c) r calls) (λ x p. p) in
     record {
       called = steps-called start calls;
       defined = all-steps Defined (λ l c q. is-defined l c) r calls;
@@ -165,10 +185,8 @@ demand-3 {start} s calls =
       valid-at-the-end = end .is-valid;
       each-vertex-once = permutation-eachOnce (sound (played start calls) (end .is-valid) .permutation);
       count-is-crossings = end .counted;
-      best-places =
-          all-mono
-          (all-flatMap siftsOfStep (all-steps (λ x. All ProperSift (siftsOfStep x)) (λ l c q. step-sifts l c) r calls) (λ x p. p))
-          (λ x p. best-sifted p);
+      best-places = all-mono sifted (λ x p. best-sifted p);
+      optima-right = all-mono sifted (λ x p. is-optima p);
       no-round-raised = all-mono proper (λ x p. round-no-more p);
       converged-is-minimum = all-steps (λ x. T (saysConverged (x .call) (x .answer)) → LocalMinimum (afterStep x)) (λ l c q. is-minimum l c) r calls;
       limit-reached = all-steps (λ x. T (accepted x) → (limit : ℕ) → LimitReached x limit) (λ l c q. reaches-limit l c) r calls;

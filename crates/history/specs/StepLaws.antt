@@ -1,9 +1,10 @@
 -- What an accepted call of a list gives on a valid layout: its sifts and rounds are proper ones, and its answer counts them.
 use Prim.Native.Nat.{ℕ, _+_, _*_, _<_}
+use native.Mathlib.Nat.{add-zero}
 use native.Mathlib.Omega.{arith}
 use mathlib.Core.Path.{_≡_, refl, sym, ap, _∙_, subst}
 use mathlib.Core.Bool.{Bool, true, false, cond, false≢true}
-use mathlib.Core.List.{List, [], _++_, flatMap}
+use mathlib.Core.List.{List, [], _++_, _∷_, flatMap}
 use lib.ListN.{length, length-append}
 use lib.Dec.{T, eqb}
 use borrow.Author.Tests.{eqb-true}
@@ -11,17 +12,17 @@ use Rattle.model.specs.declared.Layout.{Layout}
 use Rattle.model.specs.declared.Converged.{Converged}
 use Rattle.model.specs.declared.Call.{Call}
 use Rattle.model.specs.declared.Call.the-variants as call
-use Rattle.model.specs.Lists.{one, All, none, also}
+use Rattle.model.specs.Lists.{one, sumOver, All, none, also}
 use Rattle.model.specs.Layouts.{crossingsOf, valid}
-use Rattle.model.specs.Sifting.{siftOf, siftRound, roundOf, roundsUpTo, settleOf}
+use Rattle.model.specs.Sifting.{optimaOf, siftOf, siftRound, roundOf, roundsUpTo, settleOf}
 use Rattle.model.specs.Histories.{Start, empty, read, Step, Sift, Round, Follow, ended, next, outcome, ofAdded, ofChanged, ofAppended, ofSifted, ofRounded}
 use Rattle.model.specs.Histories.{ofConverged, answerOf, accepted, roundsOfStep, siftsOfStep}
 use Rattle.model.specs.Histories.{butLast, sifting, siftCalled, roundsOfCall, siftsOfRound, roundsDue, saysConverged}
-use Rattle.model.specs.Histories.{LocalMinimum}
+use Rattle.model.specs.Histories.{roundOn, optimaTold, LocalMinimum}
 use Rattle.laws.specs.Sums.Lists.{all-mono, all-append, all-flatMap}
 use Rattle.laws.specs.Sifting.LocalSearch.{follow-flat}
 use Rattle.laws.specs.Sifting.Rounds.{ProperSift, ProperRound, proper-sift, proper-round, round-size, round-length, settling, rounds-follow}
-use Rattle.laws.specs.Sifting.Rounds.{rounds-moved, rounds-spent, settled-minimum}
+use Rattle.laws.specs.Sifting.Rounds.{optimaIn, one-more-round, rounds-moved, rounds-spent, settled-minimum}
 use Rattle.laws.specs.Sifting.Calls.{sift-passed, sift-accepted, sift-refused, sift-keeps}
 use Rattle.laws.specs.Sifting.Calls.{round-passed, round-accepted, round-refused, round-keeps}
 use Rattle.laws.specs.Sifting.Calls.{settle-passed, settle-accepted, settle-refused, settle-keeps}
@@ -46,6 +47,7 @@ pub record CallFacts (l : Layout) (c : Call) : Type 0 where
   pub minimum : T (saysConverged c (answerOf l c)) → LocalMinimum (answerOf l c .layout)
   pub spent : (limit : ℕ) → c ≡ call.Converge limit → answerOf l c .third ≡ 0
       → (answerOf l c .second ≡ limit) × All (λ (r : Round Layout). 0 < r .moved) (roundsOfCall l c)
+  pub optima-are : optimaTold c (answerOf l c) ≡ sumOver (λ (x : Sift Layout). x .optima) (siftCalled l c ++ flatMap siftsOfRound (roundsOfCall l c))
   pub lead : T (sifting c)
       → Follow (λ (x : Sift Layout). x .before) (λ x. x .after) l (siftCalled l c ++ flatMap siftsOfRound (roundsOfCall l c)) (answerOf l c .layout)
 
@@ -53,7 +55,7 @@ pub record CallFacts (l : Layout) (c : Call) : Type 0 where
 
 module _ (l : Layout) (u : ℕ) where
   sift-facts : siftOf l u .refusal ≡ 0 → CallFacts l (call.Sift u)
-  unfolding answerOf siftCalled roundsOfCall butLast roundsDue saysConverged flatMap
+  unfolding answerOf siftCalled roundsOfCall butLast roundsDue optimaTold saysConverged flatMap sumOver
   sift-facts e =
       let p = sift-passed l u e in
       record {
@@ -65,14 +67,19 @@ module _ (l : Layout) (u : ℕ) where
         moved = none;
         minimum = λ f. absurd f;
         spent = λ limit d. let z : _≡_ {A = ℕ} 0 1 = cc in absurd (omega arith);
+        optima-are = rw (sift-accepted l u (p .0) (p .1)) (sym (add-zero (optimaOf l u)));
         lead = λ f. rw (sift-accepted l u (p .0) (p .1)) (next ended);
       }
 
 -- ---- round
 
+round-alone : (l : Layout) → siftRound l .optima ≡ optimaIn (roundOn l ∷ [])
+unfolding flatMap sumOver
+round-alone l = sym (add-zero (siftRound l .optima)) ∙ one-more-round l []
+
 module _ (l : Layout) where
   round-facts : roundOf l .refusal ≡ 0 → CallFacts l call.SiftingRound
-  unfolding answerOf siftCalled roundsOfCall butLast roundsDue saysConverged
+  unfolding answerOf siftCalled roundsOfCall butLast roundsDue optimaTold saysConverged
   round-facts e =
       let t = round-passed l e in
       let proper = proper-round l t in
@@ -85,6 +92,7 @@ module _ (l : Layout) where
         moved = none;
         minimum = λ f. absurd f;
         spent = λ limit d. let z : _≡_ {A = ℕ} 0 1 = cc in absurd (omega arith);
+        optima-are = rw (round-accepted l t) (round-alone l);
         lead = λ f.
             rw (round-accepted l t)
             (follow-flat {from = λ (r : Round Layout). r .before} {to = λ r. r .after} siftsOfRound (next ended) (also (proper .chain) none));
@@ -104,7 +112,7 @@ one-false false e = refl
 
 module _ (l : Layout) (limit : ℕ) where
   settle-facts : settleOf l limit .refusal ≡ 0 → CallFacts l (call.Converge limit)
-  unfolding answerOf siftCalled roundsOfCall roundsDue saysConverged
+  unfolding answerOf siftCalled roundsOfCall roundsDue optimaTold saysConverged
   settle-facts e =
       let p = settle-passed l limit e in
       let same = settle-accepted l limit (p .0) (p .1) (p .2) in
@@ -120,15 +128,16 @@ module _ (l : Layout) (limit : ℕ) where
         spent = λ k d z.
             let all = rounds-spent limit l (p .0) (one-false (roundsUpTo limit l .converged) (ap (λ (c : Converged). one (c .converged)) (sym same) ∙ z)) in
             (ap (λ (c : Converged). c .rounds) same ∙ all .0 ∙ cc, all .1);
+        optima-are = rw same (s .optima-are);
         lead = λ f. rw same (follow-flat siftsOfRound (rounds-follow limit l (p .0)) (all-mono (s .proper) (λ r q. q .chain)));
       }
 
 -- ---- the other calls sift nothing
 
 no-sifts : (l : Layout) (c : Call) → siftCalled l c ≡ [] → roundsOfCall l c ≡ [] → roundsDue c (answerOf l c) ≡ 0
-    → saysConverged c (answerOf l c) ≡ false → sifting c ≡ false → CallFacts l c
-unfolding butLast sifting
-no-sifts l c called run due says sifts =
+    → optimaTold c (answerOf l c) ≡ 0 → saysConverged c (answerOf l c) ≡ false → sifting c ≡ false → CallFacts l c
+unfolding butLast sifting flatMap sumOver
+no-sifts l c called run due told says sifts =
     record {
       sift = subst (All ProperSift) (sym called) none;
       rounds = subst (All ProperRound) (sym run) none;
@@ -138,20 +147,21 @@ no-sifts l c called run due says sifts =
       moved = subst (λ (rs : List (Round Layout)). All (λ (r : Round Layout). 0 < r .moved) (butLast rs)) (sym run) none;
       minimum = λ f. absurd (subst T says f);
       spent = λ limit e. absurd (false≢true (sym sifts ∙ ap sifting e));
+      optima-are = told ∙ rw (called, run);
       lead = λ f. absurd (subst T sifts f);
     }
 
 -- an accepted call
 pub call-facts : (l : Layout) (c : Call) → answerOf l c .refusal ≡ 0 → CallFacts l c
-unfolding answerOf siftCalled roundsOfCall roundsDue saysConverged sifting
+unfolding answerOf siftCalled roundsOfCall roundsDue optimaTold saysConverged sifting
 call-facts l (call.Sift u) e = sift-facts l u e
 call-facts l call.SiftingRound e = round-facts l e
 call-facts l (call.Converge limit) e = settle-facts l limit e
-call-facts l call.AddVertex e = no-sifts l call.AddVertex refl refl refl refl refl
-call-facts l (call.AddEdge a b) e = no-sifts l (call.AddEdge a b) refl refl refl refl refl
-call-facts l (call.RemoveEdge a b) e = no-sifts l (call.RemoveEdge a b) refl refl refl refl refl
-call-facts l (call.MoveAfter a b) e = no-sifts l (call.MoveAfter a b) refl refl refl refl refl
-call-facts l (call.GreedyAppend s) e = no-sifts l (call.GreedyAppend s) refl refl refl refl refl
+call-facts l call.AddVertex e = no-sifts l call.AddVertex refl refl refl refl refl refl
+call-facts l (call.AddEdge a b) e = no-sifts l (call.AddEdge a b) refl refl refl refl refl refl
+call-facts l (call.RemoveEdge a b) e = no-sifts l (call.RemoveEdge a b) refl refl refl refl refl refl
+call-facts l (call.MoveAfter a b) e = no-sifts l (call.MoveAfter a b) refl refl refl refl refl refl
+call-facts l (call.GreedyAppend s) e = no-sifts l (call.GreedyAppend s) refl refl refl refl refl refl
 
 -- ---- the sifts and rounds of a step
 
@@ -216,7 +226,7 @@ start-right (read s e) = record { is-valid = read-valid s e .0; sized = read-siz
 
 -- ---- a refused call answers its refusal code and gives the layout back
 
-pub call-refused : (l : Layout) (c : Call) → (answerOf l c .refusal ≡ 0 → ⊥) → answerOf l c ≡ outcome (answerOf l c .refusal) l 0 0 0
+pub call-refused : (l : Layout) (c : Call) → (answerOf l c .refusal ≡ 0 → ⊥) → answerOf l c ≡ outcome (answerOf l c .refusal) l 0 0 0 0
 unfolding answerOf one
 call-refused l call.AddVertex d = ap ofAdded (add-refused l d)
 call-refused l (call.AddEdge a b) d = ap ofChanged (link-refused l a b d)
@@ -228,7 +238,7 @@ call-refused l call.SiftingRound d = ap ofRounded (round-refused l d)
 call-refused l (call.Converge limit) d = ap ofConverged (settle-refused l limit d)
 
 -- so it does not say converged
-pub refused-says-nothing : (r : ℕ) (l : Layout) (c : Call) → saysConverged c (outcome r l 0 0 0) ≡ false
+pub refused-says-nothing : (r : ℕ) (l : Layout) (c : Call) → saysConverged c (outcome r l 0 0 0 0) ≡ false
 unfolding saysConverged
 refused-says-nothing r l call.AddVertex = refl
 refused-says-nothing r l (call.AddEdge a b) = refl
