@@ -1,17 +1,18 @@
-// Answers written as numbers, four to a call.
+// Answers written as numbers, five to a call.
 ghost use mathlib.Core.Path.{_≡_};
 ghost use Rattle.encoding.specs.Answers.{withAnswer};
 use model::Outcome;
 
-// Writes an answer from place at on; nothing where the table has no four places there.
+// Writes an answer from place at on; nothing where the table has no five places there.
 pub fn put_answer(a: Outcome, table: &mut [u64], at: usize)
     ensures { λ _. ⌜ now (table .exit) ≡ withAnswer a (now (table .entry)) at ⌝ }
 {
-    if text::lacks(table.len(), at, 4) {
+    if text::lacks(table.len(), at, 5) {
         return;
     }
     table[at] = a.refusal as u64;
     table[at + 1] = a.first;
     table[at + 2] = a.second;
     table[at + 3] = a.third;
+    table[at + 4] = a.fourth;
 }

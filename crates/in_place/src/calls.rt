@@ -71,6 +71,7 @@ pub extern "C" fn rl_sift(l: &mut Layout, u: usize) -> SiftReport
     SiftReport {
         refusal: answer.refusal,
         reduction: answer.reduction,
+        optima: answer.optima,
     }
 }
 
@@ -84,6 +85,7 @@ pub extern "C" fn rl_sifting_round(l: &mut Layout) -> RoundReport
         refusal: answer.refusal,
         reduction: answer.reduction,
         moved: answer.moved,
+        optima: answer.optima,
     }
 }
 
@@ -98,5 +100,6 @@ pub extern "C" fn rl_converge(l: &mut Layout, limit: u32) -> ConvergeReport
         reduction: answer.reduction,
         rounds: answer.rounds,
         converged: answer.converged,
+        optima: answer.optima,
     }
 }

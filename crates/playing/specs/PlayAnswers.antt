@@ -15,7 +15,7 @@ use Rattle.model.specs.declared.Call.{Call}
 use Rattle.model.specs.Checks.{refusal}
 use Rattle.model.specs.Charts.{readOf}
 use Rattle.model.specs.Histories.{Start, empty, read, steps, played}
-use Rattle.model.specs.Playing.{callsOf, answersOf, startOf, playChecks, playedCalls, playOf, tableOf}
+use Rattle.model.specs.Playing.{callsOf, answerWidth, answersOf, startOf, playChecks, playedCalls, playOf, tableOf}
 use Rattle.laws.specs.Layouts.Refusals.{when-accepted, when-refused}
 use Rattle.chart.specs.Reading.{refusedRead}
 use Rattle.chart.specs.Laws.{read-refused}
@@ -35,7 +35,7 @@ module _ (from : Origin) (chart numbers table : List ℕ) where
   ends r cs = record { refusal = r; layout = played (startOf from chart .layout) cs; calls = length cs }
 
   abbrev tableWith : List Call → List ℕ
-  tableWith cs = answersOf (startOf from chart .layout) cs ++ drop (4 * length cs) table
+  tableWith cs = answersOf (startOf from chart .layout) cs ++ drop (answerWidth * length cs) table
 
   by-calls : {r : ℕ} {cs : List Call} → r ≡ refusal (playChecks from chart numbers (length table)) → cs ≡ playedCalls from chart numbers (length table)
       → Answered from chart numbers table (ends r cs) (tableWith cs)
@@ -51,14 +51,14 @@ module _ (from : Origin) (chart numbers table : List ℕ) where
   unfolding playChecks refusal
   no-start d = rw (ne-eqb (startOf from chart .refusal) 0 d)
 
-  too-short : startOf from chart .refusal ≡ 0 → length table / 4 < length (callsOf numbers)
+  too-short : startOf from chart .refusal ≡ 0 → length table / answerWidth < length (callsOf numbers)
       → 18 ≡ refusal (playChecks from chart numbers (length table))
   unfolding playChecks refusal
-  too-short z h = rw (eq-eqb (startOf from chart .refusal) 0 z, lt-leb (4 * length (callsOf numbers)) (length table) (omega arith))
+  too-short z h = rw (eq-eqb (startOf from chart .refusal) 0 z, lt-leb (answerWidth * length (callsOf numbers)) (length table) (omega arith))
 
-  passed : startOf from chart .refusal ≡ 0 → 4 * length (callsOf numbers) ≤ length table → refusal (playChecks from chart numbers (length table)) ≡ 0
+  passed : startOf from chart .refusal ≡ 0 → answerWidth * length (callsOf numbers) ≤ length table → refusal (playChecks from chart numbers (length table)) ≡ 0
   unfolding playChecks refusal
-  passed z h = rw (eq-eqb (startOf from chart .refusal) 0 z, le-leb (4 * length (callsOf numbers)) (length table) h)
+  passed z h = rw (eq-eqb (startOf from chart .refusal) 0 z, le-leb (answerWidth * length (callsOf numbers)) (length table) h)
 
   module _ {start : ChartRead} (e : start ≡ startOf from chart) where
     -- no start
@@ -66,12 +66,13 @@ module _ (from : Origin) (chart numbers table : List ℕ) where
     play-unstarted d = let n = rw e at d in rw e (refused (no-start n) n)
 
     -- a table that is too short
-    pub play-short : start .refusal ≡ 0 → length table / 4 < length (callsOf numbers) → Answered from chart numbers table (notPlayed 18 (start .layout)) table
+    pub play-short : start .refusal ≡ 0 → length table / answerWidth < length (callsOf numbers)
+        → Answered from chart numbers table (notPlayed 18 (start .layout)) table
     play-short z h = rw e (refused (too-short (rw e at z) h) (λ k. omega arith))
 
-    pub play-done : start .refusal ≡ 0 → {count : ℕ} → count ≡ length (callsOf numbers) → 4 * count ≤ length table → {end : Layout} {after : List ℕ}
+    pub play-done : start .refusal ≡ 0 → {count : ℕ} → count ≡ length (callsOf numbers) → answerWidth * count ≤ length table → {end : Layout} {after : List ℕ}
         → end ≡ played (start .layout) (callsOf numbers)
-        → after ≡ answersOf (start .layout) (callsOf numbers) ++ drop (4 * count) table
+        → after ≡ answersOf (start .layout) (callsOf numbers) ++ drop (answerWidth * count) table
         → Answered from chart numbers table (record { refusal = 0; layout = end; calls = count }) after
     unfolding playedCalls
     play-done z {count} k h p w =

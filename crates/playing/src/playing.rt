@@ -4,7 +4,7 @@ ghost use mathlib.Core.List.{_++_};
 ghost use Prim.Native.Nat.{_+_, _*_, _≤_};
 ghost use lib.ListN.{length, drop};
 ghost use Rattle.model.specs.Histories.{played};
-ghost use Rattle.model.specs.Playing.{callsOf, answersOf, startOf, playedCalls, playOf, tableOf};
+ghost use Rattle.model.specs.Playing.{callsOf, answerWidth, answersOf, startOf, playedCalls, playOf, tableOf};
 ghost use Rattle.laws.specs.Buffers.Writing.{written};
 ghost use Rattle.encoding.specs.CallLists.{callThere};
 ghost use Rattle.history.specs.Demand3.{Demand3};
@@ -37,7 +37,7 @@ pub fn play(origin: Origin, chart: &[u8], calls: &[u64], answers: &mut [u64]) ->
         };
     }
     let count = count_calls(calls);
-    if answers.len() / 4 < count {
+    if answers.len() / 5 < count {
         return Played {
             refusal: 18,
             layout,
@@ -65,9 +65,9 @@ fn start_of(origin: Origin, chart: &[u8]) -> ChartRead
 
 // The first count calls, which are all.
 fn play_all(l: Layout, calls: &[u64], count: usize, answers: &mut [u64]) -> Layout
-    requires { ⌜ (count ≡ length (callsOf (now calls))) × (4 * count ≤ length (now answers)) ⌝ }
+    requires { ⌜ (count ≡ length (callsOf (now calls))) × (answerWidth * count ≤ length (now answers)) ⌝ }
     ensures { λ r. ⌜ r ≡ played l (callsOf (now (calls .entry))) ⌝ }
-    ensures { λ r. ⌜ now (answers .exit) ≡ answersOf l (callsOf (now (calls .entry))) ++ drop (4 * count) (now (answers .entry)) ⌝ }
+    ensures { λ r. ⌜ now (answers .exit) ≡ answersOf l (callsOf (now (calls .entry))) ++ drop (answerWidth * count) (now (answers .entry)) ⌝ }
 {
     let mut layout = l;
     let mut i = 0;
@@ -80,14 +80,14 @@ fn play_all(l: Layout, calls: &[u64], count: usize, answers: &mut [u64]) -> Layo
 
 // Call i, and its answer into the table.
 fn play_next(l: Layout, calls: &[u64], i: usize, answers: &mut [u64]) -> Layout
-    requires { ⌜ 4 * i + 4 ≤ length (now answers) ⌝ }
+    requires { ⌜ answerWidth * i + answerWidth ≤ length (now answers) ⌝ }
     ensures { λ r. ⌜ r ≡ played l (callThere (now (calls .entry)) i) ⌝ }
-    ensures { λ r. ⌜ now (answers .exit) ≡ written (now (answers .entry)) (4 * i) (answersOf l (callThere (now (calls .entry)) i)) ⌝ }
+    ensures { λ r. ⌜ now (answers .exit) ≡ written (now (answers .entry)) (answerWidth * i) (answersOf l (callThere (now (calls .entry)) i)) ⌝ }
 {
     let Decoded::Next(c) = call_at(calls, i) else {
         return l;
     };
     let answer = step(l, c);
-    put_answer(answer, answers, 4 * i);
+    put_answer(answer, answers, 5 * i);
     answer.layout
 }

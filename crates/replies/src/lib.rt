@@ -44,7 +44,7 @@ fn put_name(line: &mut [u8], c: Call) -> usize
     }
 }
 
-// How many numbers the call answers; the third is whether it converged.
+// How many numbers the call answers. The third of four is whether it converged.
 fn numbers_of(c: Call) -> u8 {
     match c {
         Call::AddVertex => 1,
@@ -52,14 +52,14 @@ fn numbers_of(c: Call) -> u8 {
         Call::RemoveEdge(_, _) => 0,
         Call::MoveAfter(_, _) => 0,
         Call::GreedyAppend(_) => 1,
-        Call::Sift(_) => 1,
-        Call::SiftingRound => 2,
-        Call::Converge(_) => 3,
+        Call::Sift(_) => 2,
+        Call::SiftingRound => 3,
+        Call::Converge(_) => 4,
     }
 }
 
 fn put_numbers(line: &mut [u8], at: usize, count: u8, answer: Outcome) -> usize
-    ensures { λ r. ⌜ r ≤ at + 46 ⌝ }
+    ensures { λ r. ⌜ r ≤ at + 67 ⌝ }
 {
     if count == 0 {
         return at;
@@ -72,7 +72,11 @@ fn put_numbers(line: &mut [u8], at: usize, count: u8, answer: Outcome) -> usize
     if count == 2 {
         return second;
     }
-    put_converged(line, second, answer.third)
+    if count == 3 {
+        return put_number(line, second, answer.third);
+    }
+    let third = put_converged(line, second, answer.third);
+    put_number(line, third, answer.fourth)
 }
 
 fn put_converged(line: &mut [u8], at: usize, converged: u64) -> usize

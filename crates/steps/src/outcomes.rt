@@ -20,6 +20,7 @@ pub(crate) fn of_added(a: Added) -> Outcome
         first: a.vertex as u64,
         second: 0,
         third: 0,
+        fourth: 0,
     }
 }
 
@@ -33,6 +34,7 @@ pub(crate) fn of_changed(a: Changed) -> Outcome
         first: 0,
         second: 0,
         third: 0,
+        fourth: 0,
     }
 }
 
@@ -46,6 +48,7 @@ pub(crate) fn of_appended(a: Appended) -> Outcome
         first: a.tally as u64,
         second: 0,
         third: 0,
+        fourth: 0,
     }
 }
 
@@ -57,8 +60,9 @@ pub(crate) fn of_sifted(a: Sifted) -> Outcome
         refusal: a.refusal,
         layout,
         first: a.reduction as u64,
-        second: 0,
+        second: a.optima as u64,
         third: 0,
+        fourth: 0,
     }
 }
 
@@ -71,7 +75,8 @@ pub(crate) fn of_rounded(a: Rounded) -> Outcome
         layout,
         first: a.reduction as u64,
         second: a.moved as u64,
-        third: 0,
+        third: a.optima as u64,
+        fourth: 0,
     }
 }
 
@@ -79,12 +84,14 @@ pub(crate) fn of_converged(a: Converged) -> Outcome
     ensures { λ r. ⌜ r ≡ ofConverged a ⌝ }
 {
     let layout = a.layout;
+    let converged = number(a.converged);
     Outcome {
         refusal: a.refusal,
         layout,
         first: a.reduction as u64,
         second: a.rounds as u64,
-        third: number(a.converged),
+        third: converged,
+        fourth: a.optima as u64,
     }
 }
 

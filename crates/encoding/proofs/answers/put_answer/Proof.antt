@@ -1,6 +1,7 @@
 use native.Mathlib.Omega.{arith}
 use Prim.Native.Nat.{_+_, _≤_}
 use lib.ListN.{length, length-set}
+use Rattle.model.specs.Playing.{answerWidth}
 use Rattle.encoding.specs.Answers.{not-answered, answer-put}
 use borrow.Author.Needs.{needs}
 use Rattle.text.specs.Room.{no-room, has-room}
@@ -13,8 +14,8 @@ lacks-requires c κs = search needs
 returns : tie.Need-returns
 returns c = not-answered _ _ _ (no-room (c .before .lacks .ensures) (c .if1 .taken))
 
--- there are four places
-room : (c : tie.Else1) → let s = c .before .before .before .args in s .at + 4 ≤ length (s .table .now)
+-- there are the places
+room : (c : tie.Else1) → let s = c .before .before .before .args in s .at + answerWidth ≤ length (s .table .now)
 room c = has-room (c .before .lacks .ensures) (c .if1 .left)
 
 cast-table : tie.Need-cast-table
@@ -53,6 +54,15 @@ mul-table-4 c = omega (arith, room (c .before))
 slice-write-table-4 : tie.Need-slice-write-table-4
 slice-write-table-4 c = simp length-set (omega (arith, room (c .before)))
 
+add-table-4 : tie.Need-add-table-4
+add-table-4 c = omega (arith, room (c .before))
+
+mul-table-5 : tie.Need-mul-table-5
+mul-table-5 c = omega (arith, room (c .before))
+
+slice-write-table-5 : tie.Need-slice-write-table-5
+slice-write-table-5 c = simp length-set (omega (arith, room (c .before)))
+
 same-length : tie.Need-same-length
 same-length c = search needs
 
@@ -77,5 +87,8 @@ put-answer-spec =
     add-table-3
     mul-table-4
     slice-write-table-4
+    add-table-4
+    mul-table-5
+    slice-write-table-5
     same-length
     returns-2)
