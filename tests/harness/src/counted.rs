@@ -123,7 +123,7 @@ mod tests {
         for change in [
             (1, "count 1 words", "count 2 words"),
             (1, "words 0 4 1 8 2 1 3 2", "words 0 4 2 1"),
-            (2, "sift 0 1 n", "sift 0 2 n"),
+            (2, "sift 0 1 2 n", "sift 0 2 2 n"),
             (2, "order 1 0 2", "order 1 1 2"),
             (2, "count 0 words", "count 1 words"),
             (3, "settle 0 0", "settle 0 1"),

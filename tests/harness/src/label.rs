@@ -16,13 +16,19 @@ pub struct Labelled<'a> {
     pub word: &'a str,
 }
 
+/// The last answer of a call that sifts.
+const OPTIMA: &str = "the best places";
+
 /// The answers of each call.
 const ANSWERS: [(&str, &[&str]); 8] = [
     ("add", &["the new vertex"]),
     ("lay", &["the tally"]),
-    ("sift", &["the saving"]),
-    ("round", &["the saving", "the vertices moved"]),
-    ("settle", &["the saving", "the rounds run", "settled"]),
+    ("sift", &["the saving", OPTIMA]),
+    ("round", &["the saving", "the vertices moved", OPTIMA]),
+    (
+        "settle",
+        &["the saving", "the rounds run", "settled", OPTIMA],
+    ),
     ("count", &["the count read"]),
     (
         "pair",
@@ -118,6 +124,7 @@ mod tests {
             "the saving",
             "the rounds run",
             "settled",
+            "the best places",
             "`n`",
             "n",
             "`order`",
@@ -129,7 +136,7 @@ mod tests {
             "neighbour word 0",
             "neighbour word 7",
         ];
-        let line = "settle 0 5 2 yes n 2 order 1 0 count 9 words 0 2 7 1";
+        let line = "settle 0 5 2 yes 4 n 2 order 1 0 count 9 words 0 2 7 1";
         assert_eq!(labels(Output::Answers, line), due);
     }
 

@@ -5,7 +5,7 @@ use crate::chart;
 use crate::circle::{Circle, Edge};
 use crate::crossings;
 use crate::layout::{Layout, PLACES};
-use crate::sifting::{self, Convergence, Round};
+use crate::sifting::{self, Convergence, Round, Sift};
 
 /// What a call gives back.
 #[derive(Clone, Debug, PartialEq, Eq)]
@@ -118,8 +118,8 @@ pub fn greedy_append(layout: Layout, start: u64) -> Answer<u32> {
     })
 }
 
-/// Sift. Answers the reduction (document 01: saving).
-pub fn sift(layout: Layout, u: u64) -> Answer<u32> {
+/// Sift.
+pub fn sift(layout: Layout, u: u64) -> Answer<Sift> {
     answer(layout, &[(u < layout.n, 12)], |layout| {
         reordering(layout, |circle| sifting::sift(circle, u as usize))
     })

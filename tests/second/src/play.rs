@@ -106,13 +106,15 @@ fn call(layout: Layout, [op, a, b, _]: Record) -> Option<Told> {
         }),
         19 => told("move", calls::move_after(layout, a, b), |()| String::new()),
         20 => told("lay", calls::greedy_append(layout, a), |t| format!(" {t}")),
-        21 => told("sift", calls::sift(layout, a), |r| format!(" {r}")),
+        21 => told("sift", calls::sift(layout, a), |s| {
+            format!(" {} {}", s.reduction, s.optima)
+        }),
         22 => told("round", calls::sifting_round(layout), |r| {
-            format!(" {} {}", r.reduction, r.moved)
+            format!(" {} {} {}", r.reduction, r.moved, r.optima)
         }),
         23 => told("settle", calls::converge(layout, limit), |c| {
             let converged = yes_or_no(c.converged);
-            format!(" {} {} {converged}", c.reduction, c.rounds)
+            format!(" {} {} {converged} {}", c.reduction, c.rounds, c.optima)
         }),
         24 => told("count", calls::count(layout), |c| format!(" {c}")),
         25 => read_order(layout, a, b),

@@ -5,13 +5,25 @@ use std::cmp::Ordering;
 
 use crate::circle::Circle;
 
+/// What a sift answers.
+#[derive(Clone, Copy, Debug, Default, PartialEq, Eq)]
+pub struct Sift {
+    /// The reduction (document 01: saving).
+    pub reduction: u32,
+    /// How many of the n - 1 candidate places have the least crossings
+    /// (document 02, Note 3).
+    pub optima: u32,
+}
+
 /// What a sifting round (document 01: round) answers.
 #[derive(Clone, Copy, Debug, Default, PartialEq, Eq)]
 pub struct Round {
-    /// The summed reduction (document 01: saving).
+    /// The summed reduction.
     pub reduction: u32,
     /// How many vertices moved.
     pub moved: u32,
+    /// The sum of the sifts' optima.
+    pub optima: u32,
 }
 
 /// What converging (document 01: settling) answers.
@@ -22,6 +34,8 @@ pub struct Convergence {
     pub rounds: u32,
     /// Whether the last round moved nothing (document 01: settled).
     pub converged: bool,
+    /// The sum of the rounds' optima.
+    pub optima: u32,
 }
 
 /// The change of the crossing count when u, standing directly before v, is
@@ -61,29 +75,34 @@ pub fn swap_change(circle: &Circle, u: usize, v: usize) -> i64 {
 }
 
 /// Sifts u: moves it behind the first of the other vertices, clockwise, that
-/// gives least crossings, if those are fewer than now. Answers the reduction.
-pub fn sift(circle: &mut Circle, u: usize) -> u32 {
-    let (mut change, mut least, mut best) = (0, 0, None);
+/// gives least crossings, if those are fewer than now. The optima are counted
+/// along the walk, afresh from each new least.
+pub fn sift(circle: &mut Circle, u: usize) -> Sift {
+    let (mut change, mut least, mut best, mut optima) = (0, 0, None, 0);
     for v in circle.others(u) {
         change += swap_change(circle, u, v);
-        if change < least {
-            (least, best) = (change, Some(v));
+        match change.cmp(&least) {
+            Ordering::Less => (least, best, optima) = (change, Some(v), 1),
+            Ordering::Equal => optima += 1,
+            Ordering::Greater => {}
         }
     }
     debug_assert_eq!(change, 0, "a full turn changes nothing");
     if let Some(v) = best {
         circle.move_after(u, v);
     }
-    least.unsigned_abs() as u32
+    let reduction = least.unsigned_abs() as u32;
+    Sift { reduction, optima }
 }
 
 /// Sifts every vertex once, in rising number.
 pub fn sifting_round(circle: &mut Circle) -> Round {
     let mut round = Round::default();
     for u in 0..circle.n() {
-        let reduction = sift(circle, u);
-        round.reduction += reduction;
-        round.moved += u32::from(reduction > 0);
+        let sift = sift(circle, u);
+        round.reduction += sift.reduction;
+        round.moved += u32::from(sift.reduction > 0);
+        round.optima += sift.optima;
     }
     round
 }
@@ -96,6 +115,7 @@ pub fn converge(circle: &mut Circle, limit: u32) -> Convergence {
         run.reduction += round.reduction;
         run.rounds += 1;
         run.converged = round.moved == 0;
+        run.optima += round.optima;
     }
     run
 }

@@ -75,7 +75,7 @@ fn a_sift_takes_the_first_best_place() {
             };
             let sifted = calls::sift(layout, u as u64);
             assert_eq!(sifted.layout, due, "{layout:?} {u}");
-            assert_eq!(sifted.value, layout.count - due.count);
+            assert_eq!(sifted.value.reduction, layout.count - due.count);
         }
     }
 }
@@ -89,8 +89,9 @@ fn a_round_sifts_by_number_and_settling_repeats_it() {
             let before = layout;
             for u in 0..5 {
                 let sifted = calls::sift(layout, u);
-                round.reduction += sifted.value;
+                round.reduction += sifted.value.reduction;
                 round.moved += u32::from(order(&sifted.layout) != order(&layout));
+                round.optima += sifted.value.optima;
                 layout = sifted.layout;
             }
             let answer = calls::sifting_round(before);
@@ -98,6 +99,7 @@ fn a_round_sifts_by_number_and_settling_repeats_it() {
             due.reduction += round.reduction;
             due.rounds += 1;
             due.converged = round.moved == 0;
+            due.optima += round.optima;
         }
         let run = calls::converge(start, 1000);
         assert_eq!((run.layout, run.value), (layout, due));

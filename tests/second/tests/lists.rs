@@ -46,7 +46,7 @@ fn the_worked_example() {
     assert_eq!(list.len(), 96);
     let due = format!(
         "chart 0 n 4 order {} count 1 words 0 4 1 8 2 1 3 2\n\
-         sift 0 1 n 4 order {} count 0 words\n",
+         sift 0 1 2 n 4 order {} count 0 words\n",
         places("0 1 2 3"),
         places("1 0 2 3")
     );
@@ -63,9 +63,10 @@ fn each_call_has_its_answers() {
     assert_eq!(last_line(&[&[19, 1, 64]]), line("move 12"));
     assert_eq!(last_line(&[&[24]]), line("count 0 1"));
     assert_eq!(last_line(&[&[26]]), line("pair 0 pair 0 2 1 3"));
-    assert_eq!(last_line(&[&[23, 0]]), line("settle 17 0 0 no"));
+    assert_eq!(last_line(&[&[23, 0]]), line("settle 17 0 0 no 0"));
+    assert_eq!(last_line(&[&[21, 4]]), line("sift 12 0 0"));
     let limit = last_line(&[&[23, (1 << 32) + 1]]);
-    assert_eq!(limit, line("settle 17 0 0 no"));
+    assert_eq!(limit, line("settle 17 0 0 no 0"));
     let buffer = last_line(&[&[25, 6, 0x1FF]]);
     assert_eq!(buffer, line("order 0 buffer 0 1 2 3 255 255"));
     assert_eq!(last_line(&[&[25, 3, 7]]), line("order 18 buffer 7 7 7"));
@@ -74,11 +75,13 @@ fn each_call_has_its_answers() {
     assert_eq!(written, line(&format!("write 0 18 buffer {chart} 255 255")));
     assert_eq!(last_line(&[&[27, 3, 7]]), line("write 19 0 buffer 7 7 7"));
     assert_eq!(last_line(&[&[27, 0, 7]]), line("write 19 0 buffer"));
+    assert!(last_line(&[&[2, 5], &[22]]).starts_with("round 11 0 0 0 n 5 "));
     let turned = places("1 0 2 3");
     let rest = format!("n 4 order {turned} count 0 words");
-    assert_eq!(last_line(&[&[22]]), format!("round 0 1 1 {rest}"));
-    assert_eq!(last_line(&[&[23, 1]]), format!("settle 0 1 1 no {rest}"));
-    assert_eq!(last_line(&[&[23, 2]]), format!("settle 0 1 2 yes {rest}"));
+    assert_eq!(last_line(&[&[22]]), format!("round 0 1 1 8 {rest}"));
+    let settled = [1, 2].map(|limit| last_line(&[&[23, limit]]));
+    let due = ["1 1 no 8", "1 2 yes 16"].map(|due| format!("settle 0 {due} {rest}"));
+    assert_eq!(settled, due);
     let unlinked = format!("unlink 0 n 4 order {order} count 0 words 1 0 3 0");
     assert_eq!(last_line(&[&[18, 3, 1]]), unlinked);
     let added = format!("add 0 4 n 5 order {} count 1 words", places("0 1 2 3 4"));

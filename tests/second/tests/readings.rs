@@ -7,7 +7,7 @@ use second::calls::{self, Crossing};
 use second::chart;
 use second::layout::Layout;
 use second::list::listing;
-use second::sifting::{Convergence, Round};
+use second::sifting::{Convergence, Round, Sift};
 
 fn refusal(chart: &[u8]) -> Option<u8> {
     chart::read(chart).err()
@@ -48,7 +48,8 @@ fn every_call_refuses_a_ring_that_is_not_valid() {
 fn savings_do_not_come_from_the_carried_count() {
     let ring = Layout::new(&rising(4), &FIRST);
     let sifted = calls::sift(ring, 0);
-    assert_eq!((sifted.value, sifted.layout.count), (1, u32::MAX));
+    assert_eq!(sifted.value.reduction, 1);
+    assert_eq!(sifted.layout.count, u32::MAX);
     let linked = calls::remove_edge(ring, 0, 2).layout;
     assert_eq!(linked.count, u32::MAX);
     assert_eq!(calls::add_edge(linked, 2, 0).layout, ring);
@@ -124,6 +125,10 @@ fn a_refused_call_answers_nothing() {
     let run = calls::converge(first_ring(), 0);
     assert_eq!((run.refusal, run.value), (17, Convergence::default()));
     assert_eq!(run.layout, first_ring());
+    let sifted = calls::sift(first_ring(), 4);
+    assert_eq!((sifted.refusal, sifted.value), (12, Sift::default()));
+    let round = calls::sifting_round(asymmetric());
+    assert_eq!((round.refusal, round.value), (11, Round::default()));
     let pair = |ring| calls::first_crossing(ring).value;
     assert_eq!(pair(asymmetric()), Crossing::Refused);
     assert_eq!(pair(Layout::EMPTY), Crossing::None);
@@ -139,6 +144,7 @@ fn the_empty_layout() {
     assert_eq!((round.refusal, round.value), (0, Round::default()));
     let run = calls::converge(ring, 1000).value;
     assert_eq!((run.reduction, run.rounds, run.converged), (0, 1, true));
+    assert_eq!(run.optima, 0);
     assert_eq!(calls::order(ring, &mut []).refusal, 0);
     assert_eq!(calls::first_crossing(ring).value, Crossing::None);
 }
@@ -146,10 +152,11 @@ fn the_empty_layout() {
 #[test]
 fn one_vertex() {
     let ring = layout(&[0], &[]);
-    for answer in [calls::greedy_append(ring, 0), calls::sift(ring, 0)] {
-        assert_eq!((answer.refusal, answer.value), (0, 0));
-        assert_eq!(answer.layout, ring);
-    }
+    let laid = calls::greedy_append(ring, 0);
+    assert_eq!((laid.refusal, laid.value), (0, 0));
+    let sifted = calls::sift(ring, 0);
+    assert_eq!((sifted.refusal, sifted.value), (0, Sift::default()));
+    assert_eq!([laid.layout, sifted.layout], [ring, ring]);
 }
 
 #[test]

@@ -48,7 +48,7 @@ fn a_tie_moves_nothing() {
     let ring = complete(4);
     for u in 0..4 {
         let sifted = calls::sift(ring, u);
-        assert_eq!((sifted.value, sifted.layout), (0, ring));
+        assert_eq!((sifted.value.reduction, sifted.layout), (0, ring));
     }
     let run = calls::converge(ring, 1000);
     assert_eq!((run.value.rounds, run.value.converged), (1, true));

@@ -41,6 +41,7 @@ fn four_vertices_with_all_edges() {
         reduction: 0,
         rounds: 1,
         converged: true,
+        optima: 12,
     };
     assert_eq!((run.refusal, run.value), (0, due));
     assert_eq!(run.layout, ring);
@@ -60,7 +61,7 @@ fn most_possible_crossings() {
 #[test]
 fn sift_0_on_the_first_ring() {
     let sifted = calls::sift(first_ring(), 0);
-    assert_eq!((sifted.refusal, sifted.value), (0, 1));
+    assert_eq!((sifted.refusal, sifted.value.reduction), (0, 1));
     assert_eq!(order(&sifted.layout), [1, 0, 2, 3]);
     assert_eq!(sifted.layout.count, 0);
 }

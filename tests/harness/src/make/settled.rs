@@ -23,7 +23,7 @@ pub fn settled(graph: &Graph) -> Option<Graph> {
         return None;
     }
     let (_, mut ring) = chart::read(&Chart::of(graph).bytes());
-    let (_, (_, _, settled)) = calls::settle(&mut ring, LIMIT);
+    let (_, (_, _, settled, _)) = calls::settle(&mut ring, LIMIT);
     let order = layout::list(&ring).into_iter().map(|v| v as u8).collect();
     let edges = graph.edges.clone();
     settled.then_some(Graph { edges, order })

@@ -21,6 +21,7 @@ pub fn list(known: &Known) -> Vec<u8> {
     list.six_vertices();
     list.far_vertices();
     list.lays();
+    list.sifts();
     list.full_layout();
     list.invalid_layouts();
     list.any_count();
@@ -173,6 +174,34 @@ impl List<'_> {
         }
     }
 
+    /// Graphs in rising order, each with a vertex sifted twice, with a round,
+    /// and settled: no vertex, one and two; the first ring of document 01; the
+    /// ring that it lays by hand, in which one place is best; and all edges of
+    /// four vertices, and none of three, in which every place is.
+    fn sifts(&mut self) {
+        for (n, edges) in [
+            (0, vec![]),
+            (1, vec![]),
+            (2, vec![(0, 1)]),
+            (4, vec![(0, 2), (1, 3)]),
+            (4, vec![(0, 1), (0, 2), (1, 3), (2, 3)]),
+            (4, all_pairs(4)),
+            (3, vec![]),
+        ] {
+            let order = vertices(n);
+            let graph = fields(&Graph { edges, order });
+            for calls in [
+                &[[SIFT, 0, 0, 0]; 2][..],
+                &[[ROUND, 0, 0, 0]],
+                &[[SETTLE, 1, 0, 0]],
+                &[[SETTLE, 2, 0, 0]],
+            ] {
+                self.play(&graph);
+                self.play(calls);
+            }
+        }
+    }
+
     /// 64 vertices against the sun, with all 2,016 edges.
     fn full_layout(&mut self) {
         let edges = all_pairs(64);
@@ -308,6 +337,32 @@ mod tests {
         let steps: Vec<Step> = steps(&list, &lines).collect();
         let mut pairs = steps.windows(2);
         assert!(pairs.any(|pair| is_read_back(&pair[0], &pair[1])));
+    }
+
+    #[test]
+    fn best_places_are_counted_and_refused_calls_have_none() {
+        let lines = play(&list(&Known::all()));
+        for due in [
+            "sift 0 0 0 n 1 ",
+            "sift 0 0 1 n 2 ",
+            "sift 0 1 2 n 4 ",
+            "sift 0 0 2 n 4 ",
+            "sift 0 1 1 n 4 ",
+            "sift 0 0 3 n 4 ",
+            "sift 12 0 0 n 0 ",
+            "sift 11 0 0 n 65 ",
+            "round 0 0 0 0 n 0 ",
+            "round 0 1 1 8 n 4 ",
+            "round 0 0 0 12 n 4 ",
+            "round 11 0 0 0 n 65 ",
+            "settle 0 0 1 yes 0 n 0 ",
+            "settle 0 1 1 no 8 n 4 ",
+            "settle 0 1 2 yes 16 n 4 ",
+            "settle 17 0 0 no 0 n 6 ",
+            "settle 11 0 0 no 0 n 65 ",
+        ] {
+            assert!(lines.lines().any(|line| line.starts_with(due)), "{due}");
+        }
     }
 
     /// What `tests/store` wrote, with the second program, for the player.

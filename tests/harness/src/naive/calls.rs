@@ -162,70 +162,90 @@ fn crossings_at_ends(layout: &Layout, placed: &[usize], v: usize) -> (u32, u32) 
     (front, back)
 }
 
-/// The list after sifting u, and its crossings.
-fn sifted(order: &[usize], edges: &[Edge], u: usize) -> (Vec<usize>, u32) {
+/// The lists that have u directly after each of the others, clockwise from u,
+/// each with its crossings.
+fn candidates(order: &[usize], edges: &[Edge], u: usize) -> Vec<(Vec<usize>, u32)> {
     let place = order.iter().position(|&v| v == u).expect("u is listed");
-    let mut best = (order.to_vec(), crossings(order, edges));
+    let mut candidates = Vec::new();
     for k in 1..order.len() {
         let candidate = moved(order, u, order[(place + k) % order.len()]);
         let found = crossings(&candidate, edges);
-        if found < best.1 {
-            best = (candidate, found);
-        }
+        candidates.push((candidate, found));
     }
-    best
+    candidates
 }
 
-/// Sifts these vertices one after the other. Answers the summed reduction
-/// (saving) and how many moved.
-fn sift_all(layout: &mut Layout, vertices: impl Iterator<Item = usize>) -> (u32, u32) {
-    let (mut saving, mut moves) = (0, 0);
+/// The candidates that have the least crossings, in their sequence.
+fn best_candidates(order: &[usize], edges: &[Edge], u: usize) -> Vec<(Vec<usize>, u32)> {
+    let mut candidates = candidates(order, edges, u);
+    let least = candidates.iter().map(|&(_, found)| found).min();
+    candidates.retain(|&(_, found)| Some(found) == least);
+    candidates
+}
+
+/// The optima of u in a valid layout: how many of the n - 1 candidate places
+/// have the least crossings (document 02, Note 3).
+pub fn optima(layout: &Layout, u: usize) -> u32 {
+    best_candidates(&list(layout), &edges(layout), u).len() as u32
+}
+
+/// What sifting answers: the reduction (saving), how many vertices moved, and
+/// the optima, each summed over the sifts.
+type Sums = (u32, u32, u32);
+
+/// Sifts these vertices one after the other.
+fn sift_all(layout: &mut Layout, vertices: impl Iterator<Item = usize>) -> Sums {
+    let (mut saving, mut moves, mut optima) = (0, 0, 0);
     let edges = edges(layout);
     for u in vertices {
-        let before = list(layout);
-        let (after, reached) = sifted(&before, &edges, u);
-        if after != before {
-            saving += crossings(&before, &edges) - reached;
+        let order = list(layout);
+        let best = best_candidates(&order, &edges, u);
+        optima += best.len() as u32;
+        let present = crossings(&order, &edges);
+        if let Some((first, least)) = best.first().filter(|(_, least)| *least < present) {
+            saving += present - least;
             moves += 1;
-            set_order(layout, &after);
+            set_order(layout, first);
         }
     }
-    (saving, moves)
+    (saving, moves, optima)
 }
 
-pub fn sift(layout: &mut Layout, u: u64) -> Reply<u32> {
+/// Answers the reduction (saving) and the optima.
+pub fn sift(layout: &mut Layout, u: u64) -> Reply<(u32, u32)> {
     let refusal = refuse_one(layout, u);
     if refusal != 0 {
-        return (refusal, 0);
+        return (refusal, (0, 0));
     }
-    (0, sift_all(layout, std::iter::once(u as usize)).0)
+    let (saving, _, optima) = sift_all(layout, std::iter::once(u as usize));
+    (0, (saving, optima))
 }
 
-/// A sifting round (round). Answers the reduction (saving) and the number of
-/// vertices that moved.
-pub fn round(layout: &mut Layout) -> Reply<(u32, u32)> {
+/// A sifting round (round).
+pub fn round(layout: &mut Layout) -> Reply<Sums> {
     if !valid(layout) {
-        return (11, (0, 0));
+        return (11, (0, 0, 0));
     }
     let n = layout.n as usize;
     (0, sift_all(layout, 0..n))
 }
 
-/// Converging (settle). Answers the reduction (saving), the rounds run, and
-/// whether the last one moved nothing (settled).
-pub fn settle(layout: &mut Layout, limit: u64) -> Reply<(u32, u32, bool)> {
+/// Converging (settle). Answers the reduction (saving), the rounds run, whether
+/// the last one moved nothing (settled), and the optima.
+pub fn settle(layout: &mut Layout, limit: u64) -> Reply<(u32, u32, bool, u32)> {
     if !valid(layout) {
-        return (11, (0, 0, false));
+        return (11, (0, 0, false, 0));
     }
     if !(1..=1000).contains(&limit) {
-        return (17, (0, 0, false));
+        return (17, (0, 0, false, 0));
     }
-    let mut saving = 0;
+    let (mut saving, mut optima) = (0, 0);
     for rounds in 1.. {
-        let (_, (saved, moves)) = round(layout);
+        let (_, (saved, moves, found)) = round(layout);
         saving += saved;
+        optima += found;
         if moves == 0 || u64::from(rounds) == limit {
-            return (0, (saving, rounds, moves == 0));
+            return (0, (saving, rounds, moves == 0, optima));
         }
     }
     unreachable!("the limit is at most 1000")

@@ -13,7 +13,7 @@ pub fn listing(chart: &[u8]) -> String {
     let mut text = format!("devices {}\n", layout.n);
     text += &format!("links {}\n", edges.len());
     text += &format!("before {}\n", crossings(&list(&layout), &edges));
-    let (_, (_, rounds, settled)) = settle(&mut layout, 50);
+    let (_, (_, rounds, settled, _)) = settle(&mut layout, 50);
     text += &format!("after {}\n", crossings(&list(&layout), &edges));
     text += &format!("rounds {rounds}\n");
     text += &format!("settled {}\n", if settled { "yes" } else { "no" });

@@ -116,15 +116,18 @@ impl Player<'_> {
             18 => format!("unlink {}", calls::set_edge(layout, a, b, false)),
             19 => format!("move {}", calls::move_behind(layout, a, b)),
             20 => one("lay", calls::lay(layout, a)),
-            21 => one("sift", calls::sift(layout, a)),
+            21 => {
+                let (refusal, (saving, optima)) = calls::sift(layout, a);
+                format!("sift {refusal} {saving} {optima}")
+            }
             22 => {
-                let (refusal, (saving, moves)) = calls::round(layout);
-                format!("round {refusal} {saving} {moves}")
+                let (refusal, (saving, moves, optima)) = calls::round(layout);
+                format!("round {refusal} {saving} {moves} {optima}")
             }
             23 => {
-                let (refusal, (saving, rounds, settled)) = calls::settle(layout, a);
+                let (refusal, (saving, rounds, settled, optima)) = calls::settle(layout, a);
                 let settled = if settled { "yes" } else { "no" };
-                format!("settle {refusal} {saving} {rounds} {settled}")
+                format!("settle {refusal} {saving} {rounds} {settled} {optima}")
             }
             24 => one("count", calls::count(layout)),
             25 => order(layout, a, b),

@@ -1,6 +1,8 @@
 //! The naive model on the rings worked by hand in document 01, on the points
-//! that it leaves open of lay, on isolated vertices, on charts written out
-//! again, and on random graphs.
+//! that it leaves open of lay, on isolated vertices, on the optima of sifts, on
+//! charts written out again, and on random graphs.
+
+use std::collections::BTreeSet;
 
 use super::calls::{self, Reply};
 use super::chart::{read, written};
@@ -69,15 +71,95 @@ fn crossings_of_the_worked_rings() {
 #[test]
 fn sifting_the_worked_rings() {
     let mut ring = layout(&[0, 1, 2, 3], &FIRST);
-    assert_eq!(calls::sift(&mut ring, 0), (0, 1));
+    assert_eq!(calls::sift(&mut ring, 0), (0, (1, 2)));
     assert_eq!((list(&ring), ring.count), (vec![1, 0, 2, 3], 0));
     let settled = |mut ring: Layout, limit| calls::settle(&mut ring, limit);
     let first = || layout(&[0, 1, 2, 3], &FIRST);
-    assert_eq!(settled(first(), 1), (0, (1, 1, false)));
-    assert_eq!(settled(first(), 2), (0, (1, 2, true)));
-    assert_eq!(settled(complete(4), 1), (0, (0, 1, true)));
-    assert_eq!(settled(first(), 0), (17, (0, 0, false)));
-    assert_eq!(settled(first(), 1001), (17, (0, 0, false)));
+    assert_eq!(settled(first(), 1), (0, (1, 1, false, 8)));
+    assert_eq!(settled(first(), 2), (0, (1, 2, true, 16)));
+    assert_eq!(settled(complete(4), 1), (0, (0, 1, true, 12)));
+    assert_eq!(settled(first(), 0), (17, (0, 0, false, 0)));
+    assert_eq!(settled(first(), 1001), (17, (0, 0, false, 0)));
+    assert_eq!(calls::round(&mut first()), (0, (1, 1, 8)));
+}
+
+#[test]
+fn optima_of_few_vertices_and_of_refused_calls() {
+    let sifted = |mut ring: Layout, u| calls::sift(&mut ring, u);
+    assert_eq!(sifted(complete(4), 2), (0, (0, 3)));
+    assert_eq!(sifted(complete(2), 1), (0, (0, 1)));
+    assert_eq!(sifted(complete(1), 0), (0, (0, 0)));
+    assert_eq!(sifted(complete(4), 4), (12, (0, 0)));
+    assert_eq!(sifted(empty(), 0), (12, (0, 0)));
+    assert_eq!(calls::round(&mut empty()), (0, (0, 0, 0)));
+    assert_eq!(calls::settle(&mut empty(), 2), (0, (0, 1, true, 0)));
+    let mut spoilt = complete(4);
+    spoilt.words[0] ^= 1 << 2;
+    assert_eq!(sifted(spoilt.clone(), 0), (11, (0, 0)));
+    assert_eq!(calls::round(&mut spoilt), (11, (0, 0, 0)));
+    assert_eq!(calls::settle(&mut spoilt, 2), (11, (0, 0, false, 0)));
+}
+
+/// Sifts u twice. The candidates are the same behind the first sift, and so are
+/// the optima. Gives the first answers.
+fn sifted_twice(ring: &mut Layout, u: usize) -> (u32, u32) {
+    let optima = calls::optima(ring, u);
+    let (_, first) = calls::sift(ring, u as u64);
+    assert_eq!((first.1, calls::optima(ring, u)), (optima, optima));
+    let sifted = ring.clone();
+    assert_eq!(calls::sift(ring, u as u64), (0, (0, optima)));
+    assert_eq!(*ring, sifted);
+    first
+}
+
+#[test]
+fn optima_in_graphs_of_five_vertices() {
+    let mut met = BTreeSet::new();
+    for number in 0..five::GRAPHS {
+        let mut ring = layout(&[3, 1, 4, 0, 2], &five::graph(number).edges);
+        for u in 0..5 {
+            let (saving, optima) = sifted_twice(&mut ring, u);
+            met.insert((saving > 0, optima));
+            let alike = number == 0 || number == five::GRAPHS - 1;
+            assert!(optima == 4 || !alike && (1..4).contains(&optima));
+        }
+    }
+    let due = [1, 2, 3, 4].map(|optima| (false, optima)).into_iter();
+    let due = due.chain([1, 2, 3].map(|optima| (true, optima)));
+    assert!(met.iter().copied().eq(due), "{met:?}");
+}
+
+#[test]
+fn optima_are_summed_over_rounds_and_settlings() {
+    for number in 0..five::GRAPHS {
+        let edges = five::graph(number).edges;
+        let mut ring = layout(&vertices(5), &edges);
+        let (mut sums, mut rounds, mut moves) = ((0, 0), 0, 1);
+        while moves > 0 {
+            let mut sifted = ring.clone();
+            let replies = (0..5).map(|u| calls::sift(&mut sifted, u).1);
+            let due = replies.fold((0, 0), |sum, reply| (sum.0 + reply.0, sum.1 + reply.1));
+            let (_, (saving, moved, optima)) = calls::round(&mut ring);
+            assert_eq!((saving, optima, &ring), (due.0, due.1, &sifted));
+            sums = (sums.0 + saving, sums.1 + optima);
+            (rounds, moves) = (rounds + 1, moved);
+        }
+        let mut settled = layout(&vertices(5), &edges);
+        let due = (0, (sums.0, rounds, true, sums.1));
+        assert_eq!((calls::settle(&mut settled, 1000), settled), (due, ring));
+    }
+}
+
+#[test]
+fn every_place_is_best_with_all_edges_and_with_none() {
+    for n in [2, 3, 17] {
+        for edges in [all_pairs(n), vec![]] {
+            let mut ring = layout(&vertices(n), &edges);
+            let places = n as u32 - 1;
+            assert_eq!(calls::sift(&mut ring, 1), (0, (0, places)));
+            assert_eq!(calls::round(&mut ring), (0, (0, 0, n as u32 * places)));
+        }
+    }
 }
 
 #[test]
@@ -314,7 +396,7 @@ fn the_listing_and_the_list_worked_in_full() {
     let rest = " 0".repeat(60);
     let due = format!(
         "chart 0 n 4 order 0 1 2 3{rest} count 1 words 0 4 1 8 2 1 3 2\n\
-         sift 0 1 n 4 order 1 0 2 3{rest} count 0 words\n"
+         sift 0 1 2 n 4 order 1 0 2 3{rest} count 0 words\n"
     );
     assert_eq!(play(&calls), due);
 }
