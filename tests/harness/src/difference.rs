@@ -212,6 +212,13 @@ mod tests {
     }
 
     #[test]
+    fn a_missing_answer_does_not_move_the_others() {
+        let one = "round 0 1 1 8 n 4 order 1 0 2 3 count 0 words\n";
+        let due = vec!["word 5, the best places: 8 against nothing".to_string()];
+        assert_eq!(found(Answers, one, &one.replace(" 8", "")), (1, due));
+    }
+
+    #[test]
     fn another_name_is_all_that_is_told() {
         let line = "add 0 0 n 1 order 0 count 0 words\n";
         let due = vec!["word 1, the name: add against end".to_string()];
@@ -256,6 +263,27 @@ mod tests {
         for index in 0..20 {
             let planted = plant(output, &mut Rng::new(1, "plant", index));
             assert!(first_difference(Answers, output, &planted).is_some());
+        }
+    }
+
+    /// Among all that can be planted are the best places of each call that
+    /// sifts.
+    #[test]
+    fn planted_best_places_are_found() {
+        let output = "sift 0 1 2 n 4\nround 0 1 1 8 n 4\nsettle 0 1 2 yes 16 n 4\n";
+        let mut told = Vec::new();
+        for index in 0..100 {
+            let planted = plant(output.as_bytes(), &mut Rng::new(1, "plant", index));
+            let found = first_difference(Answers, output.as_bytes(), &planted);
+            let found = found.expect("a difference");
+            told.push((found.line, found.text()));
+        }
+        for (line, text) in [
+            (1, "word 4, the best places: 2 against 3"),
+            (2, "word 5, the best places: 8 against 9"),
+            (3, "word 6, the best places: 16 against 17"),
+        ] {
+            assert!(told.contains(&(line, text.to_string())), "{text}");
         }
     }
 }

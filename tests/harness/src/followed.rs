@@ -45,6 +45,23 @@ pub fn check_lines(
     Ok(())
 }
 
+/// Puts a check to each two lines of a list that follow each other. Tells the
+/// first line, counted from 1, that fails it together with the one before.
+pub fn check_pairs(
+    list: &[u8],
+    lines: &str,
+    check: impl Fn(&Step, &Step) -> Result<(), String>,
+) -> Result<(), (usize, String)> {
+    let mut last: Option<Step> = None;
+    for (i, step) in steps(list, lines).enumerate() {
+        if let Some(last) = &last {
+            check(last, &step).map_err(|text| (i + 1, text))?;
+        }
+        last = Some(step);
+    }
+    Ok(())
+}
+
 /// Sees that lines which are changed once fail a check in the line named. Gives
 /// what is said of it.
 #[cfg(test)]

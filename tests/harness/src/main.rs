@@ -14,6 +14,7 @@ mod options;
 mod rng;
 mod run;
 mod side;
+mod sifted;
 mod tally;
 mod written;
 
@@ -69,7 +70,8 @@ fn finish(options: &Options, tally: &Tally) -> ExitCode {
     ExitCode::SUCCESS
 }
 
-/// How much the naive model left to the programs, but for counting crossings.
+/// How much the naive model left to the programs, but for counting crossings
+/// and for single sifts.
 fn without_naive(options: &Options, tally: &Tally) -> String {
     let (charts, lists) = tally.without_naive();
     let told = |name: &str, times: usize, sides: usize| match sides {
@@ -78,5 +80,5 @@ fn without_naive(options: &Options, tally: &Tally) -> String {
     };
     let charts = told("charts", charts, options.list.len());
     let lists = told("lists", lists, options.play.len());
-    format!("without the naive model, but for its counts: {charts}, {lists}")
+    format!("without the naive model, but for its counts and sifts: {charts}, {lists}")
 }

@@ -1,7 +1,7 @@
 //! A run: makes every chart and list, and compares the sides on it.
 
 use crate::counted::{self, check_listing};
-use crate::followed::{check_lines, Step};
+use crate::followed::{check_lines, check_pairs, Step};
 use crate::input::{record_of, Failure, Input, Model};
 use crate::label::Output;
 use crate::laid;
@@ -9,6 +9,7 @@ use crate::make::{charts, five, lists};
 use crate::naive;
 use crate::options::Options;
 use crate::rng::Rng;
+use crate::sifted;
 use crate::tally::Tally;
 use crate::written;
 
@@ -90,10 +91,14 @@ fn compare_list(
         written::check_line(step)?;
         if !naive {
             counted::check_line(step)?;
+            sifted::check_sift(step)?;
         }
-        laid::check_line(step)
+        laid::check_line(step)?;
+        sifted::check_line(step)
     };
-    check_lines(&made.bytes, &lines, check).map_err(|(line, text)| {
+    let checked = check_lines(&made.bytes, &lines, check)
+        .and_then(|()| check_pairs(&made.bytes, &lines, sifted::check_again));
+    checked.map_err(|(line, text)| {
         let record = record_of(&made.bytes, line);
         input.failure(format!("{record}: {text}"))
     })?;

@@ -158,8 +158,17 @@ impl Maker {
     fn large_graph(&mut self, graph: &Graph) {
         self.without_naive();
         self.write_graph(graph);
+        self.sift_twice();
         self.every_call();
         self.any_calls(2, 10);
+    }
+
+    /// Sifts a vertex, and again where that has left it.
+    fn sift_twice(&mut self) {
+        let v = self.rng.below(self.n.max(1)) as u64;
+        for _ in 0..2 {
+            self.emit(SIFT, v, 0);
+        }
     }
 
     /// About half of these calls, in their sequence, if the budget allows them.
@@ -171,13 +180,15 @@ impl Maker {
         }
     }
 
-    /// What takes its turn from list to list: each size with some density, each
-    /// length of a buffer, each number of edges that is written, each family,
-    /// each refusal number of each call, and each special chart.
+    /// What takes its turn from list to list: each size with some density, a
+    /// vertex of which is sifted twice, each length of a buffer, each number of
+    /// edges that is written, each family, each refusal number of each call, and
+    /// each special chart.
     fn in_turn(&mut self, seed: u64, index: usize) {
         let n = ((seed % 65) as usize + 7 * index) % 65;
         let graph = Graph::in_quarter(&mut self.rng, n, index % QUARTERS);
         self.write_graph(&graph);
+        self.sift_twice();
         self.any_calls(2, 5);
         self.emit(ORDER, index as u64 % 66, 7);
         self.call_write_in_turn(&graph, index);
@@ -373,6 +384,42 @@ mod tests {
             let texts: Vec<String> = entries(&made.bytes).iter().map(Entry::text).collect();
             let again = ["settle with limit 1000", "round"];
             assert!(texts.windows(2).any(|two| two == again));
+        }
+    }
+
+    /// How often a vertex is sifted twice in a row.
+    fn sifted_twice(list: &[u8]) -> usize {
+        let entries = entries(list);
+        let sifts = |entry: &Entry| matches!(entry, Entry::Record([SIFT, ..]));
+        let pairs = entries.windows(2);
+        let again = pairs.filter(|pair| sifts(&pair[0]) && pair[0] == pair[1]);
+        again.count()
+    }
+
+    #[test]
+    fn a_vertex_is_sifted_twice_in_every_list_and_of_each_large_graph() {
+        for index in 0..65 {
+            let made = list(9, index, &Known::all());
+            assert!(sifted_twice(&made.bytes) >= 1);
+        }
+        for made in lists("large graphs") {
+            assert!(sifted_twice(&made.bytes) >= QUARTERS + 2);
+        }
+    }
+
+    #[test]
+    fn a_vertex_that_is_sifted_twice_is_there() {
+        for n in 0..=64 {
+            let mut maker = Maker::new(Rng::new(1, "twice", n), &Known::all());
+            let graph = Graph::in_quarter(&mut maker.rng, n, 0);
+            maker.write_chart(&graph);
+            maker.sift_twice();
+            let lines = play(&maker.bytes);
+            let sifted = steps(&maker.bytes, &lines).skip(1);
+            let refusals: Vec<u8> = sifted
+                .map(|step| step.answer().expect("a sift").1)
+                .collect();
+            assert_eq!(refusals, [if n == 0 { 12 } else { 0 }; 2]);
         }
     }
 

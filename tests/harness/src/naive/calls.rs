@@ -162,9 +162,12 @@ fn crossings_at_ends(layout: &Layout, placed: &[usize], v: usize) -> (u32, u32) 
     (front, back)
 }
 
-/// The lists that have u directly after each of the others, clockwise from u,
-/// each with its crossings.
-fn candidates(order: &[usize], edges: &[Edge], u: usize) -> Vec<(Vec<usize>, u32)> {
+/// A list that has u in some place, and its crossings.
+type Candidate = (Vec<usize>, u32);
+
+/// The candidates that have u directly after each of the others, clockwise from
+/// u.
+fn candidates(order: &[usize], edges: &[Edge], u: usize) -> Vec<Candidate> {
     let place = order.iter().position(|&v| v == u).expect("u is listed");
     let mut candidates = Vec::new();
     for k in 1..order.len() {
@@ -175,22 +178,17 @@ fn candidates(order: &[usize], edges: &[Edge], u: usize) -> Vec<(Vec<usize>, u32
     candidates
 }
 
-/// The candidates that have the least crossings, in their sequence.
-fn best_candidates(order: &[usize], edges: &[Edge], u: usize) -> Vec<(Vec<usize>, u32)> {
+/// Those of them that have the least crossings, in their sequence.
+fn best_candidates(order: &[usize], edges: &[Edge], u: usize) -> Vec<Candidate> {
     let mut candidates = candidates(order, edges, u);
     let least = candidates.iter().map(|&(_, found)| found).min();
     candidates.retain(|&(_, found)| Some(found) == least);
     candidates
 }
 
-/// The optima of u in a valid layout: how many of the n - 1 candidate places
-/// have the least crossings (document 02, Note 3).
-pub fn optima(layout: &Layout, u: usize) -> u32 {
-    best_candidates(&list(layout), &edges(layout), u).len() as u32
-}
-
 /// What sifting answers: the reduction (saving), how many vertices moved, and
-/// the optima, each summed over the sifts.
+/// the optima, how many of the n - 1 candidate places have the least crossings
+/// (document 02, Note 3), each summed over the sifts.
 type Sums = (u32, u32, u32);
 
 /// Sifts these vertices one after the other.

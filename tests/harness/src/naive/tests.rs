@@ -103,13 +103,11 @@ fn optima_of_few_vertices_and_of_refused_calls() {
 /// Sifts u twice. The candidates are the same behind the first sift, and so are
 /// the optima. Gives the first answers.
 fn sifted_twice(ring: &mut Layout, u: usize) -> (u32, u32) {
-    let optima = calls::optima(ring, u);
-    let (_, first) = calls::sift(ring, u as u64);
-    assert_eq!((first.1, calls::optima(ring, u)), (optima, optima));
-    let sifted = ring.clone();
-    assert_eq!(calls::sift(ring, u as u64), (0, (0, optima)));
-    assert_eq!(*ring, sifted);
-    first
+    let (refusal, (saving, optima)) = calls::sift(ring, u as u64);
+    let mut again = ring.clone();
+    let due = (refusal, (0, optima));
+    assert_eq!((calls::sift(&mut again, u as u64), &again), (due, &*ring));
+    (saving, optima)
 }
 
 #[test]

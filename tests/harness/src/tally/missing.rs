@@ -3,7 +3,7 @@
 use std::collections::BTreeSet;
 use std::ops::RangeInclusive;
 
-use super::{lays, writes, Counts, Quarters, Tally};
+use super::{lays, sifts, writes, Counts, Quarters, Tally};
 use crate::make::ops::{Known, ORDER, WRITE};
 use crate::make::{charts, families, lists, starts};
 
@@ -29,6 +29,9 @@ impl Tally {
             missing.extend(without("buffer of", 0..=65, &self.buffers));
         }
         missing.extend(absent("lay", lays::due(known), &self.lays));
+        missing.extend(absent("sift", sifts::due(known), &self.sifts));
+        let settles = sifts::due_of_settles(known);
+        missing.extend(absent("settle", settles, &self.settles));
         missing.extend(absent("write", writes::due(known), &self.writes));
         if known.has(WRITE) {
             missing.extend(without("write of size", 0..=64, &self.written_sizes));
@@ -111,7 +114,7 @@ fn without(title: &str, numbers: RangeInclusive<usize>, met: &BTreeSet<usize>) -
 #[cfg(test)]
 mod tests {
     use super::*;
-    use crate::make::ops::{ADD, LAY, LINK, SET_COUNT, SET_N, SET_ORDER};
+    use crate::make::ops::{ADD, LAY, LINK, SETTLE, SET_COUNT, SET_N, SET_ORDER, SIFT};
     use crate::make::records;
 
     /// What there is of each: kinds of list, of which two need lay, ways to
@@ -123,9 +126,11 @@ mod tests {
     const CALLS: usize = 12;
     const ANSWERS: usize = 47;
     const LISTINGS: usize = 9;
-    /// What is to occur of lays, and of charts that are written, one of which
-    /// needs chart.
+    /// What is to occur of lays, of sifts, of settlings, and of charts that are
+    /// written, one of which needs chart.
     const LAYS: usize = 6;
+    const SIFTS: usize = 8;
+    const SETTLES: usize = 2;
     const WRITES: usize = 9;
 
     fn list(records: &[[u64; 4]]) -> lists::Made {
@@ -166,11 +171,14 @@ mod tests {
         let of_charts = LISTINGS + 3 + GRAPHS + 65 + 4;
         let of_lists = ANSWERS + 4 * CALLS + LISTS + STARTS + GRAPHS + 65 + 66;
         let of_writes = WRITES + 65;
-        let of_all = of_charts + of_lists + LAYS + of_writes;
+        let of_all = of_charts + of_lists + LAYS + SIFTS + SETTLES + of_writes;
         assert_eq!(missing(&Tally::default()).len(), of_all);
         let few = Known::parse("add,order").expect("known names");
         let of_few = 6 + 4 * 2 + (LISTS - 2) + (STARTS - 3) + GRAPHS + 65 + 66;
         assert_eq!(Tally::default().missing(&few, false).len(), of_few);
+        let sifting = Known::parse("sift,settle").expect("known names");
+        let of_sifting = 6 + 4 * 2 + (LISTS - 2) + (STARTS - 4) + GRAPHS + 65 + SIFTS + SETTLES;
+        assert_eq!(Tally::default().missing(&sifting, false).len(), of_sifting);
         let write = Known::parse("write").expect("known names");
         let of_write = 3 + 4 + (LISTS - 2) + (STARTS - 4) + GRAPHS + 65 + (WRITES - 1) + 65;
         assert_eq!(Tally::default().missing(&write, false).len(), of_write);
@@ -248,6 +256,36 @@ mod tests {
         let line = "lay 12 0 n 2 order 0 1 count 0 words\n";
         let refused = met(|tally| tally.list(&list(&records), line));
         assert!(!refused.contains(&due));
+    }
+
+    #[test]
+    fn best_places_are_met_by_an_accepted_sift() {
+        let records = [[SET_N, 2, 0, 0], [SET_ORDER, 1, 1, 0], [SIFT, 1, 0, 0]];
+        let line = "sift 0 0 1 n 2 order 0 1 count 0 words\n";
+        let accepted = met(|tally| tally.list(&list(&records), line));
+        let due = "sift, two vertices, one place".to_string();
+        assert!(accepted.contains(&due));
+        let line = "sift 12 0 0 n 2 order 0 1 count 0 words\n";
+        let refused = met(|tally| tally.list(&list(&records), line));
+        assert!(!refused.contains(&due));
+    }
+
+    #[test]
+    fn a_vertex_that_is_sifted_again_and_a_limit_are_met() {
+        let sift = [SIFT, 1, 0, 0];
+        let lines = "sift 0 5 2 n 4 order 0 1 2 3 count 0 words\n\
+                     sift 0 0 2 n 4 order 0 1 2 3 count 0 words\n\
+                     settle 0 1 1 no 8 n 4 order 0 1 2 3 count 0 words\n";
+        let records = [sift, sift, [SETTLE, 1, 0, 0]];
+        let met = met(|tally| tally.list(&list(&records), lines));
+        for due in [
+            "sift, moved, several places best",
+            "sift, stayed, several places best, but not all",
+            "sift, again behind a move",
+            "settle, limit reached, the last round moved something",
+        ] {
+            assert!(met.contains(&due.to_string()), "{due}");
+        }
     }
 
     /// The empty layout's chart, as a list has it and as a line shows it.

@@ -2,6 +2,7 @@
 
 mod lays;
 mod missing;
+mod sifts;
 mod writes;
 
 use std::collections::{BTreeMap, BTreeSet};
@@ -46,6 +47,10 @@ pub struct Tally {
     buffers: BTreeSet<usize>,
     /// What occurred of isolated vertices in accepted lays.
     lays: Counts,
+    /// What occurred of best places in accepted sifts, and of last rounds in
+    /// accepted settlings.
+    sifts: Counts,
+    settles: Counts,
     /// What occurred of charts that were written, and the numbers of vertices
     /// in those layouts.
     writes: Counts,
@@ -59,9 +64,7 @@ impl Tally {
     /// Takes in a chart and its listing.
     pub fn chart(&mut self, made: &charts::Made, listing: &str) {
         add(&mut self.charts, made.kind);
-        if let Some(family) = made.family {
-            add(&mut self.chart_graphs, family);
-        }
+        add_all(&mut self.chart_graphs, made.family);
         self.charts_without_naive += usize::from(!made.naive);
         let numbers: Vec<usize> = listing.lines().take(2).filter_map(last_number).collect();
         match (listing.starts_with("refused"), &numbers[..]) {
@@ -79,19 +82,25 @@ impl Tally {
     pub fn list(&mut self, made: &lists::Made, lines: &str) {
         add(&mut self.lists, made.kind);
         self.lists_without_naive += usize::from(!made.naive);
-        for start in &made.starts {
-            add(&mut self.starts, start);
-        }
-        for graph in &made.graphs {
-            add(&mut self.list_graphs, graph);
-        }
+        add_all(&mut self.starts, &made.starts);
+        add_all(&mut self.list_graphs, &made.graphs);
         let mut last: Option<Step> = None;
         for step in steps(&made.bytes, lines) {
             self.line(&step);
-            if last.is_some_and(|last| is_read_back(&last, &step)) {
-                add(&mut self.writes, writes::READ_BACK);
+            if let Some(last) = &last {
+                self.pair(last, &step);
             }
             last = Some(step);
+        }
+    }
+
+    /// Takes in what an answer line is to the one before it.
+    fn pair(&mut self, last: &Step, step: &Step) {
+        if is_read_back(last, step) {
+            add(&mut self.writes, writes::READ_BACK);
+        }
+        if sifts::is_again_behind_a_move(last, step) {
+            add(&mut self.sifts, sifts::AGAIN);
         }
     }
 
@@ -113,11 +122,9 @@ impl Tally {
             "order" => {
                 self.buffers.insert(numbers(step.line, " buffer ").len());
             }
-            "lay" if refusal == 0 => {
-                for sort in lays::met(step) {
-                    add(&mut self.lays, sort);
-                }
-            }
+            "lay" if refusal == 0 => add_all(&mut self.lays, lays::met(step)),
+            "sift" if refusal == 0 => add_all(&mut self.sifts, sifts::met(step)),
+            "settle" if refusal == 0 => add_all(&mut self.settles, sifts::met_by_settle(step)),
             "write" => self.write(step, refusal),
             _ => {}
         }
@@ -125,9 +132,7 @@ impl Tally {
 
     /// Takes in a line of `write`.
     fn write(&mut self, step: &Step, refusal: u8) {
-        for name in writes::met(step, refusal) {
-            add(&mut self.writes, &name);
-        }
+        add_all(&mut self.writes, writes::met(step, refusal));
         if refusal == 0 {
             self.written_sizes.insert(step.n());
         }
@@ -154,6 +159,8 @@ impl Tally {
             ("start", &self.starts),
             ("graph in lists", &self.list_graphs),
             ("lay", &self.lays),
+            ("sift", &self.sifts),
+            ("settle", &self.settles),
             ("write", &self.writes),
         ] {
             for (name, times) in counts {
@@ -229,4 +236,10 @@ fn add_quarter(quarters: &mut Quarters, n: usize, m: usize) {
 
 fn add(counts: &mut Counts, name: &str) {
     *counts.entry(name.to_string()).or_default() += 1;
+}
+
+fn add_all<N: AsRef<str>>(counts: &mut Counts, names: impl IntoIterator<Item = N>) {
+    for name in names {
+        add(counts, name.as_ref());
+    }
 }
