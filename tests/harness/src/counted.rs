@@ -84,7 +84,7 @@ pub fn check_listing(chart: &[u8], listing: &str) -> Result<(), String> {
 #[cfg(test)]
 mod tests {
     use super::*;
-    use crate::followed::{change_found, check_lines};
+    use crate::followed::{change_found, check_lines, check_pairs};
     use crate::make::charts::Chart;
     use crate::make::graph::Graph;
     use crate::make::lists;
@@ -92,6 +92,7 @@ mod tests {
     use crate::make::records;
     use crate::naive::list::listing;
     use crate::naive::play::play;
+    use crate::sifted;
     use crate::written;
 
     /// The chart of document 01's first ring.
@@ -106,8 +107,15 @@ mod tests {
         for made in (0..40).map(|index| lists::list(7, index, &known)) {
             if made.naive {
                 let lines = play(&made.bytes);
-                let check = |step: &Step| check_line(step).and(written::check_line(step));
+                let check = |step: &Step| {
+                    check_line(step)?;
+                    written::check_line(step)?;
+                    sifted::check_line(step)?;
+                    sifted::check_sift(step)
+                };
                 assert_eq!(check_lines(&made.bytes, &lines, check), Ok(()));
+                let again = check_pairs(&made.bytes, &lines, sifted::check_again);
+                assert_eq!(again, Ok(()));
             }
         }
         assert_eq!(check_listing(&square(), &listing(&square())), Ok(()));

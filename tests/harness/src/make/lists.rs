@@ -409,7 +409,7 @@ mod tests {
 
     #[test]
     fn a_vertex_that_is_sifted_twice_is_there() {
-        for n in 0..=64 {
+        for n in [0, 1, 2, 3, 20] {
             let mut maker = Maker::new(Rng::new(1, "twice", n), &Known::all());
             let graph = Graph::in_quarter(&mut maker.rng, n, 0);
             maker.write_chart(&graph);
