@@ -124,7 +124,8 @@ static bool play_chart(rl_layout *l, list *rest, uint64_t length)
 static void play_converge(rl_layout *l, uint64_t limit)
 {
     rl_convergence run = rl_converge(l, limit < UINT32_MAX ? (uint32_t)limit : UINT32_MAX);
-    printf("settle %u %u %u %s", run.refusal, run.reduction, run.rounds, run.converged ? "yes" : "no");
+    printf("settle %u %u %u %s %u", run.refusal, run.reduction, run.rounds,
+           run.converged ? "yes" : "no", run.optima);
 }
 
 /* Fills as much of the buffer as the record lends; how many bytes that is. */
@@ -200,13 +201,13 @@ static bool play_call(rl_layout *l, list *rest, record r)
         return true;
     }
     case 21: {
-        rl_reduction sifted = rl_sift(l, r.a);
-        printf("sift %u %u", sifted.refusal, sifted.reduction);
+        rl_sifted sifted = rl_sift(l, r.a);
+        printf("sift %u %u %u", sifted.refusal, sifted.reduction, sifted.optima);
         return true;
     }
     case 22: {
         rl_round round = rl_sifting_round(l);
-        printf("round %u %u %u", round.refusal, round.reduction, round.moved);
+        printf("round %u %u %u %u", round.refusal, round.reduction, round.moved, round.optima);
         return true;
     }
     case 23:

@@ -44,6 +44,9 @@ extern "C" {
 /* The least buffer for rl_list_chart. */
 #define RL_LISTING_BYTES 1024
 
+/* The numbers of each answer that rl_play writes. */
+#define RL_ANSWER_NUMBERS 5
+
 /* Refusal codes (document 01: the numbers of the questions). */
 enum rl_refusal {
     RL_ACCEPTED = 0,
@@ -130,26 +133,31 @@ typedef struct rl_tally {
     uint32_t tally;
 } rl_tally;
 
-/* The reduction (document 01: saving): crossings before less crossings after. */
-typedef struct rl_reduction {
+/* The reduction (document 01: saving), crossings before less crossings after, and
+ * how many of the n - 1 candidate places have the least crossings, the present
+ * one being a candidate; 0 below two vertices (document 02, Note 3). */
+typedef struct rl_sifted {
     uint8_t refusal;
     uint32_t reduction;
-} rl_reduction;
+    uint32_t optima;
+} rl_sifted;
 
-/* The summed reduction, and how many vertices moved. */
+/* The summed reduction, how many vertices moved, and the summed optima. */
 typedef struct rl_round {
     uint8_t refusal;
     uint32_t reduction;
     uint32_t moved;
+    uint32_t optima;
 } rl_round;
 
-/* The summed reduction, the rounds run, the last one included, and whether that
- * one moved no vertex (document 01: settled). */
+/* The summed reduction, the rounds run, the last one included, whether that one
+ * moved no vertex (document 01: settled), and the summed optima of all rounds. */
 typedef struct rl_convergence {
     uint8_t refusal;
     uint32_t reduction;
     uint32_t rounds;
     bool converged;
+    uint32_t optima;
 } rl_convergence;
 
 /* The carried count. */
@@ -201,18 +209,21 @@ RL_AT(rl_vertex, vertex, 8);
 RL_SIZE(rl_tally, 8);
 RL_AT(rl_tally, refusal, 0);
 RL_AT(rl_tally, tally, 4);
-RL_SIZE(rl_reduction, 8);
-RL_AT(rl_reduction, refusal, 0);
-RL_AT(rl_reduction, reduction, 4);
-RL_SIZE(rl_round, 12);
+RL_SIZE(rl_sifted, 12);
+RL_AT(rl_sifted, refusal, 0);
+RL_AT(rl_sifted, reduction, 4);
+RL_AT(rl_sifted, optima, 8);
+RL_SIZE(rl_round, 16);
 RL_AT(rl_round, refusal, 0);
 RL_AT(rl_round, reduction, 4);
 RL_AT(rl_round, moved, 8);
-RL_SIZE(rl_convergence, 16);
+RL_AT(rl_round, optima, 12);
+RL_SIZE(rl_convergence, 20);
 RL_AT(rl_convergence, refusal, 0);
 RL_AT(rl_convergence, reduction, 4);
 RL_AT(rl_convergence, rounds, 8);
 RL_AT(rl_convergence, converged, 12);
+RL_AT(rl_convergence, optima, 16);
 RL_SIZE(rl_counted, 8);
 RL_AT(rl_counted, refusal, 0);
 RL_AT(rl_counted, count, 4);
@@ -263,7 +274,7 @@ rl_tally rl_greedy_append(rl_layout *l, size_t start);
 
 /* Moves u to where the crossings are fewest, of several places to the first
  * clockwise; where none has fewer than its own, u stays (sift). Refused: 12. */
-rl_reduction rl_sift(rl_layout *l, size_t u);
+rl_sifted rl_sift(rl_layout *l, size_t u);
 
 /* A sifting round: sifts each vertex once, in rising number (round). */
 rl_round rl_sifting_round(rl_layout *l);
@@ -320,11 +331,11 @@ enum rl_call {
  * Plays a list of calls from the empty layout, or from a chart. A call is three
  * numbers: an rl_call and what it names, 0 where it names less. The list ends
  * at the first number that is no rl_call; one or two numbers at its end are not
- * looked at. An answer is four numbers: the refusal code and up to three more,
- * in the sequence of the call's own answer, 0 where it has fewer. Refused: 1 to
- * 8 for the chart (the layout is then empty), and 18 for fewer than four
- * numbers to write for each call (the layout is then the one at the start).
- * Answers behind the last call keep what they hold.
+ * looked at. An answer is RL_ANSWER_NUMBERS numbers: the refusal code and up to
+ * four more, in the sequence of the call's own answer, a bool as 1 or 0, and 0
+ * where it has fewer. Refused: 1 to 8 for the chart (the layout is then empty),
+ * and 18 for fewer numbers than that to write for each call (the layout is then
+ * the one at the start). Answers behind the last call keep what they hold.
  */
 rl_played rl_play(bool from_chart, const uint8_t *chart, size_t chart_length,
                   const uint64_t *calls, size_t calls_length,

@@ -78,19 +78,26 @@ static void changes(void)
     HOLDS(rl_move_after(&l, 5, 0) == RL_NO_SUCH_VERTEX);
 
     l = first();
-    rl_reduction sifted = rl_sift(&l, 0);
+    rl_sifted sifted = rl_sift(&l, 0);
     HOLDS(sifted.refusal == RL_ACCEPTED && sifted.reduction == 1 && l.order[0] == 1);
+    HOLDS(sifted.optima == 2);
+    sifted = rl_sift(&l, 4);
+    HOLDS(sifted.refusal == RL_NO_SUCH_VERTEX && sifted.reduction == 0 && sifted.optima == 0);
     l = first();
     rl_round round = rl_sifting_round(&l);
     HOLDS(round.refusal == RL_ACCEPTED && round.reduction == 1 && round.moved == 1);
+    HOLDS(round.optima == 8);
     l = first();
     rl_convergence run = rl_converge(&l, 1);
     HOLDS(run.refusal == RL_ACCEPTED && run.rounds == 1 && !run.converged && l.count == 0);
+    HOLDS(run.optima == 8);
     l = first();
     run = rl_converge(&l, 1000);
     HOLDS(run.refusal == RL_ACCEPTED && run.reduction == 1 && run.rounds == 2 && run.converged);
+    HOLDS(run.optima == 16);
     run = rl_converge(&l, 1001);
     HOLDS(run.refusal == RL_LIMIT_OUT_OF_RANGE && run.rounds == 0 && !run.converged);
+    HOLDS(run.optima == 0);
     HOLDS(rl_converge(&l, 0).refusal == RL_LIMIT_OUT_OF_RANGE);
     rl_tally laid = rl_greedy_append(&l, 3);
     HOLDS(laid.refusal == RL_ACCEPTED && laid.tally == l.count);
@@ -100,6 +107,21 @@ static void changes(void)
     for (size_t v = 0; v < RL_PLACES; v++)
         HOLDS(rl_add_vertex(&l).vertex == v);
     HOLDS(rl_add_vertex(&l).refusal == RL_NO_ROOM && l.n == RL_PLACES);
+}
+
+/* Complete graphs of up to four vertices: every candidate place has the least
+ * crossings. */
+static void optima(void)
+{
+    rl_layout l = rl_empty();
+    for (size_t v = 0; v < 4; v++) {
+        HOLDS(rl_add_vertex(&l).vertex == v);
+        for (size_t w = 0; w < v; w++)
+            HOLDS(rl_add_edge(&l, v, w) == RL_ACCEPTED);
+        rl_sifted sifted = rl_sift(&l, 0);
+        HOLDS(sifted.refusal == RL_ACCEPTED && sifted.reduction == 0 && sifted.optima == v);
+        HOLDS(rl_sifting_round(&l).optima == (v + 1) * v);
+    }
 }
 
 static void reads(void)
@@ -200,12 +222,14 @@ static void invalid(void)
     HOLDS(rl_move_after(&l, 0, 1) == RL_INVALID_LAYOUT);
     rl_tally laid = rl_greedy_append(&l, 0);
     HOLDS(laid.refusal == RL_INVALID_LAYOUT && laid.tally == 0);
-    rl_reduction sifted = rl_sift(&l, 0);
-    HOLDS(sifted.refusal == RL_INVALID_LAYOUT && sifted.reduction == 0);
+    rl_sifted sifted = rl_sift(&l, 0);
+    HOLDS(sifted.refusal == RL_INVALID_LAYOUT && sifted.reduction == 0 && sifted.optima == 0);
     rl_round round = rl_sifting_round(&l);
     HOLDS(round.refusal == RL_INVALID_LAYOUT && round.reduction == 0 && round.moved == 0);
+    HOLDS(round.optima == 0);
     rl_convergence run = rl_converge(&l, 50);
     HOLDS(run.refusal == RL_INVALID_LAYOUT && run.reduction == 0 && run.rounds == 0 && !run.converged);
+    HOLDS(run.optima == 0);
     rl_counted counted = rl_count(&l);
     HOLDS(counted.refusal == RL_INVALID_LAYOUT && counted.count == 0);
     HOLDS(rl_order(&l, buffer, sizeof buffer) == RL_INVALID_LAYOUT);
@@ -236,27 +260,40 @@ static void lists(void)
 {
     static const uint64_t calls[] = {
         RL_CALL_ADD_VERTEX, 0, 0, RL_CALL_ADD_EDGE, 4, 1, RL_CALL_ADD_EDGE, 4, 4,
-        RL_CALL_CONVERGE, 50, 0, 99, 0, 0, RL_CALL_ADD_VERTEX, 0, 0,
+        RL_CALL_SIFT, 2, 0, RL_CALL_SIFTING_ROUND, 0, 0, RL_CALL_CONVERGE, 50, 0,
+        99, 0, 0, RL_CALL_ADD_VERTEX, 0, 0,
     };
     static const size_t length = sizeof calls / sizeof *calls;
-    uint64_t answers[17];
-    memset(answers, 0, sizeof answers);
-    answers[16] = 77;
-    rl_played played = rl_play(true, chart, sizeof chart, calls, length, answers, 15);
+    /* The table for six calls, and one number more. */
+    enum { CALLS = 6, TABLE = CALLS * RL_ANSWER_NUMBERS };
+    uint64_t answers[TABLE + 1];
+    for (size_t i = 0; i <= TABLE; i++)
+        answers[i] = 77;
+    rl_played played = rl_play(true, chart, sizeof chart, calls, length, answers, TABLE - 1);
     HOLDS(played.refusal == RL_BUFFER_TOO_SHORT && played.calls == 0 && played.layout.n == 4);
-    played = rl_play(true, chart, sizeof chart, calls, length, answers, 17);
-    HOLDS(played.refusal == RL_ACCEPTED && played.calls == 4);
+    HOLDS(answers[0] == 77);
+    played = rl_play(true, chart, sizeof chart, calls, length, answers, TABLE + 1);
+    HOLDS(played.refusal == RL_ACCEPTED && played.calls == CALLS && answers[TABLE] == 77);
 
     rl_layout l = first();
-    HOLDS(answers[0] == 0 && answers[1] == rl_add_vertex(&l).vertex);
-    HOLDS(answers[4] == rl_add_edge(&l, 4, 1) && answers[4] == 0);
-    HOLDS(answers[8] == rl_add_edge(&l, 4, 4) && answers[8] == RL_SAME_VERTEX);
+    rl_vertex added = rl_add_vertex(&l);
+    uint8_t joined = rl_add_edge(&l, 4, 1);
+    uint8_t refused = rl_add_edge(&l, 4, 4);
+    rl_sifted sifted = rl_sift(&l, 2);
+    rl_round round = rl_sifting_round(&l);
     rl_convergence run = rl_converge(&l, 50);
-    HOLDS(answers[12] == 0 && answers[13] == run.reduction);
-    HOLDS(answers[14] == run.rounds && answers[15] == run.converged);
-    HOLDS(answers[16] == 77 && same(&l, &played.layout));
+    const uint64_t due[CALLS][RL_ANSWER_NUMBERS] = {
+        {added.refusal, added.vertex},
+        {joined},
+        {refused},
+        {sifted.refusal, sifted.reduction, sifted.optima},
+        {round.refusal, round.reduction, round.moved, round.optima},
+        {run.refusal, run.reduction, run.rounds, run.converged, run.optima},
+    };
+    HOLDS(memcmp(answers, due, sizeof due) == 0);
+    HOLDS(joined == RL_ACCEPTED && refused == RL_SAME_VERTEX && same(&l, &played.layout));
 
-    played = rl_play(true, chart, 1, calls, length, answers, 17);
+    played = rl_play(true, chart, 1, calls, length, answers, TABLE);
     HOLDS(played.refusal == RL_CHART_FIELDS && played.calls == 0 && played.layout.n == 0);
     played = rl_play(false, chart, 0, calls, 0, answers, 0);
     HOLDS(played.refusal == RL_ACCEPTED && played.calls == 0 && played.layout.n == 0);
@@ -273,6 +310,7 @@ int main(void)
 {
     starts();
     changes();
+    optima();
     reads();
     writes();
     writes_the_longest();
