@@ -4,9 +4,7 @@
 use std::fmt::Write;
 use std::mem::{offset_of, size_of};
 
-use crate::ffi::{
-    Convergence, Counted, Crossing, Played, Reduction, Round, Tally, Vertex, Written,
-};
+use crate::ffi::{Convergence, Counted, Crossing, Played, Round, Sifted, Tally, Vertex, Written};
 use crate::refusal::REFUSALS;
 use crate::{Edge, Fields};
 
@@ -28,9 +26,9 @@ pub fn text() -> String {
     lines_of!(lines, "rl_edge", Edge, low high);
     lines_of!(lines, "rl_vertex", Vertex, refusal vertex);
     lines_of!(lines, "rl_tally", Tally, refusal tally);
-    lines_of!(lines, "rl_reduction", Reduction, refusal reduction);
-    lines_of!(lines, "rl_round", Round, refusal reduction moved);
-    lines_of!(lines, "rl_convergence", Convergence, refusal reduction rounds converged);
+    lines_of!(lines, "rl_sifted", Sifted, refusal reduction optima);
+    lines_of!(lines, "rl_round", Round, refusal reduction moved optima);
+    lines_of!(lines, "rl_convergence", Convergence, refusal reduction rounds converged optima);
     lines_of!(lines, "rl_counted", Counted, refusal count);
     lines_of!(lines, "rl_crossing", Crossing, refusal found first second);
     lines_of!(lines, "rl_written", Written, refusal length);

@@ -13,6 +13,10 @@ pub const PLACES: usize = 64;
 /// The most bytes that a written chart has.
 pub const WRITTEN_CHART_BYTES: usize = 4106;
 
+/// The numbers of each answer of a list of calls: the refusal code, and four
+/// more.
+pub const ANSWER_NUMBERS: usize = 5;
+
 #[repr(C)]
 pub struct Vertex {
     pub refusal: u8,
@@ -26,9 +30,10 @@ pub struct Tally {
 }
 
 #[repr(C)]
-pub struct Reduction {
+pub struct Sifted {
     pub refusal: u8,
     pub reduction: u32,
+    pub optima: u32,
 }
 
 #[repr(C)]
@@ -36,6 +41,7 @@ pub struct Round {
     pub refusal: u8,
     pub reduction: u32,
     pub moved: u32,
+    pub optima: u32,
 }
 
 #[repr(C)]
@@ -44,6 +50,7 @@ pub struct Convergence {
     pub reduction: u32,
     pub rounds: u32,
     pub converged: bool,
+    pub optima: u32,
 }
 
 #[repr(C)]
@@ -80,7 +87,7 @@ unsafe extern "C" {
     pub safe fn rl_remove_edge(l: &mut Fields, a: usize, b: usize) -> u8;
     pub safe fn rl_move_after(l: &mut Fields, a: usize, b: usize) -> u8;
     pub safe fn rl_greedy_append(l: &mut Fields, start: usize) -> Tally;
-    pub safe fn rl_sift(l: &mut Fields, u: usize) -> Reduction;
+    pub safe fn rl_sift(l: &mut Fields, u: usize) -> Sifted;
     pub safe fn rl_sifting_round(l: &mut Fields) -> Round;
     pub safe fn rl_converge(l: &mut Fields, limit: u32) -> Convergence;
     pub safe fn rl_count(l: &Fields) -> Counted;

@@ -28,19 +28,33 @@ pub struct Edge {
     pub high: usize,
 }
 
+/// What sifting a vertex did.
+#[derive(Clone, Copy, Debug, PartialEq, Eq)]
+pub struct Sifted {
+    /// The reduction (document 01: saving): crossings before less crossings
+    /// after.
+    pub reduction: u32,
+    /// How many of the n − 1 candidate places have the least crossings, the
+    /// present one being a candidate; 0 below two vertices (document 02,
+    /// Note 3).
+    pub optima: u32,
+}
+
 /// What a sifting round did.
 #[derive(Clone, Copy, Debug, PartialEq, Eq)]
 pub struct Round {
-    /// The summed reduction (document 01: saving).
+    /// The summed reduction.
     pub reduction: u32,
     /// How many vertices moved.
     pub moved: u32,
+    /// The summed [`Sifted::optima`].
+    pub optima: u32,
 }
 
 /// What sifting rounds up to a limit did.
 #[derive(Clone, Copy, Debug, PartialEq, Eq)]
 pub struct Convergence {
-    /// The summed reduction (document 01: saving).
+    /// The summed reduction.
     pub reduction: u32,
     /// The rounds run, the last one included.
     pub rounds: u32,
@@ -48,6 +62,8 @@ pub struct Convergence {
     /// layout is then a local minimum: no move of one vertex lowers the
     /// crossings.
     pub converged: bool,
+    /// The summed [`Sifted::optima`] of all rounds, the last one included.
+    pub optima: u32,
 }
 
 /// A circular layout (document 01: ring): vertices round a circle, edges as
@@ -130,11 +146,14 @@ impl Layout {
     }
 
     /// Moves u to where the crossings are fewest, of several places to the
-    /// first clockwise, and gives the reduction (document 01: saving). Where
-    /// none has fewer than its own, u stays.
-    pub fn sift(&mut self, u: usize) -> Result<u32, Refusal> {
+    /// first clockwise. Where none has fewer than its own, u stays.
+    pub fn sift(&mut self, u: usize) -> Result<Sifted, Refusal> {
         let answer = ffi::rl_sift(&mut self.fields, u);
-        accepted(answer.refusal, answer.reduction)
+        let sifted = Sifted {
+            reduction: answer.reduction,
+            optima: answer.optima,
+        };
+        accepted(answer.refusal, sifted)
     }
 
     /// Sifts each vertex once, in rising number (document 01: round).
@@ -143,6 +162,7 @@ impl Layout {
         let round = Round {
             reduction: answer.reduction,
             moved: answer.moved,
+            optima: answer.optima,
         };
         accepted(answer.refusal, round)
     }
@@ -155,6 +175,7 @@ impl Layout {
             reduction: answer.reduction,
             rounds: answer.rounds,
             converged: answer.converged,
+            optima: answer.optima,
         };
         accepted(answer.refusal, convergence)
     }
@@ -255,6 +276,13 @@ mod tests {
         Layout::from_chart(FIRST_CHART).unwrap()
     }
 
+    /// n vertices and all edges.
+    fn complete(n: usize) -> Layout {
+        let pairs = |a| (a + 1..n).map(move |b| (a, b));
+        let edges: Vec<_> = (0..n).flat_map(pairs).collect();
+        Layout::from_edges(n, &edges).unwrap()
+    }
+
     #[test]
     fn a_chart_is_read() {
         let layout = first();
@@ -297,23 +325,41 @@ mod tests {
     #[test]
     fn sifting() {
         let mut layout = first();
-        assert_eq!(layout.sift(0), Ok(1));
+        let sifted = Sifted {
+            reduction: 1,
+            optima: 2,
+        };
+        assert_eq!(layout.sift(0), Ok(sifted));
         assert_eq!(layout.order(), Ok(vec![1, 0, 2, 3]));
         assert_eq!(layout.first_crossing(), Ok(None));
+        assert_eq!(layout.sift(4), Err(Refusal::NoSuchVertex));
         let round = Round {
             reduction: 1,
             moved: 1,
+            optima: 8,
         };
         assert_eq!(first().sifting_round(), Ok(round));
-        let run = |rounds, converged| Convergence {
+        let run = |rounds, converged, optima| Convergence {
             reduction: 1,
             rounds,
             converged,
+            optima,
         };
-        assert_eq!(first().converge(1), Ok(run(1, false)));
-        assert_eq!(first().converge(1000), Ok(run(2, true)));
+        assert_eq!(first().converge(1), Ok(run(1, false, 8)));
+        assert_eq!(first().converge(1000), Ok(run(2, true, 16)));
         for limit in [0, 1001, u32::MAX] {
             assert_eq!(first().converge(limit), Err(Refusal::LimitOutOfRange));
+        }
+    }
+
+    #[test]
+    fn all_places_of_a_complete_graph_are_optima() {
+        for n in 1..=4 {
+            let mut layout = complete(n);
+            let sifted = layout.sift(0).map(|sifted| sifted.optima);
+            assert_eq!(sifted, Ok(n as u32 - 1));
+            let round = layout.sifting_round().map(|round| round.optima);
+            assert_eq!(round, Ok((n * (n - 1)) as u32));
         }
     }
 
@@ -361,9 +407,7 @@ mod tests {
 
     #[test]
     fn the_longest_chart() {
-        let pairs = |a| (a + 1..PLACES).map(move |b| (a, b));
-        let edges: Vec<_> = (0..PLACES).flat_map(pairs).collect();
-        let layout = Layout::from_edges(PLACES, &edges).unwrap();
+        let layout = complete(PLACES);
         let chart = layout.chart().unwrap();
         assert_eq!(chart.len(), WRITTEN_CHART_BYTES);
         assert_eq!(Layout::from_chart(&chart), Ok(layout));
@@ -399,6 +443,7 @@ mod tests {
         let refused = Err(Refusal::InvalidLayout);
         assert!(!layout.is_valid());
         assert_eq!(layout.add_vertex().map(drop), refused);
+        assert_eq!(layout.sift(0).map(drop), refused);
         assert_eq!(layout.sifting_round().map(drop), refused);
         assert_eq!(layout.converge(50).map(drop), refused);
         assert_eq!(layout.order().map(drop), refused);

@@ -28,7 +28,7 @@ mod refusal;
 mod row;
 
 pub use ffi::{PLACES, WRITTEN_CHART_BYTES};
-pub use layout::{Convergence, Edge, Fields, Layout, Round};
+pub use layout::{Convergence, Edge, Fields, Layout, Round, Sifted};
 pub use list::{play, Answer, Call, Played};
 pub use refusal::Refusal;
 pub use row::{list_chart, Row};

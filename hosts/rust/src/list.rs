@@ -1,6 +1,6 @@
 //! Lists of calls, played in one go.
 
-use crate::ffi;
+use crate::ffi::{self, ANSWER_NUMBERS};
 use crate::layout::Layout;
 use crate::refusal::{accepted, Refusal};
 
@@ -36,7 +36,7 @@ impl Call {
 
 /// What one call of a list answered: its further numbers in the sequence of the
 /// call's own answer, 0 where it has fewer; a bool counts as 0 or 1.
-pub type Answer = Result<[u64; 3], Refusal>;
+pub type Answer = Result<[u64; 4], Refusal>;
 
 /// A list of calls played.
 #[derive(Clone, Debug, PartialEq, Eq)]
@@ -49,13 +49,12 @@ pub struct Played {
 /// may stand anywhere among them; only a refused chart refuses the list.
 pub fn play(chart: Option<&[u8]>, calls: &[Call]) -> Result<Played, Refusal> {
     let numbers: Vec<u64> = calls.iter().flat_map(|call| call.numbers()).collect();
-    let mut table = vec![0; 4 * calls.len()];
-    let played = ffi::play(chart, &numbers, &mut table);
-    let answers = table.chunks_exact(4).take(played.calls).map(|answer| {
-        // A refusal code is a byte.
-        accepted(answer[0] as u8, [answer[1], answer[2], answer[3]])
-    });
-    let answers = answers.collect();
+    let mut table = vec![[0; ANSWER_NUMBERS]; calls.len()];
+    let played = ffi::play(chart, &numbers, table.as_flattened_mut());
+    table.truncate(played.calls);
+    // A refusal code is a byte.
+    let answer = |[refusal, numbers @ ..]: [u64; ANSWER_NUMBERS]| accepted(refusal as u8, numbers);
+    let answers = table.into_iter().map(answer).collect();
     let layout = Layout::from_fields(played.layout);
     accepted(played.refusal, Played { layout, answers })
 }
@@ -82,18 +81,20 @@ mod tests {
 
         let mut layout = Layout::from_chart(FIRST_CHART).unwrap();
         let mut answers: Vec<Answer> = Vec::new();
-        let number = |n: u32| [u64::from(n), 0, 0];
-        answers.push(layout.add_vertex().map(|v| [v as u64, 0, 0]));
-        answers.push(layout.add_edge(4, 1).map(|()| [0; 3]));
-        answers.push(layout.add_edge(4, 4).map(|()| [0; 3]));
-        answers.push(layout.move_after(4, 0).map(|()| [0; 3]));
-        answers.push(layout.sift(2).map(number));
+        answers.push(layout.add_vertex().map(|v| [v as u64, 0, 0, 0]));
+        answers.push(layout.add_edge(4, 1).map(|()| [0; 4]));
+        answers.push(layout.add_edge(4, 4).map(|()| [0; 4]));
+        answers.push(layout.move_after(4, 0).map(|()| [0; 4]));
+        let numbers = |numbers: [u32; 4]| numbers.map(u64::from);
+        let sifted = layout.sift(2);
+        answers.push(sifted.map(|s| numbers([s.reduction, s.optima, 0, 0])));
         let round = layout.sifting_round();
-        answers.push(round.map(|r| [r.reduction.into(), r.moved.into(), 0]));
-        answers.push(layout.greedy_append(3).map(number));
-        answers.push(layout.remove_edge(4, 1).map(|()| [0; 3]));
+        answers.push(round.map(|r| numbers([r.reduction, r.moved, r.optima, 0])));
+        let tally = layout.greedy_append(3);
+        answers.push(tally.map(|tally| numbers([tally, 0, 0, 0])));
+        answers.push(layout.remove_edge(4, 1).map(|()| [0; 4]));
         let run = layout.converge(50);
-        answers.push(run.map(|c| [c.reduction.into(), c.rounds.into(), c.converged.into()]));
+        answers.push(run.map(|c| numbers([c.reduction, c.rounds, c.converged.into(), c.optima])));
         assert_eq!(played, Played { layout, answers });
         assert_eq!(played.answers[2], Err(Refusal::SameVertex));
     }

@@ -102,11 +102,11 @@ fn play_record(layout: &mut Layout, record: Record, list: &mut &[u8]) -> Option<
             " 0",
             layout.greedy_append(v).map(|t| format!(" {t}")),
         ),
-        21 => told("sift", " 0", layout.sift(v).map(|r| format!(" {r}"))),
-        22 => told("round", " 0 0", round_text(layout)),
+        21 => told("sift", " 0 0", sift_text(layout, v)),
+        22 => told("round", " 0 0 0", round_text(layout)),
         23 => {
             let limit = u32::try_from(a).unwrap_or(u32::MAX);
-            told("settle", " 0 0 no", converge_text(layout, limit))
+            told("settle", " 0 0 no 0", converge_text(layout, limit))
         }
         24 => told("count", " 0", layout.count().map(|c| format!(" {c}"))),
         25 => {
@@ -124,15 +124,26 @@ fn play_record(layout: &mut Layout, record: Record, list: &mut &[u8]) -> Option<
     })
 }
 
+fn sift_text(layout: &mut Layout, u: usize) -> Result<String, Refusal> {
+    let sifted = layout.sift(u)?;
+    Ok(format!(" {} {}", sifted.reduction, sifted.optima))
+}
+
 fn round_text(layout: &mut Layout) -> Result<String, Refusal> {
     let round = layout.sifting_round()?;
-    Ok(format!(" {} {}", round.reduction, round.moved))
+    Ok(format!(
+        " {} {} {}",
+        round.reduction, round.moved, round.optima
+    ))
 }
 
 fn converge_text(layout: &mut Layout, limit: u32) -> Result<String, Refusal> {
     let run = layout.converge(limit)?;
     let settled = if run.converged { "yes" } else { "no" };
-    Ok(format!(" {} {} {settled}", run.reduction, run.rounds))
+    Ok(format!(
+        " {} {} {settled} {}",
+        run.reduction, run.rounds, run.optima
+    ))
 }
 
 fn crossing_text(layout: &Layout) -> Result<String, Refusal> {
