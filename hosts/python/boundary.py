@@ -11,7 +11,7 @@ STRUCTS = {
     "rl_edge": rostulanda._Edge,
     "rl_vertex": rostulanda._Vertex,
     "rl_tally": rostulanda._Tally,
-    "rl_reduction": rostulanda._Reduction,
+    "rl_sifted": rostulanda._Sifted,
     "rl_round": rostulanda._Round,
     "rl_convergence": rostulanda._Convergence,
     "rl_counted": rostulanda._Counted,

@@ -36,7 +36,7 @@ def first_crossing(layout: Layout) -> str:
 
 def converge(layout: Layout, limit: int) -> str:
     run = layout.converge(min(limit, 2**32 - 1))
-    return f" {run.reduction} {run.rounds} {'yes' if run.converged else 'no'}"
+    return f" {run.reduction} {run.rounds} {'yes' if run.converged else 'no'} {run.optima}"
 
 
 def answered(name: str, when_refused: str, call: Callable[[], Optional[str]]) -> str:
@@ -71,9 +71,9 @@ OPS: Dict[int, Callable[[Layout, int, int], str]] = {
     18: lambda l, a, b: answered("unlink", "", lambda: l.remove_edge(a, b)),
     19: lambda l, a, b: answered("move", "", lambda: l.move_after(a, b)),
     20: lambda l, a, b: answered("lay", " 0", lambda: f" {l.greedy_append(a)}"),
-    21: lambda l, a, b: answered("sift", " 0", lambda: f" {l.sift(a)}"),
-    22: lambda l, a, b: answered("round", " 0 0", lambda: numbers(list(l.sifting_round()))),
-    23: lambda l, a, b: answered("settle", " 0 0 no", lambda: converge(l, a)),
+    21: lambda l, a, b: answered("sift", " 0 0", lambda: numbers(list(l.sift(a)))),
+    22: lambda l, a, b: answered("round", " 0 0 0", lambda: numbers(list(l.sifting_round()))),
+    23: lambda l, a, b: answered("settle", " 0 0 no 0", lambda: converge(l, a)),
     24: lambda l, a, b: answered("count", " 0", lambda: f" {l.count()}"),
     25: order,
     26: lambda l, a, b: answered("pair", " refused", lambda: first_crossing(l)),

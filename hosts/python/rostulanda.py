@@ -33,6 +33,9 @@ WRITTEN_CHART_BYTES = 4106
 #: The least buffer that a listing needs.
 LISTING_BYTES = 1024
 
+#: The numbers of each answer of a list of calls: the refusal code, and four more.
+ANSWER_NUMBERS = 5
+
 #: The limit of sifting rounds where none is given.
 LIMIT = 50
 
@@ -124,16 +127,22 @@ class _Tally(ctypes.Structure):
     _fields_ = [("refusal", c_uint8), ("tally", c_uint32)]
 
 
-class _Reduction(ctypes.Structure):
-    _fields_ = [("refusal", c_uint8), ("reduction", c_uint32)]
+class _Sifted(ctypes.Structure):
+    _fields_ = [("refusal", c_uint8), ("reduction", c_uint32), ("optima", c_uint32)]
 
 
 class _Round(ctypes.Structure):
-    _fields_ = [("refusal", c_uint8), ("reduction", c_uint32), ("moved", c_uint32)]
+    _fields_ = [("refusal", c_uint8), ("reduction", c_uint32), ("moved", c_uint32), ("optima", c_uint32)]
 
 
 class _Convergence(ctypes.Structure):
-    _fields_ = [("refusal", c_uint8), ("reduction", c_uint32), ("rounds", c_uint32), ("converged", c_bool)]
+    _fields_ = [
+        ("refusal", c_uint8),
+        ("reduction", c_uint32),
+        ("rounds", c_uint32),
+        ("converged", c_bool),
+        ("optima", c_uint32),
+    ]
 
 
 class _Counted(ctypes.Structure):
@@ -161,7 +170,7 @@ _FUNCTIONS: Dict[str, Tuple[Any, List[Any]]] = {
     "rl_remove_edge": (c_uint8, [ctypes.POINTER(Fields), c_size_t, c_size_t]),
     "rl_move_after": (c_uint8, [ctypes.POINTER(Fields), c_size_t, c_size_t]),
     "rl_greedy_append": (_Tally, [ctypes.POINTER(Fields), c_size_t]),
-    "rl_sift": (_Reduction, [ctypes.POINTER(Fields), c_size_t]),
+    "rl_sift": (_Sifted, [ctypes.POINTER(Fields), c_size_t]),
     "rl_sifting_round": (_Round, [ctypes.POINTER(Fields)]),
     "rl_converge": (_Convergence, [ctypes.POINTER(Fields), c_uint32]),
     "rl_count": (_Counted, [ctypes.POINTER(Fields)]),
@@ -233,13 +242,25 @@ def _bytes(chart: bytes) -> bytes:
 # ---- what calls answer -------------------------------------------------------
 
 
+class Sifted(NamedTuple):
+    """What sifting a vertex did."""
+
+    #: The reduction (document 01: saving): crossings before less crossings after.
+    reduction: int
+    #: How many of the n − 1 candidate places have the least crossings, the present
+    #: one being a candidate; 0 below two vertices (document 02, Note 3).
+    optima: int
+
+
 class Round(NamedTuple):
     """What a sifting round did."""
 
-    #: The summed reduction (document 01: saving).
+    #: The summed reduction.
     reduction: int
     #: How many vertices moved.
     moved: int
+    #: The summed optima.
+    optima: int
 
 
 class Convergence(NamedTuple):
@@ -252,6 +273,8 @@ class Convergence(NamedTuple):
     #: Whether the last round moved no vertex (document 01: settled). The layout
     #: is then a local minimum: no move of one vertex lowers the crossings.
     converged: bool
+    #: The summed optima of all rounds, the last one included.
+    optima: int
 
 
 class Row(NamedTuple):
@@ -394,21 +417,21 @@ class Layout:
         _accept(answer.refusal)
         return answer.tally
 
-    def sift(self, u: int) -> int:
-        """Moves u to where the crossings are fewest, and gives the reduction (document 01: saving).
+    def sift(self, u: int) -> Sifted:
+        """Moves u to where the crossings are fewest.
 
         Of several places it is the first clockwise; where none has fewer than
         its own, u stays.
         """
         answer = _library.rl_sift(self.fields, _vertex(u))
         _accept(answer.refusal)
-        return answer.reduction
+        return Sifted(answer.reduction, answer.optima)
 
     def sifting_round(self) -> Round:
         """Sifts each vertex once, in rising number (document 01: round)."""
         answer = _library.rl_sifting_round(self.fields)
         _accept(answer.refusal)
-        return Round(answer.reduction, answer.moved)
+        return Round(answer.reduction, answer.moved, answer.optima)
 
     def converge(self, limit: int = LIMIT) -> Convergence:
         """Runs sifting rounds until one moves no vertex, or limit of them (document 01: settle).
@@ -417,7 +440,7 @@ class Layout:
         """
         answer = _library.rl_converge(self.fields, _number(limit, 2**32 - 1))
         _accept(answer.refusal)
-        return Convergence(answer.reduction, answer.rounds, answer.converged)
+        return Convergence(answer.reduction, answer.rounds, answer.converged, answer.optima)
 
     # calls that only read
 
@@ -585,9 +608,9 @@ class Answer(NamedTuple):
 
     #: The refusal code, 0 for an accepted call.
     refusal: int
-    #: Three numbers, in the sequence of the call's own answer, 0 where it has
+    #: Four numbers, in the sequence of the call's own answer, 0 where it has
     #: fewer; a bool counts as 0 or 1.
-    numbers: Tuple[int, int, int]
+    numbers: Tuple[int, int, int, int]
 
 
 class Played(NamedTuple):
@@ -610,10 +633,11 @@ def play(calls: Iterable[Sequence[Any]], chart: Optional[bytes] = None) -> Playe
         numbers += [CALLS[name], first, second]
     held = b"" if chart is None else _bytes(chart)
     listed = (c_uint64 * len(numbers))(*numbers)
-    table = (c_uint64 * (len(numbers) // 3 * 4))()
+    table = (c_uint64 * (len(numbers) // 3 * ANSWER_NUMBERS))()
     played = _library.rl_play(chart is not None, held, len(held), listed, len(listed), table, len(table))
     _accept(played.refusal)
     result = Layout()
     result.fields = played.layout
-    rows = (table[at : at + 4] for at in range(0, 4 * played.calls, 4))
-    return Played(result, [Answer(row[0], (row[1], row[2], row[3])) for row in rows])
+    starts = range(0, played.calls * ANSWER_NUMBERS, ANSWER_NUMBERS)
+    rows = (table[start : start + ANSWER_NUMBERS] for start in starts)
+    return Played(result, [Answer(refusal, (a, b, c, d)) for refusal, a, b, c, d in rows])

@@ -77,12 +77,35 @@ class LayoutTest(unittest.TestCase):
 
     def test_sifting(self):
         layout = Layout.from_chart(CHART)
-        self.assertEqual(layout.sift(0), 1)
+        self.assertEqual(layout.sift(0), rostulanda.Sifted(reduction=1, optima=2))
         self.assertEqual(layout.order(), [1, 0, 2, 3])
         self.assertIsNone(layout.first_crossing())
-        self.assertEqual(Layout.from_chart(CHART).sifting_round(), (1, 1))
-        self.assertEqual(Layout.from_chart(CHART).converge(1), (1, 1, False))
-        self.assertEqual(Layout.from_chart(CHART).converge(), (1, 2, True))
+        one_round = rostulanda.Round(reduction=1, moved=1, optima=8)
+        self.assertEqual(Layout.from_chart(CHART).sifting_round(), one_round)
+        run = rostulanda.Convergence(reduction=1, rounds=1, converged=False, optima=8)
+        self.assertEqual(Layout.from_chart(CHART).converge(1), run)
+        run = run._replace(rounds=2, converged=True, optima=16)
+        self.assertEqual(Layout.from_chart(CHART).converge(2), run)
+        self.assertEqual(Layout.from_chart(CHART).converge(), run)
+
+    def test_all_places_of_a_complete_graph_are_optima(self):
+        for n in range(1, 5):
+            layout = Layout.from_edges(itertools.combinations(range(n), 2), n=n)
+            self.assertEqual(layout.sift(0), (0, n - 1))
+            self.assertEqual(layout.sifting_round().optima, n * (n - 1))
+
+    def test_optima_of_random_graphs(self):
+        chance = random.Random(3)
+        for n in (2, 3, 7, 12):
+            edges = [pair for pair in itertools.combinations(range(n), 2) if chance.random() < 0.4]
+            order = chance.sample(range(n), n)
+            u, *others = chance.sample(range(n), n)
+            layout = Layout.from_edges(edges, n=n, order=order)
+            candidates = [layout.copy() for _ in others]
+            for candidate, v in zip(candidates, others):
+                candidate.move_after(u, v)
+            counts = [candidate.count() for candidate in candidates]
+            self.assertEqual(layout.sift(u).optima, counts.count(min(counts)))
 
     def test_greedy_append(self):
         layout = Layout.from_edges([(0, 1), (0, 2), (1, 3), (2, 3)])
@@ -159,6 +182,7 @@ class LayoutTest(unittest.TestCase):
             layout.row,
         ):
             self.refuses(Refusal.INVALID_LAYOUT, call)
+        self.refuses(Refusal.INVALID_LAYOUT, layout.sift, 0)
         self.refuses(Refusal.INVALID_LAYOUT, layout.write_chart, bytearray())
         self.assertEqual(layout, before)
 
@@ -280,7 +304,7 @@ class ChartAndListTest(unittest.TestCase):
             except Refused as refused:
                 value, code = None, refused.code
             numbers = value if isinstance(value, tuple) else (value or 0,)
-            self.assertEqual(answer, (code, (tuple(map(int, numbers)) + (0, 0))[:3]))
+            self.assertEqual(answer, (code, (tuple(map(int, numbers)) + (0, 0, 0))[:4]))
         self.assertEqual(played.layout, layout)
         self.assertEqual(len(played.answers), len(calls))
 
