@@ -1,9 +1,12 @@
 //! All calls on many layouts, valid and not, accepted and refused: every side's
-//! answer is compared, whole, with that of the second program.
+//! answer is compared, whole, with that of the second program. Only the optima are
+//! not among the baseline's answers.
 
 use std::fmt::{Debug, Display};
 
+use baseline::WithoutOptima;
 use layouts::{chart, fan, most_edges, Random};
+use rostulanda::ffi::ANSWER_NUMBERS;
 use second::calls::{self, Answer};
 use second::layout::Layout;
 
@@ -59,14 +62,16 @@ impl Comparison {
     }
 
     /// An answer of all three sides.
-    fn all<T: PartialEq + Debug>(
+    fn all<T: WithoutOptima>(
         &mut self,
         call: impl Display,
-        [proved, baseline, second]: [Answer<T>; 3],
+        proved: Answer<T>,
+        baseline: Answer<T::Rest>,
+        second: Answer<T>,
     ) -> Outcome {
         self.answers += 2;
         agree(&call, "proved", &proved, &second)?;
-        agree(&call, "baseline", &baseline, &second)
+        agree(&call, "baseline", &baseline, &second.without_optima())
     }
 
     /// An answer, and a lent buffer of so many elements, which held something else.
@@ -215,28 +220,28 @@ impl Comparison {
         let lent = &fields(&l);
         for _ in 0..4 {
             let u = self.vertex(&l);
-            let sides = [
+            self.all(
+                format!("sift {u}"),
                 proved::sift(lent, u).told(),
                 baseline::sift(l, u),
                 calls::sift(l, u),
-            ];
-            self.all(format!("sift {u}"), sides)?;
+            )?;
         }
-        let sides = [
+        self.all(
+            "round",
             proved::sifting_round(lent).told(),
             baseline::sifting_round(l),
             calls::sifting_round(l),
-        ];
-        self.all("round", sides)?;
+        )?;
         let limits = [0, 1001, u32::MAX, 2, 50, 1000];
         let few = if l.n <= SMALL { 6 } else { 4 };
         for &limit in &limits[..few] {
-            let sides = [
+            self.all(
+                format!("settle {limit}"),
                 proved::converge(lent, limit).told(),
                 baseline::converge(l, limit),
                 calls::converge(l, limit),
-            ];
-            self.all(format!("settle {limit}"), sides)?;
+            )?;
         }
         Ok(())
     }
@@ -253,15 +258,15 @@ impl Comparison {
         for seed in 1..=LISTS {
             let list = lists::mixed(seed, LENGTH);
             let numbers = list.as_flattened();
-            let all = 4 * LENGTH;
+            let all = ANSWER_NUMBERS * LENGTH;
             let chart = self.chart(SMALL as u8);
             let mut ended = numbers.to_vec();
             ended[3 * self.random.below(LENGTH)] = [0, 15, 24, u64::MAX][seed as usize % 4];
             self.list(None, numbers, all)?;
-            self.list(Some(&chart), numbers, all + 5)?;
+            self.list(Some(&chart), numbers, all + 7)?;
             self.list(Some(&chart), numbers, all - 1)?;
             self.list(Some(&chart), &numbers[..3 * LENGTH - 1], all - 1)?;
-            self.list(None, &numbers[..3 * LENGTH - 2], all - 4)?;
+            self.list(None, &numbers[..3 * LENGTH - 2], all - ANSWER_NUMBERS)?;
             self.list(None, &ended, all)?;
             self.list(Some(&chart[1..]), numbers, all)?;
             self.list(Some(&chart), &[], 0)?;

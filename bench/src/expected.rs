@@ -2,6 +2,7 @@
 //! over a layout, also one that was just written, a listing in a lent buffer, a
 //! list of calls.
 
+use rostulanda::ffi::ANSWER_NUMBERS;
 use second::calls::{self, Answer};
 use second::layout::Layout;
 use second::{chart, list};
@@ -16,9 +17,9 @@ pub struct Played {
     pub calls: usize,
 }
 
-/// What a call answers: the refusal number, and up to three numbers, the others
+/// What a call answers: the refusal number, and up to four numbers, the others
 /// 0. A bool is 1 or 0.
-type Row = [u64; 4];
+type Row = [u64; ANSWER_NUMBERS];
 
 /// The least buffer for a listing.
 pub const LISTING_BYTES: usize = 1024;
@@ -63,7 +64,7 @@ pub fn list_chart(bytes: &[u8], out: &mut [u8]) -> usize {
 }
 
 /// Plays the calls up to the first number that is none, from a chart or from the
-/// empty layout, and writes four numbers for each.
+/// empty layout, and writes a row of numbers for each.
 pub fn play(chart: Option<&[u8]>, numbers: &[u64], answers: &mut [u64]) -> Played {
     let start = chart.map_or(Ok(Layout::EMPTY), chart::read);
     let list = numbers.as_chunks().0;
@@ -75,14 +76,14 @@ pub fn play(chart: Option<&[u8]>, numbers: &[u64], answers: &mut [u64]) -> Playe
     };
     match start {
         Err(refusal) => refused(refusal, Layout::EMPTY),
-        Ok(layout) if answers.len() < 4 * length => refused(18, layout),
+        Ok(layout) if answers.len() < ANSWER_NUMBERS * length => refused(18, layout),
         Ok(layout) => play_all(layout, &list[..length], answers),
     }
 }
 
 fn play_all(mut layout: Layout, list: &[Call], answers: &mut [u64]) -> Played {
-    for (&call, answer) in list.iter().zip(answers.chunks_mut(4)) {
-        answer.copy_from_slice(&play_call(&mut layout, call));
+    for (&call, answer) in list.iter().zip(answers.as_chunks_mut().0) {
+        *answer = play_call(&mut layout, call);
     }
     Played {
         refusal: 0,
@@ -95,25 +96,27 @@ fn play_call(layout: &mut Layout, [op, a, b]: Call) -> Row {
     let l = *layout;
     let limit = u32::try_from(a).unwrap_or(u32::MAX);
     match op {
-        ADD => row(layout, calls::add_vertex(l), |v| [v, 0, 0]),
-        LINK => row(layout, calls::add_edge(l, a, b), |()| [0; 3]),
-        UNLINK => row(layout, calls::remove_edge(l, a, b), |()| [0; 3]),
-        MOVE => row(layout, calls::move_after(l, a, b), |()| [0; 3]),
-        LAY => row(layout, calls::greedy_append(l, a), |t| [t.into(), 0, 0]),
-        SIFT => row(layout, calls::sift(l, a), |r| [r.into(), 0, 0]),
+        ADD => row(layout, calls::add_vertex(l), |v| [v, 0, 0, 0]),
+        LINK => row(layout, calls::add_edge(l, a, b), |()| [0; 4]),
+        UNLINK => row(layout, calls::remove_edge(l, a, b), |()| [0; 4]),
+        MOVE => row(layout, calls::move_after(l, a, b), |()| [0; 4]),
+        LAY => row(layout, calls::greedy_append(l, a), |t| [t.into(), 0, 0, 0]),
+        SIFT => row(layout, calls::sift(l, a), |s| {
+            [s.reduction, s.optima, 0, 0].map(u64::from)
+        }),
         ROUND => row(layout, calls::sifting_round(l), |r| {
-            [r.reduction.into(), r.moved.into(), 0]
+            [r.reduction, r.moved, r.optima, 0].map(u64::from)
         }),
         SETTLE => row(layout, calls::converge(l, limit), |c| {
-            [c.reduction.into(), c.rounds.into(), c.converged.into()]
+            [c.reduction, c.rounds, c.converged.into(), c.optima].map(u64::from)
         }),
         _ => unreachable!("a list has calls only"),
     }
 }
 
 /// Takes over the answer's layout, and gives its row.
-fn row<T>(layout: &mut Layout, answer: Answer<T>, numbers: fn(T) -> [u64; 3]) -> Row {
+fn row<T>(layout: &mut Layout, answer: Answer<T>, numbers: fn(T) -> [u64; 4]) -> Row {
     *layout = answer.layout;
-    let [a, b, c] = numbers(answer.value);
-    [answer.refusal.into(), a, b, c]
+    let [a, b, c, d] = numbers(answer.value);
+    [answer.refusal.into(), a, b, c, d]
 }

@@ -2,7 +2,8 @@
 //! the same calls by value, within a list.
 
 use layouts::{chart, layout, pairs};
-use rostulanda::{ffi, Fields};
+use rostulanda::ffi::{self, ANSWER_NUMBERS};
+use rostulanda::Fields;
 use second::layout::Layout;
 
 use crate::agreement::{agree, Outcome};
@@ -52,9 +53,10 @@ fn compare(does: &mut dyn FnMut(&Row), name: &str, l: &Layout, calls: &[Call]) -
 
 /// Whether the calls answer as the second program does, in place and by value.
 fn answers_agree(name: &str, l: &Fields, chart: &[u8], calls: &[Call]) -> Outcome {
-    let mut table = vec![0; 4 * calls.len()];
+    let mut table = vec![0; ANSWER_NUMBERS * calls.len()];
     let second = expected::play(Some(chart), calls.as_flattened(), &mut table);
-    let refusals = table.chunks(4).map(|answer| answer[0] as u8).collect();
+    let answers = table.chunks(ANSWER_NUMBERS);
+    let refusals = answers.map(|answer| answer[0] as u8).collect();
     let left = (fields(&second.layout), refusals);
     agree(name, "in place", &in_place(l, calls), &left)?;
     let by_value = within_a_list(chart, calls).told();
@@ -75,7 +77,7 @@ fn in_place(l: &Fields, calls: &[Call]) -> (Fields, Vec<u8>) {
 
 /// Plays the calls as a list, from a chart. Each goes by value.
 fn within_a_list(chart: &[u8], calls: &[Call]) -> (ffi::Played, Vec<u64>) {
-    let mut table = vec![0; 4 * calls.len()];
+    let mut table = vec![0; ANSWER_NUMBERS * calls.len()];
     let played = proved::play(Some(chart), calls.as_flattened(), &mut table);
     (played, table)
 }

@@ -8,7 +8,7 @@ pub use rostulanda::ffi::{list_chart, play};
 use rostulanda::{ffi, Fields};
 use second::calls::{Answer, Crossing};
 use second::layout::Layout;
-use second::sifting::{Convergence, Round};
+use second::sifting::{Convergence, Round, Sift};
 
 use crate::expected::Played;
 
@@ -107,7 +107,7 @@ pub fn greedy_append(l: &Fields, start: u64) -> Left<ffi::Tally> {
     lend(l, |l| ffi::rl_greedy_append(l, start as usize))
 }
 
-pub fn sift(l: &Fields, u: u64) -> Left<ffi::Reduction> {
+pub fn sift(l: &Fields, u: u64) -> Left<ffi::Sifted> {
     lend(l, |l| ffi::rl_sift(l, u as usize))
 }
 
@@ -190,14 +190,6 @@ impl Report for ffi::Tally {
     }
 }
 
-impl Report for ffi::Reduction {
-    type Value = u32;
-
-    fn parts(self) -> (u8, u32) {
-        (self.refusal, self.reduction)
-    }
-}
-
 impl Report for ffi::Counted {
     type Value = u32;
 
@@ -214,6 +206,18 @@ impl Report for ffi::Written {
     }
 }
 
+impl Report for ffi::Sifted {
+    type Value = Sift;
+
+    fn parts(self) -> (u8, Sift) {
+        let sift = Sift {
+            reduction: self.reduction,
+            optima: self.optima,
+        };
+        (self.refusal, sift)
+    }
+}
+
 impl Report for ffi::Round {
     type Value = Round;
 
@@ -221,6 +225,7 @@ impl Report for ffi::Round {
         let round = Round {
             reduction: self.reduction,
             moved: self.moved,
+            optima: self.optima,
         };
         (self.refusal, round)
     }
@@ -234,6 +239,7 @@ impl Report for ffi::Convergence {
             reduction: self.reduction,
             rounds: self.rounds,
             converged: self.converged,
+            optima: self.optima,
         };
         (self.refusal, run)
     }

@@ -2,7 +2,9 @@
 
 use std::hint::black_box;
 
+use baseline::WithoutOptima;
 use layouts::{chart, fan, layout, pairs, with_isolated};
+use rostulanda::ffi::ANSWER_NUMBERS;
 use rostulanda::{PLACES, WRITTEN_CHART_BYTES};
 use second::calls;
 use second::layout::Layout;
@@ -70,16 +72,16 @@ impl Rows<'_> {
         Ok(())
     }
 
-    fn three<P: Told>(
+    fn three<P: Told<As: WithoutOptima>>(
         &mut self,
         name: &str,
         proved: impl Fn() -> P,
-        baseline: impl Fn() -> P::As,
+        baseline: impl Fn() -> <P::As as WithoutOptima>::Rest,
         second: impl Fn() -> P::As,
     ) -> Outcome {
         let expected = second();
         agree(name, "proved", &proved().told(), &expected)?;
-        agree(name, "baseline", &baseline(), &expected)?;
+        agree(name, "baseline", &baseline(), &expected.without_optima())?;
         let sides = vec![repeated(proved), repeated(baseline), repeated(second)];
         (self.does)(&Row { name, sides });
         Ok(())
@@ -258,7 +260,7 @@ fn into_buffer<const BYTES: usize, A>(write: impl Fn(&mut [u8]) -> A) -> (A, [u8
 
 /// With a table for the answers of the list.
 fn into_table<A>(play: impl Fn(&mut [u64]) -> A) -> (A, Vec<u64>) {
-    let mut table = vec![0; 4 * CALLS];
+    let mut table = vec![0; ANSWER_NUMBERS * CALLS];
     (play(&mut table), table)
 }
 

@@ -1,8 +1,8 @@
 //! A valid layout taken apart, and sifting in it.
 
 use second::layout::{Layout, PLACES};
-use second::sifting::{Convergence, Round};
 
+use crate::answers::{Convergence, Round};
 use crate::merge::{swap_change, List};
 use crate::words::{bits_below, move_bit, read_from, transposed, write_sorted};
 

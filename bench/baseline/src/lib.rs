@@ -7,6 +7,7 @@
 //! sorted, as ranks clockwise from the vertex that is sifted, and are merged
 //! without a branch on which list is ahead (`merge`).
 
+mod answers;
 mod checks;
 mod circle;
 mod merge;
@@ -14,8 +15,8 @@ mod words;
 
 use second::calls::Answer;
 use second::layout::Layout;
-use second::sifting::{Convergence, Round};
 
+pub use answers::{Convergence, Round, WithoutOptima};
 use circle::Circle;
 
 /// Sift. Answers the reduction (document 01: saving).

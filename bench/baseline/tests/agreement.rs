@@ -1,5 +1,6 @@
-//! The baseline answers as the second program does.
+//! The baseline answers as the second program does, but for the optima.
 
+use baseline::WithoutOptima;
 use layouts::{most_edges, Random};
 use second::calls;
 use second::layout::Layout;
@@ -15,11 +16,26 @@ fn layouts() -> impl Iterator<Item = Layout> {
     })
 }
 
+fn sift_agrees(layout: Layout, u: u64) {
+    let second = calls::sift(layout, u).without_optima();
+    assert_eq!(baseline::sift(layout, u), second);
+}
+
+fn round_agrees(layout: Layout) {
+    let second = calls::sifting_round(layout).without_optima();
+    assert_eq!(baseline::sifting_round(layout), second);
+}
+
+fn run_agrees(layout: Layout, limit: u32) {
+    let second = calls::converge(layout, limit).without_optima();
+    assert_eq!(baseline::converge(layout, limit), second);
+}
+
 #[test]
 fn sifting_any_vertex() {
     for (i, layout) in layouts().enumerate() {
         for u in (0..layout.n).skip(i % 5).step_by(5) {
-            assert_eq!(baseline::sift(layout, u), calls::sift(layout, u));
+            sift_agrees(layout, u);
         }
     }
 }
@@ -27,8 +43,7 @@ fn sifting_any_vertex() {
 #[test]
 fn rounds() {
     for layout in layouts() {
-        let round = baseline::sifting_round(layout);
-        assert_eq!(round, calls::sifting_round(layout));
+        round_agrees(layout);
     }
 }
 
@@ -36,8 +51,7 @@ fn rounds() {
 fn converging() {
     for (i, layout) in layouts().enumerate().filter(|(i, _)| i % 4 == 0) {
         let limit = [1, 2, 50, 1000][i / 4 % 4];
-        let run = baseline::converge(layout, limit);
-        assert_eq!(run, calls::converge(layout, limit));
+        run_agrees(layout, limit);
     }
 }
 
@@ -45,11 +59,10 @@ fn converging() {
 fn refused_arguments() {
     for layout in layouts() {
         for u in [layout.n, 64, u64::MAX] {
-            assert_eq!(baseline::sift(layout, u), calls::sift(layout, u));
+            sift_agrees(layout, u);
         }
         for limit in [0, 1001, u32::MAX] {
-            let run = baseline::converge(layout, limit);
-            assert_eq!(run, calls::converge(layout, limit));
+            run_agrees(layout, limit);
         }
     }
 }
@@ -65,8 +78,7 @@ fn layouts_that_are_not_valid() {
         changed[2].adjacency[random.below(64)] ^= 1 << random.below(64);
         changed[3].flip_edge(random.below(64), random.below(64));
         for layout in changed {
-            let round = baseline::sifting_round(layout);
-            assert_eq!(round, calls::sifting_round(layout));
+            round_agrees(layout);
         }
     }
 }
