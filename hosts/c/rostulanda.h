@@ -334,8 +334,8 @@ enum rl_call {
  * looked at. An answer is RL_ANSWER_NUMBERS numbers: the refusal code and up to
  * four more, in the sequence of the call's own answer, a bool as 1 or 0, and 0
  * where it has fewer. Refused: 1 to 8 for the chart (the layout is then empty),
- * and 18 for fewer numbers than that to write for each call (the layout is then
- * the one at the start). Answers behind the last call keep what they hold.
+ * and 18 for less room than the answers of all calls take (the layout is then the
+ * one at the start). Answers behind the last call keep what they hold.
  */
 rl_played rl_play(bool from_chart, const uint8_t *chart, size_t chart_length,
                   const uint64_t *calls, size_t calls_length,

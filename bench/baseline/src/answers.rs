@@ -1,5 +1,5 @@
-//! What the calls answer: what the second program does, but for the optima, the
-//! places that have the least crossings. Those are not counted here.
+//! What the calls answer: what the second program does, but for the optima
+//! (document 02, Note 3), which are not counted here.
 
 use std::fmt::Debug;
 
