@@ -149,6 +149,9 @@ pub struct Outcome {
     pub fourth: u64,
 }
 
+// How many numbers an answer takes in the table of a list of calls: its refusal code, and those of its outcome.
+pub const ANSWER_WIDTH: usize = 5;
+
 // A call read from three numbers, or the end of the list.
 pub enum Decoded {
     Next(Call),

@@ -11,6 +11,7 @@ ghost use Rattle.history.specs.Demand3.{Demand3};
 use encoding::call_at;
 use encoding::count_calls;
 use encoding::put_answer;
+use model::ANSWER_WIDTH;
 use model::ChartRead;
 use model::Decoded;
 use model::Layout;
@@ -37,7 +38,7 @@ pub fn play(origin: Origin, chart: &[u8], calls: &[u64], answers: &mut [u64]) ->
         };
     }
     let count = count_calls(calls);
-    if answers.len() / 5 < count {
+    if answers.len() / ANSWER_WIDTH < count {
         return Played {
             refusal: 18,
             layout,
@@ -88,6 +89,6 @@ fn play_next(l: Layout, calls: &[u64], i: usize, answers: &mut [u64]) -> Layout
         return l;
     };
     let answer = step(l, c);
-    put_answer(answer, answers, 5 * i);
+    put_answer(answer, answers, ANSWER_WIDTH * i);
     answer.layout
 }
