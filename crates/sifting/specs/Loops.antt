@@ -22,7 +22,7 @@ use Rattle.laws.specs.Crossings.Bound.{mostCrossings}
 use Rattle.laws.specs.Layouts.Validity.{sound, crossings-bound}
 use Rattle.laws.specs.Sifting.Candidates.{sift-least, sifted-crossings, sifted-improved, sifted-still, sifted-less}
 use Rattle.laws.specs.Sifting.Rounds.{sifts-reduced, round-reduced, rounds-refusal}
-use Rattle.laws.specs.Sifting.Optima.{sifts-few, round-few}
+use Rattle.laws.specs.Sifting.Optima.{mostOptima, sifts-few, round-few}
 
 -- ---- one sift
 
@@ -46,11 +46,6 @@ module _ (l : Layout) (t : T (valid l)) (u : ℕ) (h : u < l .n) where
     unfolding reduction
     sifted-saves = (omega (arith, sifted-improved l t u h .no-more, sifted-fewest), ap₂ _-_ b (sym sifted-fewest))
 
-  -- the whole answer
-  pub sift-answered : {m : Layout} {x k : ℕ} → m ≡ sifted l u → x ≡ reduction l (sifted l u) → k ≡ optimaOf l u
-      → record { refusal = 0; layout = m; reduction = x; optima = k } ≡ siftAnswer l u
-  sift-answered a b c = rw (a, b, c)
-
   -- a vertex moves exactly where its sift takes crossings away
   pub moves-saving : cond (eqb (reduction l (sifted l u)) 0) 0 1 ≡ one (moves l u)
   unfolding reduction one
@@ -59,6 +54,11 @@ module _ (l : Layout) (t : T (valid l)) (u : ℕ) (h : u < l .n) where
       by-test : (b : Bool) → moves l u ≡ b → cond (eqb (crossingsOf l - crossingsOf (sifted l u)) 0) 0 1 ≡ one b
       by-test true m = rw (ne-eqb (crossingsOf l - crossingsOf (sifted l u)) 0 (λ e. omega (arith, sifted-less l t u h m)))
       by-test false m = rw (eq-eqb (crossingsOf l - crossingsOf (sifted l u)) 0 (omega (arith, sifted-still l t u h m)))
+
+-- the whole answer
+pub sift-answered : (l : Layout) (u : ℕ) {m : Layout} {x k : ℕ} → m ≡ sifted l u → x ≡ reduction l (sifted l u) → k ≡ optimaOf l u
+    → record { refusal = 0; layout = m; reduction = x; optima = k } ≡ siftAnswer l u
+sift-answered l u a b c = rw (a, b, c)
 
 -- ---- a round
 
@@ -97,7 +97,7 @@ pub record Ready (l : Layout) (s : Rounded) : Type 0 where
   pub same-n : s .layout .n ≡ l .n
   pub exact : crossingsOf (s .layout) + s .reduction ≡ crossingsOf l
   pub fewer : s .moved ≤ s .reduction
-  pub few : s .optima ≤ 4032
+  pub few : s .optima ≤ mostOptima
 
 pub ready : {l : Layout} {s : Rounded} {u : ℕ} → T (valid l) → RoundUpTo l s u → Ready l s
 ready {l} {s} {u} t r =
@@ -151,7 +151,7 @@ pub record SettlingUpTo (l : Layout) (limit : ℕ) (m : Layout) (saved run told 
   pub inside : run ≤ limit
   pub is-valid : T (valid m)
   pub exact : crossingsOf m + saved ≡ crossingsOf l
-  pub few : told ≤ 4032 * run
+  pub few : told ≤ mostOptima * run
   pub whole : roundsUpTo limit l ≡ afterRounds saved run told (roundsUpTo (limit - run) m)
 
 pub settling-start : (l : Layout) (limit : ℕ) → T (valid l) → SettlingUpTo l limit l 0 0 0
@@ -230,7 +230,7 @@ module _ {l : Layout} {limit : ℕ} {m : Layout} {saved run told : ℕ} (s : Set
       (s .whole ∙ ap (λ (k : ℕ). afterRounds saved run told (roundsUpTo k m)) (sub-eq-zero-of-le h) ∙ none-after saved run told m false)
 
   -- the numbers stay small
-  pub settling-bounds : {r : Rounded} → T (valid l) → r ≡ siftRound m → (saved + r .reduction ≤ mostCrossings) × (told + r .optima ≤ 4032 * (run + 1))
+  pub settling-bounds : {r : Rounded} → T (valid l) → r ≡ siftRound m → (saved + r .reduction ≤ mostCrossings) × (told + r .optima ≤ mostOptima * (run + 1))
   settling-bounds {r} t e = (
     omega (arith, crossings-bound l t, s .exact, round-reduced m (s .is-valid) .exact, ap (λ (x : Rounded). x .reduction) e),
     omega (arith, s .few, round-few m (s .is-valid), ap (λ (x : Rounded). x .optima) e),

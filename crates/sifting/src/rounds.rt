@@ -4,6 +4,7 @@ ghost use Prim.Native.Nat.{_+_, _<_, _≤_};
 ghost use mathlib.Core.Bool.{cond};
 ghost use lib.Dec.{T, eqb};
 ghost use Rattle.laws.specs.Crossings.Bound.{mostCrossings};
+ghost use Rattle.laws.specs.Sifting.Optima.{mostOptima};
 ghost use Rattle.model.specs.Layouts.{valid, crossingsOf};
 ghost use Rattle.model.specs.Sifting.{siftRound, roundOf};
 ghost use Rattle.sifting.specs.Loops.{siftNext};
@@ -51,7 +52,7 @@ pub(crate) fn sift_all(l: Layout) -> Rounded
 // One more vertex sifted.
 fn sift_next(s: Rounded, u: usize) -> Rounded
     requires { ⌜ T (valid (s .layout)) × (u < s .layout .n) × (crossingsOf (s .layout) + s .reduction ≤ mostCrossings) × (s .moved ≤ s .reduction)
-        × (s .optima ≤ 4032) ⌝ }
+        × (s .optima ≤ mostOptima) ⌝ }
     ensures { λ r. ⌜ r ≡ siftNext s u ⌝ }
 {
     let before = s.layout;

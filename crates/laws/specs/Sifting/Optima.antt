@@ -131,6 +131,10 @@ module _ (l : Layout) (t : T (valid l)) (u : ℕ) (h : u < l .n) where
 
 -- ---- the sums of a round and of a settling
 
+-- the most of a round: 63 places for each of 64 vertices
+abbrev pub mostOptima : ℕ
+mostOptima = 4032
+
 -- at most 63 for each sift
 pub sift-few : {x : Sift Layout} → ProperSift x → x .optima ≤ 63
 sift-few {x} p = omega (arith, optima-below p, sound (x .before) (p .valid-before) .small)
@@ -146,11 +150,11 @@ module _ (us : List ℕ) (l : Layout) (t : T (valid l)) (below : All (λ u. u < 
         ap length (sifts-vertices us l),
       ))
 
-pub round-few : (l : Layout) → T (valid l) → siftRound l .optima ≤ 4032
+pub round-few : (l : Layout) → T (valid l) → siftRound l .optima ≤ mostOptima
 unfolding siftRound
 round-few l t = omega (arith, sifts-few (upto (l .n)) l t (all-upto (l .n)), length-upto (l .n), sound l t .small)
 
-pub rounds-few : (limit : ℕ) (l : Layout) → T (valid l) → roundsUpTo limit l .optima ≤ 4032 * limit
+pub rounds-few : (limit : ℕ) (l : Layout) → T (valid l) → roundsUpTo limit l .optima ≤ mostOptima * limit
 unfolding roundsUpTo afterRound stopped
 rounds-few zero l t = zero-le
 rounds-few (suc limit) l t =
@@ -159,7 +163,7 @@ rounds-few (suc limit) l t =
     later : Bool → Converged
     later b = elim b [ true ↦ stopped (siftRound l .layout) true | false ↦ roundsUpTo limit (siftRound l .layout) ]
 
-    by-test : (b : Bool) → siftRound l .optima ≤ 4032 → roundsUpTo limit (siftRound l .layout) .optima ≤ 4032 * limit
-        → siftRound l .optima + later b .optima ≤ 4032 * suc limit
+    by-test : (b : Bool) → siftRound l .optima ≤ mostOptima → roundsUpTo limit (siftRound l .layout) .optima ≤ mostOptima * limit
+        → siftRound l .optima + later b .optima ≤ mostOptima * suc limit
     by-test true first rest = omega arith
     by-test false first rest = omega arith

@@ -46,7 +46,7 @@ returns c =
     let s = start walked .args in
     let ready = start walked .pre in
     let best = found walked in
-    sift-answered (s .l) (ready .0) (s .u) (ready .1)
+    sift-answered (s .l) (s .u)
     (sifted-carried (s .l) (ready .0) (s .u) (ready .1) (best .before) (best .after) (best .order) (c .before .carried .ensures))
     (saves walked .1)
     (best .optima-are)
