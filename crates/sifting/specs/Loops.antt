@@ -22,7 +22,7 @@ use Rattle.laws.specs.Crossings.Bound.{mostCrossings}
 use Rattle.laws.specs.Layouts.Validity.{sound, crossings-bound}
 use Rattle.laws.specs.Sifting.Candidates.{sift-least, sifted-crossings, sifted-improved, sifted-still, sifted-less}
 use Rattle.laws.specs.Sifting.Rounds.{sifts-reduced, round-reduced, rounds-refusal}
-use Rattle.laws.specs.Sifting.Optima.{mostOptima, sifts-few, round-few}
+use Rattle.laws.specs.Sifting.Optima.{mostOptima, sifts-few, rounds-few}
 
 -- ---- one sift
 
@@ -151,7 +151,6 @@ pub record SettlingUpTo (l : Layout) (limit : ℕ) (m : Layout) (saved run told 
   pub inside : run ≤ limit
   pub is-valid : T (valid m)
   pub exact : crossingsOf m + saved ≡ crossingsOf l
-  pub few : told ≤ mostOptima * run
   pub whole : roundsUpTo limit l ≡ afterRounds saved run told (roundsUpTo (limit - run) m)
 
 pub settling-start : (l : Layout) (limit : ℕ) → T (valid l) → SettlingUpTo l limit l 0 0 0
@@ -161,7 +160,6 @@ settling-start l limit t =
       inside = omega arith;
       is-valid = t;
       exact = add-zero (crossingsOf l);
-      few = omega arith;
       whole = sym (ap (λ (k : ℕ). afterRounds 0 0 0 (roundsUpTo k l)) (sub-zero limit) ∙ nothing-yet (roundsUpTo limit l) (rounds-refusal limit l));
     }
   where
@@ -184,6 +182,11 @@ after-more saved run told first rest =
     let one-more : run + suc (rest .rounds) ≡ run + 1 + rest .rounds = omega arith in
     rw (add-assoc saved (first .reduction) (rest .reduction), add-assoc told (first .optima) (rest .optima), one-more)
 
+-- what is told of the rounds still to come is no less than what the next one tells
+next-told : (k : ℕ) (m : Layout) → siftRound m .optima ≤ roundsUpTo (suc k) m .optima
+unfolding roundsUpTo afterRound
+next-told k m = omega arith
+
 none-after : (saved run told : ℕ) (m : Layout) (b : Bool)
     → afterRounds saved run told (stopped m b) ≡ record { refusal = 0; layout = m; reduction = saved; rounds = run; converged = b; optima = told }
 unfolding afterRounds stopped
@@ -202,7 +205,6 @@ module _ {l : Layout} {limit : ℕ} {m : Layout} {saved run told : ℕ} (s : Set
         inside = omega arith;
         is-valid = p .improved .valid-after;
         exact = omega (arith, p .exact, s .exact);
-        few = omega (arith, s .few, round-few m (s .is-valid));
         whole =
             s .whole
             ∙ ap (λ (k : ℕ). afterRounds saved run told (roundsUpTo k m)) (one-more-left h)
@@ -229,9 +231,18 @@ module _ {l : Layout} {limit : ℕ} {m : Layout} {saved run told : ℕ} (s : Set
       sym
       (s .whole ∙ ap (λ (k : ℕ). afterRounds saved run told (roundsUpTo k m)) (sub-eq-zero-of-le h) ∙ none-after saved run told m false)
 
-  -- the numbers stay small
-  pub settling-bounds : {r : Rounded} → T (valid l) → r ≡ siftRound m → (saved + r .reduction ≤ mostCrossings) × (told + r .optima ≤ mostOptima * (run + 1))
-  settling-bounds {r} t e = (
+  -- the numbers stay small: they are part of those of the whole settling
+  pub settling-bounds : {r : Rounded} → T (valid l) → run < limit → r ≡ siftRound m
+      → (saved + r .reduction ≤ mostCrossings) × (told + r .optima ≤ mostOptima * limit)
+  unfolding afterRounds
+  settling-bounds {r} t h e = (
     omega (arith, crossings-bound l t, s .exact, round-reduced m (s .is-valid) .exact, ap (λ (x : Rounded). x .reduction) e),
-    omega (arith, s .few, round-few m (s .is-valid), ap (λ (x : Rounded). x .optima) e),
+    omega (
+      arith,
+      rounds-few limit l t,
+      ap (λ (x : Converged). x .optima) (s .whole),
+      ap (λ (k : ℕ). roundsUpTo k m .optima) (one-more-left h),
+      next-told (limit - (run + 1)) m,
+      ap (λ (x : Rounded). x .optima) e,
+    ),
   )
