@@ -7,7 +7,7 @@ use lib.ListN.{length}
 use lib.Dec.{T, eqb, leb, lit<}
 use borrow.Author.Tests.{leb-true, eqb-true}
 use Rattle.model.specs.declared.Edge.{Edge}
-use Rattle.model.specs.declared.ChartRead.{ChartRead}
+use Rattle.model.specs.declared.LayoutRead.{LayoutRead}
 use Rattle.model.specs.declared.Layout.{Layout}
 use Rattle.model.specs.Lists.{one, upto, every, any, keep, sumPairs}
 use Rattle.model.specs.Crossings.{edges, crossings}
@@ -16,36 +16,34 @@ use Rattle.model.specs.Checks.{refusal}
 use Rattle.model.specs.Charts.{bodyOf, chartSize, chartEdges, chartOrder, sameEdge, joins, chartChecks, sizeChecks, endChecks, repeatChecks, placeChecks}
 use Rattle.model.specs.Charts.{chartLayout, readOf}
 use Rattle.laws.specs.Sums.Lists.{All, none, also}
-use Rattle.laws.specs.Layouts.Sizes.{Sized, empty-sized}
-use Rattle.laws.specs.Layouts.Refusals.{checked-either, Numbered, all-pass, when-accepted, when-refused, checked-number}
+use Rattle.laws.specs.Layouts.Sizes.{Sized}
+use Rattle.laws.specs.Layouts.Refusals.{Numbered, all-pass}
 use Rattle.laws.specs.Sums.Indicators.{both-left, both-right, eqb-swap}
 use Rattle.pairs.specs.Edges.{edge}
-use Rattle.chart.specs.Padded.{padded-length}
 use Rattle.bodies.specs.Words.{adjacencyOf, adjacency-length, adjacency-bit, adjacency-lt, adjacency-ext}
-use Rattle.chart.specs.Reading.{layoutFrom, Accepted, valid-read, count-true, refusedRead}
+use Rattle.readers.specs.Padded.{padded-length}
+use Rattle.readers.specs.Layouts.{Accepted, valid-read, count-true}
+use Rattle.readers.specs.Passes.{acceptedRead, refusedRead, read-as-number, read-as-accepted, read-as-refused, read-as-sized}
 
 -- ---- an accepted chart
 
-abbrev pub readAnswer : List ℕ → ChartRead
-readAnswer s = record { refusal = 0; layout = chartLayout s }
-
 pub read-number : (s : List ℕ) → readOf s .refusal ≡ refusal (chartChecks s)
-unfolding readOf refusedRead
-read-number s = checked-number (chartChecks s) (readAnswer s) refusedRead (λ (r : ChartRead). r .refusal) refl (λ r. refl)
+unfolding readOf
+read-number s = read-as-number (chartChecks s) (chartLayout s)
 
-pub read-is : (s : List ℕ) → readOf s .refusal ≡ 0 → readOf s ≡ readAnswer s
-unfolding readOf refusedRead
-read-is s e = when-accepted (chartChecks s) (readAnswer s) refusedRead (sym (read-number s) ∙ e)
+pub read-is : (s : List ℕ) → readOf s .refusal ≡ 0 → readOf s ≡ acceptedRead (chartLayout s)
+unfolding readOf
+read-is s e = read-as-accepted (chartChecks s) (chartLayout s) e
 
 numbered : (s : List ℕ) → Numbered (chartChecks s)
 unfolding chartChecks sizeChecks endChecks repeatChecks placeChecks
 numbered s = also (lit< tt) (also (lit< tt) (also (lit< tt) (also (lit< tt) (also (lit< tt) (also (lit< tt) (also (lit< tt) (also (lit< tt) none)))))))
 
-pub accepted : (s : List ℕ) → readOf s .refusal ≡ 0 → Accepted (chartSize s) (bodyOf s 1) (bodyOf s 2)
+pub accepted : (s : List ℕ) → readOf s .refusal ≡ 0 → Accepted (chartSize s) (chartEdges s) (chartOrder s)
 unfolding chartChecks sizeChecks endChecks repeatChecks placeChecks chartEdges chartOrder chartSize
 accepted s e = from (all-pass (numbered s) (sym (read-number s) ∙ e))
   where
-    from : All (λ c. c .passes ≡ true) (chartChecks s) → Accepted (chartSize s) (bodyOf s 1) (bodyOf s 2)
+    from : All (λ c. c .passes ≡ true) (chartChecks s) → Accepted (chartSize s) (chartEdges s) (chartOrder s)
     from (also _ (also _ (also _ (also size (also _ (also ends (also _ (also places none)))))))) =
         record {
           few = leb-true (chartSize s) 64 (both-right (eqb (length (bodyOf s 0)) 1) (leb (chartSize s) 64) size);
@@ -55,14 +53,11 @@ accepted s e = from (all-pass (numbered s) (sym (read-number s) ∙ e))
           each = both-right (eqb (length (bodyOf s 2)) (chartSize s)) (eachOnce (chartSize s) (bodyOf s 2)) places;
         }
 
-layout-is : (s : List ℕ) → chartLayout s ≡ layoutFrom (chartSize s) (bodyOf s 1) (bodyOf s 2)
-unfolding chartLayout layoutFrom chartEdges chartOrder
-layout-is s = refl
-
 -- "a ring read from a chart its true crossings"
 pub read-valid : (s : List ℕ) → readOf s .refusal ≡ 0 → T (valid (readOf s .layout)) × (readOf s .layout .count ≡ crossingsOf (readOf s .layout))
+unfolding chartLayout
 read-valid s e =
-    subst (λ (l : Layout). T (valid l) × (l .count ≡ crossingsOf l)) (sym (ap (λ (r : ChartRead). r .layout) (read-is s e) ∙ layout-is s))
+    subst (λ (l : Layout). T (valid l) × (l .count ≡ crossingsOf l)) (sym (ap (λ (r : LayoutRead). r .layout) (read-is s e)))
     (valid-read (accepted s e), count-true (accepted s e))
 
 -- ---- a refused chart gives the empty layout, which is valid with its true crossings too
@@ -76,19 +71,18 @@ unfolding emptyLayout crossingsOf vertexOrder crossings edges sumPairs upto flat
 empty-count = refl
 
 pub read-refused : (s : List ℕ) → (readOf s .refusal ≡ 0 → ⊥) → readOf s ≡ refusedRead (readOf s .refusal)
-unfolding readOf refusedRead
-read-refused s d = when-refused (chartChecks s) (readAnswer s) refusedRead (read-number s) d
+unfolding readOf
+read-refused s d = read-as-refused (chartChecks s) (chartLayout s) d
 
 -- the arrays of a layout that is read have their places
 pub read-sized : (s : List ℕ) → Sized (readOf s .layout)
-unfolding readOf chartLayout refusedRead
+unfolding readOf chartLayout
 read-sized s =
-    checked-either (chartChecks s) (readAnswer s) refusedRead (λ (r : ChartRead). Sized (r .layout))
-    (λ e. record { places = padded-length (chartOrder s); words = adjacency-length (chartEdges s) }) (λ k. empty-sized)
+    read-as-sized (chartChecks s) (chartLayout s) (record { places = padded-length (chartOrder s); words = adjacency-length (chartEdges s) })
 
 -- ---- the same edges, in another sequence or with ends exchanged
 
-sameEdge-swap : (e f : Edge) → sameEdge e f ≡ sameEdge f e
+pub sameEdge-swap : (e f : Edge) → sameEdge e f ≡ sameEdge f e
 unfolding sameEdge
 sameEdge-swap e f = ap₂ (λ (x y : Bool). x && y) (eqb-swap (e .low) (f .low)) (eqb-swap (e .high) (f .high))
 

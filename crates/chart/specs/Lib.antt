@@ -1,5 +1,4 @@
 -- The passes of the reader, and what an accepted chart gives: Laws has what others cite, Sequence that links may be written in any sequence.
-pub mod Padded
 pub mod Reading
 pub mod Laws
 pub mod Sequence

@@ -1,218 +1,47 @@
 -- Reading a chart: the passes together, and what an accepted chart gives.
-use Prim.Native.Nat.{ℕ, zero, suc, _≤_, _<_}
-use native.Mathlib.Nat.{le-of-eq, lt-of-lt-of-le, not-suc-le-zero}
-use native.Mathlib.Omega.{arith}
+use Prim.Native.Nat.{ℕ, _≤_}
 use mathlib.Core.Path.{_≡_, refl, sym, ap, _∙_}
-use mathlib.Core.Bool.{Bool, true, false, cond, true≢false, false≢true}
+use mathlib.Core.Bool.{true}
 use mathlib.Core.List.{List, [], _∷_, _++_}
-use lib.ListN.{length, getD, take, drop, replicate, List·getD-eq-default}
-use lib.Seq.{ext-getD, getD-take, length-take-le}
-use lib.Dec.{T, eqb, leb, lit<}
-use lib.Arith.{lt-one}
+use lib.ListN.{length, getD, take, drop, replicate}
+use lib.Dec.{eqb, leb, lit<}
 use borrow.Author.Tests.{leb-true, eqb-true}
-use Rattle.model.specs.declared.ChartRead.{ChartRead}
+use Rattle.model.specs.declared.LayoutRead.{LayoutRead}
 use Rattle.model.specs.declared.Asked.{Asked}
 use Rattle.model.specs.declared.Asked.the-variants as asks
 use Rattle.model.specs.declared.BodiesFound.{BodiesFound}
 use Rattle.model.specs.declared.BodiesFound.the-variants as bodies
 use Rattle.model.specs.declared.SizeFound.{SizeFound}
 use Rattle.model.specs.declared.SizeFound.the-variants as size
-use Rattle.model.specs.declared.Layout.{Layout}
-use Rattle.model.specs.Lists.{one, every, any}
-use Rattle.model.specs.Crossings.{linked, crossings}
-use Rattle.model.specs.Layouts.{emptyLayout, vertexOrder, crossingsOf, eachOnce, valid}
+use Rattle.model.specs.Lists.{every}
+use Rattle.model.specs.Layouts.{eachOnce}
 use Rattle.model.specs.Checks.{Check, refusal, byRefusal, checked}
-use Rattle.model.specs.Charts.{bodyOf, chartSize, chartEdges, chartOrder, edgesIn, edgeWithin, joins, chartChecks, chartLayout, readOf}
-use Rattle.model.specs.Charts.{Answer, accept, refuse, asked, bodiesFound, sizeFound, answer, divisionAnswer, bodiesAnswer, sizeChecks, sizeAnswer}
+use Rattle.model.specs.Charts.{bodyOf, chartSize, chartEdges, chartOrder, edgesIn, edgeWithin, chartChecks, layoutWith, chartLayout, readOf}
+use Rattle.model.specs.Charts.{accept, refuse, asked, bodiesFound, sizeFound, answer, divisionAnswer, bodiesAnswer, sizeChecks, sizeAnswer}
 use Rattle.model.specs.Charts.{endChecks, repeatChecks, placeChecks}
-use Rattle.laws.specs.Sums.Lists.{All, none, also}
-use Rattle.laws.specs.Orders.Permutations.{Permutation}
-use Rattle.laws.specs.Sums.Pairs.{Symmetric}
-use Rattle.laws.specs.Crossings.Edges.{weight}
-use Rattle.laws.specs.Crossings.Masks.{countOn}
-use Rattle.laws.specs.Layouts.Validity.{each-once, sound-valid}
+use Rattle.laws.specs.Sums.Lists.{none, also}
 use Rattle.laws.specs.Sums.Indicators.{both-left, both-right}
-use Rattle.laws.specs.Layouts.Recount.{counted, counted-crossings}
 use Rattle.laws.specs.Layouts.Refusals.{Numbered, all-pass}
-use Rattle.pairs.specs.Edges.{Ends, within-mono, joins-none, joins-swap}
-use Rattle.bodies.specs.Words.{wordOf-below, adjacencyOf, adjacency-at, adjacency-linked, wrapped, wrapped-checks, wordsOver, words-once}
+use Rattle.pairs.specs.Edges.{within-mono}
+use Rattle.bodies.specs.Words.{adjacencyOf, wrapped, wrapped-checks, wordsOver, words-once}
 use Rattle.bodies.specs.Order.{orderQuestion, question-eight}
-use Rattle.chart.specs.Padded.{padded, padded-length, padded-at, padded-copy}
-
--- ---- questions, one group after the other
-
-pub checked-append : {A : Type 0} {xs : List Check} → Numbered xs → (ys : List Check) (a : A) (f : ℕ → A)
-    → checked (xs ++ ys) a f ≡ byRefusal (refusal xs) (checked ys a f) f
-unfolding checked refusal byRefusal
-checked-append none ys a f = refl
-checked-append {A} (also {x} {xs} p ps) ys a f = by-test (x .passes) (checked-append ps ys a f)
-  where
-    same-number : (k : ℕ) → 0 < k → (y : A) → byRefusal k a f ≡ byRefusal k y f
-    same-number zero l y = absurd (not-suc-le-zero l)
-    same-number (suc k) l y = refl
-
-    by-test : (b : Bool) → checked (xs ++ ys) a f ≡ byRefusal (refusal xs) (checked ys a f) f
-        → byRefusal (cond b (refusal (xs ++ ys)) (x .code)) a f ≡ byRefusal (cond b (refusal xs) (x .code)) (checked ys a f) f
-    by-test true e = e
-    by-test false e = same-number (x .code) p (checked ys a f)
-
--- what an answer says of the questions of its pass
-module _ (cs : List Check) (values : List ℕ) {a : Answer} where
-  answer-accepted : a ≡ answer cs values → a .accepted ≡ true → (refusal cs ≡ 0) × (a .values ≡ values)
-  unfolding answer checked byRefusal accept refuse
-  answer-accepted e t = by-number (refusal cs) e
-    where
-      by-number : (k : ℕ) → a ≡ byRefusal k (accept values) refuse → (k ≡ 0) × (a .values ≡ values)
-      by-number zero z = (refl, ap (λ (x : Answer). x .values) z)
-      by-number (suc k) z = absurd (false≢true (sym (ap (λ (x : Answer). x .accepted) z) ∙ t))
-
-  answer-refused : {A : Type 0} → a ≡ answer cs values → a .accepted ≡ false → (x : A) (f : ℕ → A) → byRefusal (refusal cs) x f ≡ f (a .code)
-  unfolding answer checked byRefusal accept refuse
-  answer-refused {A} e t x f = by-number (refusal cs) e
-    where
-      by-number : (k : ℕ) → a ≡ byRefusal k (accept values) refuse → byRefusal k x f ≡ f (a .code)
-      by-number zero z = absurd (true≢false (sym (ap (λ (y : Answer). y .accepted) z) ∙ t))
-      by-number (suc k) z = ap f (sym (ap (λ (y : Answer). y .code) z))
-
--- ---- the layout that two bodies give
-
-unfoldable pub layoutFrom : ℕ → List ℕ → List ℕ → Layout
-layoutFrom n links o =
-    record { n = n; order = padded o; adjacency = adjacencyOf (edgesIn links); count = crossings n o (adjacencyOf (edgesIn links)) }
-
--- links whose ends are below n, and an order that holds each vertex once
-pub record Accepted (n : ℕ) (links o : List ℕ) : Type 0 where
-  pub few : n ≤ 64
-  pub within : every (edgeWithin n) (edgesIn links) ≡ true
-  pub long : length o ≡ n
-  pub each : eachOnce n o ≡ true
-
-module _ {n : ℕ} {links o : List ℕ} (a : Accepted n links o) where
-  permutation : Permutation n o
-  permutation = each-once n o (le-of-eq (a .long)) (rw (a .each) tt)
-
-  none-outside : (u v : ℕ) → (Ends n u v → ⊥) → any (joins u v) (edgesIn links) ≡ false
-  none-outside u v = joins-none n u v (edgesIn links) (a .within)
-
-  adj : List ℕ
-  adj = adjacencyOf (edgesIn links)
-
-  linked-joins : (u v : ℕ) → u < n → v < n → linked adj u v ≡ any (joins u v) (edgesIn links)
-  unfolding adj
-  linked-joins u v h l = adjacency-linked (edgesIn links) u v (lt-of-lt-of-le h (a .few)) (lt-of-lt-of-le l (a .few))
-
-  symmetry : Symmetric n (weight adj)
-  unfolding one
-  symmetry =
-      record {
-        swap = λ u v h l. ap one (linked-joins u v h l ∙ joins-swap u v (edgesIn links) ∙ sym (linked-joins v u l h));
-        diagonal = λ v h. ap one (linked-joins v v h h ∙ none-outside v v (λ e. e .differ refl));
-      }
-
-  -- the first n places of the array
-  front : take n (padded o) ≡ o
-  front =
-      ext-getD 0 (take n (padded o)) o (sized ∙ sym (a .long))
-      (λ i l.
-      (let below : i < n = omega (arith, sized) in
-      getD-take n (padded o) i 0 below ∙ padded-at o i (lt-of-lt-of-le below (a .few))))
-    where
-      sized : length (take n (padded o)) ≡ n
-      sized = length-take-le n (padded o) (omega (arith, padded-length o, a .few))
-
-  -- what the counter counts
-  pub count-read : cond (leb n 64) (countOn n (padded o) (adjacencyOf (edgesIn links))) 0 ≡ crossings n o (adjacencyOf (edgesIn links))
-  unfolding adj counted
-  count-read =
-      counted-crossings (record { small = a .few; permutation = rw front permutation; symmetry = symmetry })
-      ∙ ap (λ (x : List ℕ). crossings n x (adjacencyOf (edgesIn links))) front
-
-  pub count-true : layoutFrom n links o .count ≡ crossingsOf (layoutFrom n links o)
-  unfolding layoutFrom crossingsOf vertexOrder
-  count-true = ap (λ (x : List ℕ). crossings n x (adjacencyOf (edgesIn links))) (sym front)
-
-  -- the layout is valid
-  pub valid-read : T (valid (layoutFrom n links o))
-  unfolding layoutFrom vertexOrder adj
-  valid-read =
-      sound-valid (layoutFrom n links o)
-      (record {
-        small = a .few;
-        permutation = rw front permutation;
-        places = λ i l h. padded-at o i h ∙ List·getD-eq-default o 0 (omega (arith, a .long));
-        symmetry = symmetry;
-        bits = λ u h.
-            rw (adjacency-at (edgesIn links) u h)
-            (wordOf-below (joined u) n 64 (a .few) (λ v l. none-outside u v (λ e. omega (arith, e .second))));
-        unused = λ u l h.
-            adjacency-at (edgesIn links) u h
-            ∙ lt-one (wordOf-below (joined u) 0 64 (omega arith) (λ v b. none-outside u v (λ e. omega (arith, e .first))));
-      })
-    where
-      joined : ℕ → ℕ → Bool
-      joined u v = any (joins u v) (edgesIn links)
-
--- ---- a pass, and what follows it
-
-unfoldable pub refusedRead : ℕ → ChartRead
-refusedRead r = record { refusal = r; layout = emptyLayout }
-
-abbrev acceptedRead : Layout → ChartRead
-acceptedRead l = record { refusal = 0; layout = l }
-
--- the questions of a pass, the others, and what is answered where all pass
-module _ {xs : List Check} (m : Numbered xs) (values : List ℕ) (ys : List Check) (x : ChartRead) {a : Answer} where
-  pass-accepted : a ≡ answer xs values → a .accepted ≡ true → checked ys x refusedRead ≡ checked (xs ++ ys) x refusedRead
-  unfolding byRefusal
-  pass-accepted e t =
-      sym
-      (checked-append m ys x refusedRead
-      ∙ ap (λ (k : ℕ). byRefusal k (checked ys x refusedRead) refusedRead) (answer-accepted xs values e t .0))
-
-  pass-refused : a ≡ answer xs values → a .accepted ≡ false → refusedRead (a .code) ≡ checked (xs ++ ys) x refusedRead
-  pass-refused e t = sym (checked-append m ys x refusedRead ∙ answer-refused xs values e t (checked ys x refusedRead) refusedRead)
-
--- of a pass that finds nothing but its answer
-pub asked-passed : {r : Asked} → r ≡ asks.Passed → asked r .accepted ≡ true
-unfolding asked accept
-asked-passed told = ap (λ (y : Asked). asked y .accepted) told
+use Rattle.readers.specs.Padded.{padded, padded-copy}
+use Rattle.readers.specs.Layouts.{Accepted, count-read}
+use Rattle.readers.specs.Passes.{refusedRead, acceptedRead, countedLayout, answer-accepted, pass-accepted, pass-refused, asked-passed, asked-on, asked-back}
+use Rattle.readers.specs.Passes.{last-passes, second-passes, same-checked}
 
 -- the code of a refusal is handed back
-module _ {k code : ℕ} where
-  pub asked-number : {r : Asked} → r ≡ asks.Refused k → code ≡ asked r .code → refusedRead code ≡ refusedRead k
-  unfolding asked refuse
-  asked-number e c = ap refusedRead (c ∙ ap (λ (x : Asked). asked x .code) e)
-
-  pub bodies-number : {r : BodiesFound} → r ≡ bodies.Refused k → code ≡ bodiesFound r .code → refusedRead code ≡ refusedRead k
-  unfolding bodiesFound refuse
-  bodies-number e c = ap refusedRead (c ∙ ap (λ (x : BodiesFound). bodiesFound x .code) e)
-
-  pub size-number : {r : SizeFound} → r ≡ size.Refused k → code ≡ sizeFound r .code → refusedRead code ≡ refusedRead k
-  unfolding sizeFound refuse
-  size-number e c = ap refusedRead (c ∙ ap (λ (x : SizeFound). sizeFound x .code) e)
-
-module _ {xs : List Check} (m : Numbered xs) (ys : List Check) (x : ChartRead) {r : Asked} where
-  asked-on : r ≡ asks.Passed → asked r ≡ answer xs [] → checked ys x refusedRead ≡ checked (xs ++ ys) x refusedRead
-  asked-on told said = pass-accepted m [] ys x said (asked-passed told)
-
-  asked-back : {k : ℕ} → r ≡ asks.Refused k → asked r ≡ answer xs [] → refusedRead k ≡ checked (xs ++ ys) x refusedRead
-  unfolding asked refuse
-  asked-back told said = pass-refused m [] ys x (ap asked (sym told) ∙ said) refl
-
--- the last of the questions passes
-last-passes : {c : Check} → All (λ c. c .passes ≡ true) (c ∷ []) → c .passes ≡ true
-last-passes (also p none) = p
-
-second-passes : {c d : Check} → All (λ c. c .passes ≡ true) (c ∷ d ∷ []) → d .passes ≡ true
-second-passes (also p (also q none)) = q
+pub bodies-number : {k code : ℕ} {r : BodiesFound} → r ≡ bodies.Refused k → code ≡ bodiesFound r .code → refusedRead code ≡ refusedRead k
+unfolding bodiesFound refuse
+bodies-number e c = ap refusedRead (c ∙ ap (λ (x : BodiesFound). bodiesFound x .code) e)
 
 -- ---- question 8
 
 -- what is read once the words are known
-unfoldable pub readOrder : ℕ → List ℕ → List ℕ → ChartRead
+unfoldable pub readOrder : ℕ → List ℕ → List ℕ → LayoutRead
 readOrder n adj o =
     checked (placeChecks n o)
-    (acceptedRead (record { n = n; order = padded o; adjacency = adj; count = cond (leb n 64) (countOn n (padded o) adj) 0 }))
+    (acceptedRead (countedLayout n (padded o) adj))
     refusedRead
 
 places-numbered : (n : ℕ) (o : List ℕ) → Numbered (placeChecks n o)
@@ -238,32 +67,22 @@ module _ (n : ℕ) (o : List ℕ) (few : n ≤ 64) where
     read-misplaced adj told said = asked-back (places-numbered n o) [] _ told (said ∙ question)
 
     -- the order copied into an array of zeros
-    pub read-placed : {adj order : List ℕ} {count : ℕ} → r ≡ asks.Passed → asked r ≡ answer (orderQuestion n o) []
-        → order ≡ take (length o) o ++ drop (length o) (replicate 64 0) → count ≡ cond (leb n 64) (countOn n order adj) 0
-        → acceptedRead (record { n = n; order = order; adjacency = adj; count = count }) ≡ readOrder n adj o
+    pub read-placed : {adj order : List ℕ} → r ≡ asks.Passed → asked r ≡ answer (orderQuestion n o) []
+        → order ≡ take (length o) o ++ drop (length o) (replicate 64 0) → acceptedRead (countedLayout n order adj) ≡ readOrder n adj o
     unfolding placeChecks readOrder checked byRefusal refusal
-    read-placed {adj} told said p q =
-        let l : Layout = record { n = n; order = padded o; adjacency = adj; count = cond (leb n 64) (countOn n (padded o) adj) 0 } in
-        rw (q, p ∙ padded-copy o (order-long told said)) (asked-on (places-numbered n o) [] (acceptedRead l) told (said ∙ question))
+    read-placed {adj} told said p =
+        rw (p ∙ padded-copy o (order-long told said))
+        (asked-on (places-numbered n o) [] (acceptedRead (countedLayout n (padded o) adj)) told (said ∙ question))
 
 -- ---- question 7
 
 -- what is read once the ends are known to be right
-unfoldable pub readEdges : ℕ → List ℕ → List ℕ → ChartRead
-readEdges n links o = checked (repeatChecks links ++ placeChecks n o) (acceptedRead (layoutFrom n links o)) refusedRead
+unfoldable pub readEdges : ℕ → List ℕ → List ℕ → LayoutRead
+readEdges n links o = checked (repeatChecks links ++ placeChecks n o) (acceptedRead (layoutWith n (edgesIn links) o)) refusedRead
 
 repeats-numbered : (links : List ℕ) → Numbered (repeatChecks links)
 unfolding repeatChecks
 repeats-numbered links = also (lit< tt) none
-
--- two answers that are the same where all questions pass
-same-checked : (cs : List Check) {x y : ChartRead} → (refusal cs ≡ 0 → x ≡ y) → checked cs x refusedRead ≡ checked cs y refusedRead
-unfolding checked byRefusal
-same-checked cs {x} {y} h = by-number (refusal cs) h
-  where
-    by-number : (k : ℕ) → (k ≡ 0 → x ≡ y) → byRefusal k x refusedRead ≡ byRefusal k y refusedRead
-    by-number zero e = e refl
-    by-number (suc k) e = refl
 
 -- links whose ends are below n, of at most 64 vertices
 module _ (n : ℕ) (links o : List ℕ) (few : n ≤ 64) (within : every (edgeWithin n) (edgesIn links) ≡ true) where
@@ -280,25 +99,25 @@ module _ (n : ℕ) (links o : List ℕ) (few : n ≤ 64) (within : every (edgeWi
 
     pub read-once : r ≡ asks.Passed → asked r ≡ answer (repeatChecks (wrapped links)) [] → (before : List ℕ) {adj : List ℕ}
         → adj ≡ wordsOver before (wrapped links) → readOrder n adj o ≡ readEdges n links o
-    unfolding readEdges readOrder layoutFrom
+    unfolding readEdges readOrder
     read-once told said before words =
         rw (words ∙ words-once before links ends-small all-different) (same-checked (placeChecks n o) (λ z. ap counted-as (count-read (accepted z))))
-        ∙ asked-on (repeats-numbered links) (placeChecks n o) (acceptedRead (layoutFrom n links o)) told (said ∙ question-seven)
+        ∙ asked-on (repeats-numbered links) (placeChecks n o) (acceptedRead (layoutWith n (edgesIn links) o)) told (said ∙ question-seven)
       where
         all-different : refusal (repeatChecks links) ≡ 0
         all-different = answer-accepted (repeatChecks links) [] (said ∙ question-seven) (asked-passed told) .0
 
-        counted-as : ℕ → ChartRead
+        counted-as : ℕ → LayoutRead
         counted-as k = acceptedRead (record { n = n; order = padded o; adjacency = adjacencyOf (edgesIn links); count = k })
 
-        accepted : refusal (placeChecks n o) ≡ 0 → Accepted n links o
+        accepted : refusal (placeChecks n o) ≡ 0 → Accepted n (edgesIn links) o
         accepted z = let p = places-pass n o z in record { few = few; within = within; long = p .0; each = p .1 }
 
 -- ---- questions 5 and 6
 
 -- what is read once the number of vertices is known
-unfoldable pub readBodies : ℕ → List ℕ → List ℕ → ChartRead
-readBodies n links o = checked (endChecks n links ++ (repeatChecks links ++ placeChecks n o)) (acceptedRead (layoutFrom n links o)) refusedRead
+unfoldable pub readBodies : ℕ → List ℕ → List ℕ → LayoutRead
+readBodies n links o = checked (endChecks n links ++ (repeatChecks links ++ placeChecks n o)) (acceptedRead (layoutWith n (edgesIn links) o)) refusedRead
 
 ends-numbered : (n : ℕ) (links : List ℕ) → Numbered (endChecks n links)
 unfolding endChecks
@@ -324,14 +143,14 @@ module _ (n : ℕ) (links : List ℕ) {r : Asked} where
 -- ---- questions 1 to 4
 
 -- what an accepted chart gives is made of the bodies
-abbrev chartRead : List ℕ → ChartRead
-chartRead s = acceptedRead (layoutFrom (chartSize s) (bodyOf s 1) (bodyOf s 2))
+abbrev chartRead : List ℕ → LayoutRead
+chartRead s = acceptedRead (layoutWith (chartSize s) (edgesIn (bodyOf s 1)) (bodyOf s 2))
 
 -- what is read from question 3 on, and from question 4 on
-unfoldable pub readDivided : List ℕ → ChartRead
+unfoldable pub readDivided : List ℕ → LayoutRead
 readDivided s = checked (drop 2 (chartChecks s)) (chartRead s) refusedRead
 
-unfoldable pub readFields : List ℕ → ChartRead
+unfoldable pub readFields : List ℕ → LayoutRead
 readFields s = checked (drop 3 (chartChecks s)) (chartRead s) refusedRead
 
 module _ (s : List ℕ) where
@@ -348,11 +167,11 @@ module _ (s : List ℕ) where
   size-numbered = also (lit< tt) none
 
   pub read-undivided : {r : Asked} {k : ℕ} → r ≡ asks.Refused k → asked r ≡ divisionAnswer s → refusedRead k ≡ readOf s
-  unfolding readOf divisionAnswer chartChecks chartLayout layoutFrom refusedRead chartEdges chartOrder
+  unfolding readOf divisionAnswer chartChecks chartLayout refusedRead chartEdges chartOrder
   read-undivided told said = asked-back division-numbered (drop 2 (chartChecks s)) (chartRead s) told said
 
   pub read-divided : {r : Asked} → r ≡ asks.Passed → asked r ≡ divisionAnswer s → readDivided s ≡ readOf s
-  unfolding readOf readDivided divisionAnswer chartChecks chartLayout layoutFrom refusedRead chartEdges chartOrder
+  unfolding readOf readDivided divisionAnswer chartChecks chartLayout refusedRead chartEdges chartOrder
   read-divided told said = asked-on division-numbered (drop 2 (chartChecks s)) (chartRead s) told said
 
   lengths : List ℕ

@@ -7,9 +7,9 @@ use mathlib.Core.Bool.{Bool, true, false, not, _&&_, _||_, false≢true}
 use mathlib.Core.List.{List, [], _∷_, _++_}
 use lib.ListN.{length, getD, take}
 use lib.Dec.{eqb, ltb, lit<}
-use borrow.Author.Tests.{lt-ltb, le-ltb, ltb-false, eqb-true, eq-eqb}
+use borrow.Author.Tests.{lt-ltb, le-ltb, ltb-false, eqb-true}
 use Rattle.model.specs.declared.Edge.{Edge}
-use Rattle.model.specs.declared.ChartRead.{ChartRead}
+use Rattle.model.specs.declared.LayoutRead.{LayoutRead}
 use Rattle.model.specs.Lists.{one, every, any, sumOver, noRepeats}
 use Rattle.model.specs.declared.Layout.{Layout}
 use Rattle.model.specs.Layouts.{emptyLayout}
@@ -20,6 +20,7 @@ use Rattle.laws.specs.Sums.Lists.{All, none, also, all-mono}
 use Rattle.laws.specs.Sums.Every.{every-all, all-every}
 use Rattle.laws.specs.Sums.Indicators.{both-left, both-right}
 use Rattle.laws.specs.Layouts.Refusals.{Numbered, all-pass}
+use Rattle.laws.specs.Layouts.FirstCrossing.{self-same}
 use Rattle.pairs.specs.Edges.{edge, edge-swap}
 use Rattle.chart.specs.Laws.{same-words, same-layouts}
 
@@ -42,10 +43,6 @@ ends-same e f t =
     let lows = eqb (e .low) (f .low) in
     let highs = eqb (e .high) (f .high) in
     ap₂ with-ends (eqb-true (e .low) (f .low) (both-left lows highs t)) (eqb-true (e .high) (f .high) (both-right lows highs t))
-
-self-same : (e : Edge) → sameEdge e e ≡ true
-unfolding sameEdge
-self-same e = rw (eq-eqb (e .low) (e .low) refl, eq-eqb (e .high) (e .high) refl)
 
 pub written-any : (e : Edge) (es : List Edge) → any (sameEdge e) es ≡ ltb 0 (written e es)
 unfolding any written sumOver one
@@ -104,7 +101,7 @@ few-once (x ∷ xs) h =
     (few-once xs (λ e. omega (arith, h e)))
 
 module _ {es fs : List Edge} (same : SameEdges es fs) where
-  same-member : (e : Edge) → any (sameEdge e) es ≡ any (sameEdge e) fs
+  pub same-member : (e : Edge) → any (sameEdge e) es ≡ any (sameEdge e) fs
   same-member e = written-any e es ∙ ap (ltb 0) (same .often e) ∙ sym (written-any e fs)
 
   every-there : (p : Edge → Bool) → every p es ≡ true → every p fs ≡ true
@@ -215,7 +212,7 @@ module _ {s t : List ℕ} (same : SameButSequence s t) where
       (same-layouts s t (ap (λ (x : List ℕ). getD x 0 0) (same .sizes)) (same .orders)
       (same-words (chartEdges s) (chartEdges t) (same-member (same .links))))
     where
-      refused : ℕ → ChartRead
+      refused : ℕ → LayoutRead
       refused r = record { refusal = r; layout = emptyLayout }
 
 -- so does a chart whose links are rewritten: another sequence, ends exchanged

@@ -2,19 +2,22 @@
 // layout (ring) that an accepted chart gives. passes has questions 1 to 4, pairs 5 and 6, bodies 7 and 8.
 use model::Asked;
 use model::BodiesFound;
-use model::ChartRead;
-use model::Layout;
+use model::LayoutRead;
 use model::SizeFound;
+use readers::accepted;
+use readers::asked_code;
+use readers::refused;
+use readers::size_code;
 ghost use mathlib.Core.Path.{_≡_};
 ghost use Prim.Native.Nat.{_≤_};
 ghost use mathlib.Core.Bool.{true};
 ghost use Rattle.model.specs.Lists.{every};
-ghost use Rattle.model.specs.Charts.{edgesIn, edgeWithin, readOf, asked, bodiesFound, sizeFound};
+ghost use Rattle.model.specs.Charts.{edgesIn, edgeWithin, readOf, bodiesFound};
 ghost use Rattle.passes.specs.Fields.{BodiesAt};
-ghost use Rattle.chart.specs.Reading.{refusedRead, readDivided, readFields, readBodies, readEdges, readOrder};
+ghost use Rattle.chart.specs.Reading.{readDivided, readFields, readBodies, readEdges, readOrder};
 
 // An accepted chart gives its edges, its order and its crossings; a refused one the empty layout.
-pub fn read(bytes: &[u8]) -> ChartRead
+pub fn read(bytes: &[u8]) -> LayoutRead
     ensures { λ r. ⌜ r ≡ readOf (now (bytes .entry)) ⌝ }
 {
     let divided = passes::ask_fields(bytes);
@@ -25,7 +28,7 @@ pub fn read(bytes: &[u8]) -> ChartRead
 }
 
 // Question 3 and those behind it.
-fn read_divided(bytes: &[u8]) -> ChartRead
+fn read_divided(bytes: &[u8]) -> LayoutRead
     ensures { λ r. ⌜ r ≡ readDivided (now (bytes .entry)) ⌝ }
 {
     let bodies = passes::find_bodies(bytes);
@@ -36,7 +39,7 @@ fn read_divided(bytes: &[u8]) -> ChartRead
 }
 
 // Questions 4 to 8, once the lengths of the three bodies are known. A header is three bytes.
-fn read_fields(bytes: &[u8], size: usize, links: usize, order: usize) -> ChartRead
+fn read_fields(bytes: &[u8], size: usize, links: usize, order: usize) -> LayoutRead
     requires { ⌜ BodiesAt (now bytes) size links order ⌝ }
     ensures { λ r. ⌜ r ≡ readFields (now (bytes .entry)) ⌝ }
 {
@@ -58,7 +61,7 @@ fn read_fields(bytes: &[u8], size: usize, links: usize, order: usize) -> ChartRe
 
 // Questions 5 to 8, once the number of vertices is known: links is the body of field 4C, body that of
 // field 52.
-fn read_bodies(n: usize, links: &[u8], body: &[u8]) -> ChartRead
+fn read_bodies(n: usize, links: &[u8], body: &[u8]) -> LayoutRead
     requires { ⌜ n ≤ 64 ⌝ }
     ensures { λ r. ⌜ r ≡ readBodies n (now (links .entry)) (now (body .entry)) ⌝ }
 {
@@ -70,7 +73,7 @@ fn read_bodies(n: usize, links: &[u8], body: &[u8]) -> ChartRead
 }
 
 // Questions 7 and 8, once the ends are known to be below n and different.
-fn read_edges(n: usize, links: &[u8], body: &[u8]) -> ChartRead
+fn read_edges(n: usize, links: &[u8], body: &[u8]) -> LayoutRead
     requires { ⌜ (n ≤ 64) × (every (edgeWithin n) (edgesIn (now links)) ≡ true) ⌝ }
     ensures { λ r. ⌜ r ≡ readEdges n (now (links .entry)) (now (body .entry)) ⌝ }
 {
@@ -83,7 +86,7 @@ fn read_edges(n: usize, links: &[u8], body: &[u8]) -> ChartRead
 }
 
 // Question 8, once the words are known, and the layout.
-fn read_order(n: usize, body: &[u8], adjacency: [u64; 64]) -> ChartRead
+fn read_order(n: usize, body: &[u8], adjacency: [u64; 64]) -> LayoutRead
     requires { ⌜ n ≤ 64 ⌝ }
     ensures { λ r. ⌜ r ≡ readOrder n adjacency (now (body .entry)) ⌝ }
 {
@@ -93,53 +96,15 @@ fn read_order(n: usize, body: &[u8], adjacency: [u64; 64]) -> ChartRead
     };
     let mut order = [0u8; 64];
     bytes::copy(body, &mut order);
-    let count = counting::count_crossings(n, &order, &adjacency);
-    ChartRead {
-        refusal: 0,
-        layout: Layout {
-            n: n,
-            order: order,
-            adjacency: adjacency,
-            count: count,
-        },
-    }
+    accepted(n, order, adjacency)
 }
 
-// A refused chart: the number and the empty layout.
-fn refused(code: u8) -> ChartRead
-    ensures { λ r. ⌜ r ≡ refusedRead code ⌝ }
-{
-    ChartRead {
-        refusal: code,
-        layout: layout::empty(),
-    }
-}
-
-// The refusal of each answer, to be handed back.
-
-fn asked_code(answer: Asked) -> u8
-    ensures { λ r. ⌜ r ≡ asked answer .code ⌝ }
-{
-    match answer {
-        Asked::Passed => 0,
-        Asked::Refused(code) => code,
-    }
-}
-
+// The refusal of the answer, to be handed back.
 fn bodies_code(answer: BodiesFound) -> u8
     ensures { λ r. ⌜ r ≡ bodiesFound answer .code ⌝ }
 {
     match answer {
         BodiesFound::Found(_, _, _) => 0,
         BodiesFound::Refused(code) => code,
-    }
-}
-
-fn size_code(answer: SizeFound) -> u8
-    ensures { λ r. ⌜ r ≡ sizeFound answer .code ⌝ }
-{
-    match answer {
-        SizeFound::Found(_) => 0,
-        SizeFound::Refused(code) => code,
     }
 }

@@ -7,3 +7,4 @@ pub mod Layouts
 pub mod Sifting
 pub mod Append
 pub mod Buffers
+pub mod Graph6

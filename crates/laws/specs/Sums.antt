@@ -1,6 +1,6 @@
--- Sums and indicators: tests as 0 or 1, sums over a range and over the entries of a list, sums over pairs, and the bits of a word.
+-- Sums and indicators: tests as 0 or 1, sums over a range and over the entries of a list, sums over pairs, the bits of a word, and two kinds of loops.
 -- Nothing here knows of a layout. Others cite order (a case on two numbers), one-lt and its kin, sum-ext, sum-swap, all-mono, sumOver-places,
--- Symmetric, masked ones and the bit laws.
+-- Symmetric, masked ones and the bit laws, PassedUpTo (entries asked one after the other) and MadeUpTo (a value made step by step).
 pub mod Indicators
 pub mod Ranges
 pub mod Lists
@@ -8,3 +8,4 @@ pub mod Every
 pub mod Any
 pub mod Pairs
 pub mod Bits
+pub mod Loops

@@ -12,7 +12,7 @@ use Rattle.model.specs.declared.Converged.{Converged}
 use Rattle.model.specs.Crossings.{edges}
 use Rattle.model.specs.Layouts.{vertexOrder, crossingsOf, valid}
 use Rattle.model.specs.Sifting.{settleOf}
-use Rattle.model.specs.declared.ChartRead.{ChartRead}
+use Rattle.model.specs.declared.LayoutRead.{LayoutRead}
 use Rattle.model.specs.Checks.{byRefusal}
 use Rattle.model.specs.Charts.{readOf}
 use Rattle.model.specs.Listing.{text, line, spaced, listing, listingRoom, listingOf, listedLength, listedBytes}
@@ -67,7 +67,7 @@ listing-written l t c e k {start} {bytes} {at} w = written-whole (subst (λ (s :
 
 -- ---- a chart's listing
 
-module _ (s : List ℕ) {r : ChartRead} (e : r ≡ readOf s) where
+module _ (s : List ℕ) {r : LayoutRead} (e : r ≡ readOf s) where
   pub listing-refused : (r .refusal ≡ 0 → ⊥) → listingOf s ≡ line "refused" (spaced (r .refusal))
   unfolding listingOf
   listing-refused d = rw (← e) (by-number (r .refusal) (listing (r .layout)) (λ refused. line "refused" (spaced refused)) d)

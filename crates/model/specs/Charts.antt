@@ -1,12 +1,12 @@
 -- Charts: fields, the eight questions, and the layout that an accepted chart gives.
 use Prim.Native.Nat.{ℕ, zero, suc, _+_, _*_, _^_, _%_, min, max}
-use mathlib.Core.Bool.{Bool, true, false, not, cond, _&&_}
+use mathlib.Core.Bool.{Bool, true, false, cond, _&&_}
 use mathlib.Core.List.{List, [], _∷_, _++_, map}
 use lib.ListN.{length, getD, take, drop, replicate}
 use lib.Dec.{eqb, leb, ltb}
 use Rattle.model.specs.declared.Edge.{Edge}
 use Rattle.model.specs.declared.Layout.{Layout}
-use Rattle.model.specs.declared.ChartRead.{ChartRead}
+use Rattle.model.specs.declared.LayoutRead.{LayoutRead}
 use Rattle.model.specs.declared.Asked.{Asked}
 use Rattle.model.specs.declared.Asked.the-variants as asks
 use Rattle.model.specs.declared.FieldFound.{FieldFound}
@@ -147,24 +147,26 @@ joins u v e = sameEdge e (record { low = min u v; high = max u v })
 unfoldable pub wordIn : List Edge → ℕ → ℕ
 wordIn es u = sumOver (λ v. cond (any (joins u v) es) (2 ^ v) 0) (upto capacity)
 
+-- the array that an order goes into: "its unused places are 0"
+abbrev pub padded : List ℕ → List ℕ
+padded o = take capacity (o ++ replicate capacity 0)
+
+-- a layout of n vertices with these edges, in the order o, and with its true crossings
+abbrev pub layoutWith : ℕ → List Edge → List ℕ → Layout
+layoutWith n es o =
+    let adj = map (wordIn es) (upto capacity) in
+    record { n = n; order = padded o; adjacency = adj; count = crossings n o adj }
+
 -- "a ring read from a chart [carries] its true crossings"
 unfoldable pub chartLayout : List ℕ → Layout
-chartLayout s =
-    let n = chartSize s in
-    let adj = map (wordIn (chartEdges s)) (upto capacity) in
-    record {
-      n = n;
-      order = take capacity (chartOrder s ++ replicate capacity 0);
-      adjacency = adj;
-      count = crossings n (chartOrder s) adj;
-    }
+chartLayout s = layoutWith (chartSize s) (chartEdges s) (chartOrder s)
 
 -- "a refusal returns the empty ring"
-unfoldable pub readOf : List ℕ → ChartRead
-readOf s =
-    checked (chartChecks s)
-    (record { refusal = 0; layout = chartLayout s })
-    (λ r. record { refusal = r; layout = emptyLayout })
+abbrev pub readAs : List Check → Layout → LayoutRead
+readAs checks l = checked checks (record { refusal = 0; layout = l }) (λ r. record { refusal = r; layout = emptyLayout })
+
+unfoldable pub readOf : List ℕ → LayoutRead
+readOf s = readAs (chartChecks s) (chartLayout s)
 
 -- ---- the passes of the reader: "each reader pass answers an enum"
 

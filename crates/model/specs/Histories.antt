@@ -21,6 +21,7 @@ use Rattle.model.specs.Edits.{addOf, linkOf, unlinkOf, moveOf}
 use Rattle.model.specs.GreedyAppend.{layOf}
 use Rattle.model.specs.Sifting.{sifted, optimaOf, siftOf, moves, siftRound, roundOf, settleOf}
 use Rattle.model.specs.Charts.{readOf}
+use Rattle.model.specs.Graph6.{importOf}
 
 -- ---- calls and what they answer
 
@@ -60,10 +61,12 @@ answerOf l (call.Converge limit) = ofConverged (settleOf l limit)
 
 -- ---- a list of calls
 
--- "For every list of calls from the empty or a freshly read ring"; "A freshly read ring is one that reading an accepted chart returned."
+-- "For every list of calls from the empty or a freshly read ring"; "A freshly read ring is one that reading an accepted chart returned."; "An imported
+-- ring may start a list of calls as a freshly read one does." (document 02, Note 4)
 pub data Start : Layout → Type 0 where
   empty : Start emptyLayout
   read : (s : List ℕ) → readOf s .refusal ≡ 0 → Start (readOf s .layout)
+  imported : (s : List ℕ) → importOf s .refusal ≡ 0 → Start (importOf s .layout)
 
 -- a step: the layout before the call, the call, and its whole answer, with the layout after it
 pub record Step : Type 0 where

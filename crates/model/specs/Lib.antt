@@ -9,10 +9,13 @@ pub mod Reading
 pub mod GreedyAppend
 pub mod Sifting
 pub mod Charts
+pub mod Writing
 pub mod WrittenCharts
+pub mod Graph6
 pub mod Reports
 pub mod Histories
 pub mod Playing
 pub mod Listing
 pub mod Starred
 pub mod WorkedCharts
+pub mod WorkedGraphs

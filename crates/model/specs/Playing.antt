@@ -6,7 +6,7 @@ use lib.ListN.{length, getD, drop}
 use lib.Dec.{eqb, leb}
 use Rattle.model.specs.declared.Layout.{Layout}
 use Rattle.model.specs.declared.Outcome.{Outcome}
-use Rattle.model.specs.declared.ChartRead.{ChartRead}
+use Rattle.model.specs.declared.LayoutRead.{LayoutRead}
 use Rattle.model.specs.declared.Played.{Played}
 use Rattle.model.specs.declared.Call.{Call}
 use Rattle.model.specs.declared.Call.the-variants as call
@@ -17,6 +17,7 @@ use Rattle.model.specs.declared.Origin.the-variants as origin
 use Rattle.model.specs.Layouts.{emptyLayout}
 use Rattle.model.specs.Checks.{Check, refusal, checked}
 use Rattle.model.specs.Charts.{readOf}
+use Rattle.model.specs.Graph6.{importOf}
 use Rattle.model.specs.Histories.{Step, steps, played}
 
 -- ---- calls as numbers
@@ -66,16 +67,21 @@ answersOf l cs = flatMap (λ (s : Step). answerNumbers (s .answer)) (steps l cs)
 
 -- ---- playing
 
--- the start: the empty layout, or what reading the chart gives
-unfoldable pub startOf : Origin → List ℕ → ChartRead
-startOf origin.Empty chart = record { refusal = 0; layout = emptyLayout }
-startOf origin.Chart chart = readOf chart
+-- the start: the empty layout, or what the bytes give, read as a chart or imported as a graph in graph6
+unfoldable pub startOf : Origin → List ℕ → LayoutRead
+startOf origin.Empty bytes = record { refusal = 0; layout = emptyLayout }
+startOf origin.Chart bytes = readOf bytes
+startOf origin.Graph6 bytes = importOf bytes
 
-module _ (from : Origin) (chart numbers : List ℕ) (size : ℕ) where
+-- an origin as a number, for hosts: 1 is a chart, 2 a graph in graph6, and any other number the empty layout
+unfoldable pub originOf : ℕ → Origin
+originOf k = cond (eqb k 1) origin.Chart (cond (eqb k 2) origin.Graph6 origin.Empty)
+
+module _ (from : Origin) (bytes numbers : List ℕ) (size : ℕ) where
   -- is there a start, and does the table of the given size hold an answer for each call? The second has the number of a short buffer.
   unfoldable pub playChecks : List Check
   playChecks =
-      record { passes = eqb (startOf from chart .refusal) 0; code = startOf from chart .refusal }
+      record { passes = eqb (startOf from bytes .refusal) 0; code = startOf from bytes .refusal }
       ∷ record { passes = leb (answerWidth * length (callsOf numbers)) size; code = 18 }
       ∷ []
 
@@ -88,12 +94,12 @@ module _ (from : Origin) (chart numbers : List ℕ) (size : ℕ) where
   playOf =
       record {
         refusal = refusal playChecks;
-        layout = played (startOf from chart .layout) playedCalls;
+        layout = played (startOf from bytes .layout) playedCalls;
         calls = length playedCalls;
       }
 
 -- the table after the call: the answers, and the rest as it was
 unfoldable pub tableOf : Origin → List ℕ → List ℕ → List ℕ → List ℕ
-tableOf from chart numbers table =
-    let calls = playedCalls from chart numbers (length table) in
-    answersOf (startOf from chart .layout) calls ++ drop (answerWidth * length calls) table
+tableOf from bytes numbers table =
+    let calls = playedCalls from bytes numbers (length table) in
+    answersOf (startOf from bytes .layout) calls ++ drop (answerWidth * length calls) table

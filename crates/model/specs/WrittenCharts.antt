@@ -1,13 +1,11 @@
--- Charts written out again (document 02, Note 1): the bytes of a layout's chart, and the call that writes them into a lent buffer.
+-- Charts written out again (document 02, Note 1): the bytes of a layout's chart. Writing has the call.
 use Prim.Native.Nat.{ℕ, _/_, _%_}
 use mathlib.Core.List.{List, [], _∷_, _++_, flatMap}
-use lib.ListN.{length, drop}
+use lib.ListN.{length}
 use Rattle.model.specs.declared.Edge.{Edge}
 use Rattle.model.specs.declared.Layout.{Layout}
-use Rattle.model.specs.declared.ChartWritten.{ChartWritten}
 use Rattle.model.specs.Crossings.{edges}
 use Rattle.model.specs.Layouts.{vertexOrder, crossingsOf}
-use Rattle.model.specs.Checks.{Check, checked, isValid, roomFor}
 
 -- ---- the bytes of a chart
 
@@ -25,23 +23,6 @@ chartOf l =
     fieldBytes 0x44 (l .n ∷ [])
     ++ fieldBytes 0x4C (edgeBytes (edges (l .n) (l .adjacency)))
     ++ fieldBytes 0x52 (vertexOrder l)
-
--- ---- the call
-
--- "Refused: 19 when the lent buffer is shorter than the chart, asked after 11."
-unfoldable pub writeChecks : Layout → List ℕ → List Check
-writeChecks l buffer = isValid l ∷ roomFor (chartOf l) buffer ∷ []
-
--- "It answers the chart's length"
-unfoldable pub writeOf : Layout → List ℕ → ChartWritten
-writeOf l buffer =
-    checked (writeChecks l buffer)
-    (record { refusal = 0; length = length (chartOf l) })
-    (λ r. record { refusal = r; length = 0 })
-
--- the buffer's bytes after the call: "buffer bytes beyond the chart keep their contents"
-unfoldable pub writtenBytes : Layout → List ℕ → List ℕ
-writtenBytes l buffer = checked (writeChecks l buffer) (chartOf l ++ drop (length (chartOf l)) buffer) (λ r. buffer)
 
 -- ---- read back
 

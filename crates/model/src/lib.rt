@@ -85,23 +85,23 @@ pub enum FirstCrossing {
     Refused(u8),
 }
 
-// Reading a chart: a refused chart gives the empty layout.
-pub struct ChartRead {
+// A layout read from bytes, a chart or a graph in graph6: the empty one where they are refused.
+pub struct LayoutRead {
     pub refusal: u8,
     pub layout: Layout,
 }
 
-// Writing a chart into a lent buffer: how many bytes the chart has, 0 where it is refused.
+// A layout written into a lent buffer, as a chart or in graph6: how many bytes that is, 0 where it is refused.
 #[repr(C)]
-pub struct ChartWritten {
+pub struct LayoutWritten {
     pub refusal: u8,
     pub length: usize,
 }
 
-// What the passes of the chart reader answer. specs/Charts.antt says for each case which number and
-// values of document 01 it stands for.
+// What the passes of the chart reader and of the graph6 reader answer. specs/Charts.antt says for each
+// case which number and values of document 01 it stands for.
 
-// A pass that only asks: questions 1 and 2, 5 and 6, 7, and 8.
+// A pass that only asks: questions 1 and 2, 5 and 6, 7, and 8; of graph6 21, and 22.
 pub enum Asked {
     Passed,
     Refused(u8),
@@ -120,7 +120,7 @@ pub enum BodiesFound {
     Refused(u8),
 }
 
-// Question 4: the number of vertices.
+// Question 4, and 20 of graph6: the number of vertices.
 pub enum SizeFound {
     Found(usize),
     Refused(u8),
@@ -158,10 +158,11 @@ pub enum Decoded {
     End,
 }
 
-// Where a list of calls starts: from the empty layout, or from a chart.
+// Where a list of calls starts: from the empty layout, from a chart, or from a graph in graph6.
 pub enum Origin {
     Empty,
     Chart,
+    Graph6,
 }
 
 // A list of calls played: the refusal code, the layout at the end, and how many calls were played.

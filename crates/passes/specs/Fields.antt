@@ -7,7 +7,7 @@ use mathlib.Core.Path.{_≡_, refl, sym, ap, _∙_}
 use mathlib.Core.Bool.{Bool, true, false, cond, true≢false, false≢true, and-false}
 use mathlib.Core.List.{List, [], _∷_, _++_, map, append-assoc, append-nil}
 use lib.ListN.{length, getD, take, drop, length-drop, length-map}
-use lib.Seq.{take-all, drop-drop, length-take-le}
+use lib.Seq.{drop-drop, length-take-le}
 use lib.Dec.{eqb, leb}
 use borrow.Author.Tests.{le-leb, lt-leb, leb-true, eq-eqb, ne-eqb, eqb-false}
 use Rattle.model.specs.declared.Asked.the-variants as asks
@@ -123,10 +123,6 @@ field-none s told said = by-test (startsWithField s) (ap fieldFound (sym told) �
     by-test : (b : Bool) → refuse 0 ≡ cond b (accept (getD s 0 0 ∷ bodyLength s ∷ [])) (refuse 0) → b ≡ false
     by-test true a = absurd (false≢true (ap (λ (x : Answer). x .accepted) a))
     by-test false a = refl
-
--- a part up to the end is all that is left
-pub rest-whole : (s : List ℕ) (at : ℕ) → take (length s - at) (drop at s) ≡ drop at s
-rest-whole s at = take-all (length s - at) (drop at s) (omega (arith, length-drop at s))
 
 pub field-inside : (s : List ℕ) {at tag size : ℕ} → at ≤ length s → FieldThere (drop at s) tag size → at + 3 + size ≤ length s
 field-inside s {at} h f = omega (arith, f .fits, length-drop at s)

@@ -67,7 +67,7 @@ sum-if-there n k f =
         ∙ rw (one-ge k n h) (sym (zero-mul (f k)))
 
 -- one term of a sum over pairs, if it is there
-pairSum-if-there : (n : ℕ) (e : Edge) (F : ℕ → ℕ → ℕ)
+pub pairSum-if-there : (n : ℕ) (e : Edge) (F : ℕ → ℕ → ℕ)
     → pairSum n (λ a b. F a b * one (sameEdge e (rising a b))) ≡ one (edgeWithin n e) * F (e .low) (e .high)
 unfolding pairSum sameEdge edgeWithin
 pairSum-if-there n e F =

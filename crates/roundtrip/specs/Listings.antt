@@ -25,7 +25,7 @@ use Rattle.laws.specs.Crossings.Bound.{mostEdges}
 use Rattle.laws.specs.Buffers.EdgeBytes.{edge-bytes-length}
 use Rattle.laws.specs.Buffers.Charts.{chartWith, chart-length}
 use Rattle.bodies.specs.Words.{adjacencyOf}
-use Rattle.chart.specs.Padded.{padded}
+use Rattle.readers.specs.Padded.{padded}
 use Rattle.chart.specs.Laws.{read-number, read-is}
 use Rattle.roundtrip.specs.Fields.{fieldOf, field-bytes, allBytes, fields-read}
 use Rattle.roundtrip.specs.EdgeLists.{edge-rises, edge-below, edge-bytes-all, edge-bytes-read}

@@ -3,28 +3,28 @@ use Prim.Native.Nat.{ℕ, _≤_, _<_}
 use native.Mathlib.Decide.{decLt}
 use native.Mathlib.Omega.{arith}
 use mathlib.Core.Path.{_≡_, refl, sym, ap, ap₂, _∙_}
-use mathlib.Core.List.{List, [], _∷_, _++_}
-use lib.ListN.{length, getD, take, drop, length-take, List·getD-eq-default}
-use lib.Seq.{ext-getD, getD-take, take-append-seam}
+use mathlib.Core.List.{List}
+use lib.ListN.{length, getD, take, length-take, List·getD-eq-default}
+use lib.Seq.{ext-getD, getD-take}
 use lib.Dec.{T}
 use Rattle.model.specs.declared.Edge.{Edge}
 use Rattle.model.specs.declared.Layout.{Layout}
-use Rattle.model.specs.declared.ChartRead.{ChartRead}
-use Rattle.model.specs.declared.ChartWritten.{ChartWritten}
+use Rattle.model.specs.declared.LayoutRead.{LayoutRead}
 use Rattle.model.specs.Lists.{any}
 use Rattle.model.specs.Crossings.{edges, crossings}
 use Rattle.model.specs.Layouts.{vertexOrder, crossingsOf, valid}
-use Rattle.model.specs.Checks.{Check, refusal, roomFor}
+use Rattle.model.specs.Checks.{refusal}
 use Rattle.model.specs.Charts.{bodyOf, chartSize, chartEdges, chartOrder, sameEdge, chartChecks, readOf}
-use Rattle.model.specs.WrittenCharts.{chartOf, writeChecks, writeOf, writtenBytes, withTrueCount}
+use Rattle.model.specs.Writing.{writeOf, writtenBytes}
+use Rattle.model.specs.WrittenCharts.{chartOf, withTrueCount}
 use Rattle.laws.specs.Sums.Lists.{All}
 use Rattle.laws.specs.Crossings.Bound.{edges-few}
 use Rattle.laws.specs.Buffers.Charts.{chart-edges}
 pub use Rattle.laws.specs.Buffers.Charts.{chart-size}
-use Rattle.laws.specs.Layouts.Refusals.{valid-passed, when-accepted, checked-number}
+use Rattle.laws.specs.Buffers.Formats.{write-accepted, written-front}
 use Rattle.laws.specs.Layouts.Sizes.{Sized}
 use Rattle.laws.specs.Layouts.Validity.{sound}
-use Rattle.chart.specs.Padded.{padded, padded-length, padded-at}
+use Rattle.readers.specs.Padded.{padded, padded-length, padded-at}
 use Rattle.chart.specs.Laws.{read-valid, read-sized, same-charts}
 use Rattle.chart.specs.Sequence.{Rewritten, rewriting-free}
 use Rattle.roundtrip.specs.EdgeLists.{edges-within, edges-once, edges-words}
@@ -76,31 +76,14 @@ written-read l s t =
     (padded-again (l .n) (l .order) (s .places) (sound l t .places))
     (edges-words (l .n) (l .adjacency) (sound l t .symmetry) (sound l t .bits) (sound l t .unused) (sound l t .small) (s .words))
   where
-    read-as : List ℕ → List ℕ → ChartRead
+    read-as : List ℕ → List ℕ → LayoutRead
     read-as o adj = record { refusal = 0; layout = record { n = l .n; order = o; adjacency = adj; count = crossings (l .n) (vertexOrder l) adj } }
 
 -- so with the call itself: where it is accepted, as many bytes of the buffer as it answers are read as the layout with its true count
-pub write-then-read : (l : Layout) (buffer : List ℕ) → Sized l → writeOf l buffer .refusal ≡ 0
-    → readOf (take (writeOf l buffer .length) (writtenBytes l buffer)) ≡ record { refusal = 0; layout = withTrueCount l }
-unfolding writeOf writtenBytes writeChecks
+pub write-then-read : (l : Layout) (buffer : List ℕ) → Sized l → writeOf chartOf l buffer .refusal ≡ 0
+    → readOf (take (writeOf chartOf l buffer .length) (writtenBytes chartOf l buffer)) ≡ record { refusal = 0; layout = withTrueCount l }
 write-then-read l buffer s e =
-    ap₂ (λ (k : ℕ) (bytes : List ℕ). readOf (take k bytes))
-    (ap (λ (w : ChartWritten). w .length) (when-accepted checks written refused accepted))
-    (when-accepted checks (chartOf l ++ drop (length (chartOf l)) buffer) (λ r. buffer) accepted)
-    ∙ ap readOf (take-append-seam (chartOf l) (drop (length (chartOf l)) buffer))
-    ∙ written-read l s (valid-passed l (roomFor (chartOf l) buffer ∷ []) accepted .0)
-  where
-    checks : List Check
-    checks = writeChecks l buffer
-
-    written : ChartWritten
-    written = record { refusal = 0; length = length (chartOf l) }
-
-    refused : ℕ → ChartWritten
-    refused r = record { refusal = r; length = 0 }
-
-    accepted : refusal checks ≡ 0
-    accepted = sym (checked-number checks written refused (λ (w : ChartWritten). w .refusal) refl (λ r. refl)) ∙ e
+    ap readOf (written-front chartOf l buffer e) ∙ written-read l s (write-accepted chartOf l buffer e .0)
 
 -- a count that is true already stays
 count-kept : (l : Layout) → l .count ≡ crossingsOf l → withTrueCount l ≡ l
@@ -121,12 +104,12 @@ count-unwritten l = refl
 
 -- a written chart, read and written again, gives the same bytes
 pub written-again : (l : Layout) → Sized l → T (valid l) → chartOf (readOf (chartOf l) .layout) ≡ chartOf l
-written-again l s t = ap (λ (r : ChartRead). chartOf (r .layout)) (written-read l s t) ∙ count-unwritten l
+written-again l s t = ap (λ (r : LayoutRead). chartOf (r .layout)) (written-read l s t) ∙ count-unwritten l
 
 -- the bytes tell the layout, but for the count that it carries
 pub written-tells : (l m : Layout) → Sized l → T (valid l) → Sized m → T (valid m) → chartOf l ≡ chartOf m → withTrueCount l ≡ withTrueCount m
 written-tells l m s t r u e =
-    ap (λ (x : ChartRead). x .layout) (sym (written-read l s t) ∙ ap readOf e ∙ written-read m r u)
+    ap (λ (x : LayoutRead). x .layout) (sym (written-read l s t) ∙ ap readOf e ∙ written-read m r u)
 
 -- so two accepted charts that give the same written bytes give the same layout
 pub written-same : (s t : List ℕ) → readOf s .refusal ≡ 0 → readOf t .refusal ≡ 0
@@ -146,10 +129,10 @@ charts-written s t p q e = ap chartOf e
 -- two accepted charts of the same vertices, order and edges
 pub listed-anyhow : (s t : List ℕ) → readOf s .refusal ≡ 0 → readOf t .refusal ≡ 0 → chartSize s ≡ chartSize t → chartOrder s ≡ chartOrder t
     → ((e : Edge) → any (sameEdge e) (chartEdges s) ≡ any (sameEdge e) (chartEdges t)) → chartOf (readOf s .layout) ≡ chartOf (readOf t .layout)
-listed-anyhow s t p q sizes orders links = ap (λ (r : ChartRead). chartOf (r .layout)) (same-charts s t p q sizes orders links)
+listed-anyhow s t p q sizes orders links = ap (λ (r : LayoutRead). chartOf (r .layout)) (same-charts s t p q sizes orders links)
 
 -- links in another sequence, ends either way round
 pub rewritten-written : (s t : List ℕ) → refusal (take 3 (chartChecks s)) ≡ 0 → refusal (take 3 (chartChecks t)) ≡ 0
     → bodyOf s 0 ≡ bodyOf t 0 → Rewritten (bodyOf s 1) (bodyOf t 1) → bodyOf s 2 ≡ bodyOf t 2
     → chartOf (readOf s .layout) ≡ chartOf (readOf t .layout)
-rewritten-written s t p q sizes links orders = ap (λ (r : ChartRead). chartOf (r .layout)) (rewriting-free s t p q sizes links orders)
+rewritten-written s t p q sizes links orders = ap (λ (r : LayoutRead). chartOf (r .layout)) (rewriting-free s t p q sizes links orders)

@@ -4,50 +4,37 @@ ghost use mathlib.Core.List.{[], _∷_};
 ghost use Prim.Native.Nat.{_+_, _*_, _/_, _%_, _≤_, _<_};
 ghost use lib.ListN.{length};
 ghost use Rattle.model.specs.Crossings.{edges};
-ghost use Rattle.model.specs.Checks.{refusal};
-ghost use Rattle.model.specs.WrittenCharts.{fieldBytes, edgeBytes, writeOf, writtenBytes};
+ghost use Rattle.model.specs.Writing.{writeOf, writtenBytes};
+ghost use Rattle.model.specs.WrittenCharts.{fieldBytes, edgeBytes, chartOf};
 ghost use Rattle.laws.specs.Buffers.Writing.{Written};
 ghost use Rattle.laws.specs.Buffers.Charts.{chartWith};
 ghost use Rattle.text.specs.Room.{Put};
 ghost use Rattle.writer.specs.Fields.{ChartFits};
-ghost use Rattle.writer.specs.Answers.{asks, counted};
+ghost use Rattle.writer.specs.Answers.{counted};
 use edge_list::edge_count;
 use edge_list::put_edges;
-use model::ChartWritten;
 use model::Layout;
+use model::LayoutWritten;
 use text::put_text;
 use validity::is_valid;
+use writing::write_refusal;
 
 // Writes the chart to the start of the buffer, and answers its length. The bytes beyond it keep
 // their contents.
-pub fn write(l: Layout, buffer: &mut [u8]) -> ChartWritten
-    ensures { λ r. ⌜ r ≡ writeOf l (now (buffer .entry)) ⌝ }
-    ensures { λ r. ⌜ now (buffer .exit) ≡ writtenBytes l (now (buffer .entry)) ⌝ }
+pub fn write(l: Layout, buffer: &mut [u8]) -> LayoutWritten
+    ensures { λ r. ⌜ r ≡ writeOf chartOf l (now (buffer .entry)) ⌝ }
+    ensures { λ r. ⌜ now (buffer .exit) ≡ writtenBytes chartOf l (now (buffer .entry)) ⌝ }
 {
     let n = l.n;
     let adjacency = l.adjacency;
     let length = chart_length(n, &adjacency);
     let refusal = write_refusal(is_valid(l), length, buffer.len());
     if refusal != 0 {
-        return ChartWritten { refusal, length: 0 };
+        return LayoutWritten { refusal, length: 0 };
     }
     let order = l.order;
     put_chart(buffer, &adjacency, &order[..n]);
-    ChartWritten { refusal: 0, length }
-}
-
-// The checks of the call: is the layout valid, and has a buffer of size bytes room for a chart of
-// length bytes?
-fn write_refusal(valid: bool, length: usize, size: usize) -> u8
-    ensures { λ r. ⌜ r ≡ refusal (asks valid length size) ⌝ }
-{
-    if !valid {
-        return 11;
-    }
-    if size < length {
-        return 19;
-    }
-    0
+    LayoutWritten { refusal: 0, length }
 }
 
 // How many bytes the chart of n vertices has: three headers, n itself, the edges and the order. 0

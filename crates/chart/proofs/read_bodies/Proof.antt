@@ -1,6 +1,7 @@
 use borrow.Author.Needs.{needs}
 use mathlib.Core.Path.{_∙_}
-use Rattle.chart.specs.Reading.{asked-number, ends-below, read-within, read-outside}
+use Rattle.readers.specs.Passes.{asked-number}
+use Rattle.chart.specs.Reading.{ends-below, read-within, read-outside}
 use Rattle.chart.proofs.read_bodies.Statement.{statement}
 use Rattle.chart.proofs.read_bodies.Tie as tie
 

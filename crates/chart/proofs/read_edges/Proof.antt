@@ -1,6 +1,7 @@
 use borrow.Author.Needs.{needs}
 use mathlib.Core.Path.{_∙_}
-use Rattle.chart.specs.Reading.{asked-number, read-once, read-repeated}
+use Rattle.readers.specs.Passes.{asked-number}
+use Rattle.chart.specs.Reading.{read-once, read-repeated}
 use Rattle.chart.proofs.read_edges.Statement.{statement}
 use Rattle.chart.proofs.read_edges.Tie as tie
 

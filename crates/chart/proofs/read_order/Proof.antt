@@ -1,6 +1,7 @@
 use borrow.Author.Needs.{needs}
 use mathlib.Core.Path.{_∙_}
-use Rattle.chart.specs.Reading.{asked-number, order-long, read-misplaced, read-placed}
+use Rattle.readers.specs.Passes.{asked-number}
+use Rattle.chart.specs.Reading.{order-long, read-misplaced, read-placed}
 use Rattle.chart.proofs.read_order.Statement.{statement}
 use Rattle.chart.proofs.read_order.Tie as tie
 
@@ -38,15 +39,15 @@ copy-requires c κs =
     let once = passed .before .before in
     order-long _ _ (start once .pre) (passed .enum-told .given .1) (once .ask-order .ensures)
 
-count-crossings-requires : tie.Need-count-crossings-requires
-count-crossings-requires c κs = search needs
+accepted-requires : tie.Need-accepted-requires
+accepted-requires c κs = search needs
 
 returns-2 : tie.Need-returns-2
 returns-2 c =
-    let copied = c .before .before .before .before in
+    let copied = c .before .before in
     let passed = copied .before .before in
     let once = passed .before .before in
-    read-placed _ _ (start once .pre) (passed .enum-told .given .1) (once .ask-order .ensures) (copied .copy .ensures .1) (c .count-crossings .ensures)
+    c .accepted .ensures ∙ read-placed _ _ (start once .pre) (passed .enum-told .given .1) (once .ask-order .ensures) (copied .copy .ensures .1)
 
 pub read-order-spec : {M : Type 1} → statement M
 read-order-spec =
@@ -60,5 +61,5 @@ read-order-spec =
     returns
     slice-aggregate-copy
     copy-requires
-    count-crossings-requires
+    accepted-requires
     returns-2)

@@ -78,7 +78,7 @@ module _ (l : Layout) (t : T (valid l)) where
 -- ---- a pair that is shown crosses, and both are edges of the layout
 
 -- the entries of a list are among its entries
-self-same : (e : Edge) → sameEdge e e ≡ true
+pub self-same : (e : Edge) → sameEdge e e ≡ true
 unfolding sameEdge
 self-same e = rw (eq-eqb (e .low) (e .low) refl, eq-eqb (e .high) (e .high) refl)
 

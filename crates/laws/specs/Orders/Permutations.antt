@@ -9,10 +9,10 @@ use lib.ListN.{length, getD, take, drop}
 use lib.Seq.{take-suc, drop-cons}
 use lib.Dec.{eqb, ltb}
 use borrow.Author.Tests.{eq-eqb, eqb-true, lt-ltb}
-use Rattle.model.specs.Lists.{one, any, sumOver, member, occurrences, place}
+use Rattle.model.specs.Lists.{one, upto, any, sumOver, member, occurrences, place}
 use Rattle.laws.specs.Sums.Indicators.{less, same, more, order, one-eq, one-ne, one-lt, one-ge, one-le, one-sym}
 use Rattle.laws.specs.Sums.Ranges.{sum, sum-ext, sum-zero, sum-scale, sum-const, sum-swap, sum-at, sum-at-right, all-one}
-use Rattle.laws.specs.Sums.Lists.{sumOver-append, sumOver-split, sumOver-places}
+use Rattle.laws.specs.Sums.Lists.{sumOver-append, sumOver-split, sumOver-places, sumOver-upto, length-upto}
 
 -- the vertex at a place
 abbrev pub at : List ℕ → ℕ → ℕ
@@ -111,6 +111,19 @@ sum-hits n k =
   where
     none-hit : n ≤ k → sum n (λ v. one (eqb v k)) ≡ one (ltb k n)
     none-hit l = sum-zero n (λ v. one (eqb v k)) (λ v b. one-ne v k (λ e. omega arith)) ∙ sym (one-ge k n l)
+
+-- the numbers below n, rising, are an order
+pub upto-permutation : (n : ℕ) → Permutation n (upto n)
+unfolding occurrences
+upto-permutation n =
+    record {
+      size = length-upto n;
+      once = λ v h.
+          sumOver-upto (λ i. one (eqb v i)) n
+          ∙ sum-ext n (λ i. one (eqb v i)) (λ i. one (eqb i v)) (λ i l. one-sym v i)
+          ∙ sum-hits n v
+          ∙ one-lt v n h;
+    }
 
 -- the numbers below n occur as often as there are places that hold one
 pub occurrences-total : (n : ℕ) (o : List ℕ) → sum n (λ v. occurrences v o) ≡ sum (length o) (λ i. one (ltb (at o i) n))

@@ -15,8 +15,9 @@ use Rattle.model.specs.Histories.{Follow, ended, next, Sift, Round, butLast}
 use Rattle.laws.specs.Sums.Indicators.{less, same, more, order, one-le, one-eq, one-ne}
 use Rattle.laws.specs.Sums.Ranges.{term-le}
 use Rattle.laws.specs.Sums.Lists.{all-mono, all-map, all-below, sumOver-places}
+use Rattle.laws.specs.Sums.Any.{first-found}
 
--- ---- the least of a list, and the first entry with a test
+-- ---- the least of a list
 
 or-right : (a b : Bool) → T b → T (a || b)
 or-right true b t = tt
@@ -96,17 +97,6 @@ least-counted f k d xs i h e =
     ]
 
 module _ {A : Type 0} where
-  -- the first entry with the test has it, and whatever holds of each entry
-  pub first-found : {P : A → Type 0} (p : A → Bool) (d : A) {xs : List A} → All P xs → T (any p xs) → P (firstWith p d xs) × T (p (firstWith p d xs))
-  unfolding any firstWith
-  first-found p d none t = absurd t
-  first-found {P} p d (also {x} {xs} q qs) t = by-test (p x) refl t (first-found p d qs)
-    where
-      by-test : (b : Bool) → p x ≡ b → T (b || any p xs) → (T (any p xs) → P (firstWith p d xs) × T (p (firstWith p d xs)))
-          → P (cond b x (firstWith p d xs)) × T (p (cond b x (firstWith p d xs)))
-      by-test true e u r = (q, subst T (sym e) tt)
-      by-test false e u r = r u
-
   -- one more in front of all but the last
   but-last-more : (P : A → Type 0) (x : A) → P x → (xs : List A) → All P (butLast xs) → All P (butLast (x ∷ xs))
   unfolding butLast

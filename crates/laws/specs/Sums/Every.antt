@@ -1,8 +1,11 @@
 -- A test of every entry of a list, or of every number below n, against the entries one by one.
-use Prim.Native.Nat.{ℕ, _<_}
-use mathlib.Core.Path.{_≡_, refl, sym, ap, ap₂, subst}
+use Prim.Native.Nat.{ℕ, suc, _+_, _≤_, _<_}
+use native.Mathlib.Numerals.{add-one}
+use mathlib.Core.Path.{_≡_, refl, sym, ap, ap₂, _∙_, subst}
 use mathlib.Core.Bool.{Bool, true, false, cond, _&&_}
 use mathlib.Core.List.{List, [], _∷_}
+use lib.ListN.{length, getD, drop, drop-of-length-le}
+use lib.Seq.{drop-cons}
 use lib.Dec.{T}
 use Rattle.model.specs.Lists.{upto, every, keep}
 use Rattle.laws.specs.Sums.Indicators.{T-true, not-T-false, both-left, both-right}
@@ -20,6 +23,33 @@ module _ {A : Type 0} where
   unfolding every
   all-every p [] e = none
   all-every p (x ∷ xs) e = also (both-left (p x) (every p xs) e) (all-every p xs (both-right (p x) (every p xs) e))
+
+-- ---- every entry from a place on, one after the other
+
+-- those before place i have passed
+pub record PassedUpTo {A : Type 0} (p : A → Bool) (xs : List A) (from i : ℕ) : Type 0 where
+  pub rest : every p (drop from xs) ≡ every p (drop i xs)
+
+module _ {A : Type 0} {p : A → Bool} {xs : List A} {i : ℕ} where
+  pub passed-start : PassedUpTo p xs i i
+  passed-start = record { rest = refl }
+
+  module _ {from : ℕ} (u : PassedUpTo p xs from i) where
+    module _ (d : A) (h : i < length xs) where
+      -- what the next entry says
+      told : {b : Bool} → p (getD xs i d) ≡ b → every p (drop from xs) ≡ (b && every p (drop (suc i) xs))
+      unfolding every
+      told e = u .rest ∙ ap (every p) (drop-cons xs i d h) ∙ ap (λ (t : Bool). t && every p (drop (suc i) xs)) e
+
+      pub passed-next : p (getD xs i d) ≡ true → PassedUpTo p xs from (i + 1)
+      passed-next e = record { rest = told e ∙ ap (λ (k : ℕ). every p (drop k xs)) (sym (add-one i)) }
+
+      pub passed-not : p (getD xs i d) ≡ false → every p (drop from xs) ≡ false
+      passed-not e = told e
+
+    pub passed-end : length xs ≤ i → every p (drop from xs) ≡ true
+    unfolding every
+    passed-end h = u .rest ∙ ap (every p) (drop-of-length-le xs h)
 
 -- ---- every number below n
 

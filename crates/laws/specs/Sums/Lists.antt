@@ -6,7 +6,7 @@ use mathlib.Core.Path.{_≡_, refl, sym, ap, ap₂, _∙_, subst}
 use mathlib.Core.Bool.{Bool, true, false, not, cond, _&&_, and-comm}
 use mathlib.Core.List.{List, [], _∷_, _++_, map, flatMap, append-assoc}
 use lib.ListN.{length, getD, take, drop, length-append, length-drop, List·getD-append}
-use lib.Seq.{length-take-le, split-at, getD-at, getD-take, getD-drop}
+use lib.Seq.{take-all, length-take-le, split-at, getD-at, getD-take, getD-drop}
 use Rattle.model.specs.Lists.{one, upto, keep, sumOver, sumPairs}
 pub use Rattle.model.specs.Lists.{All, none, also}
 use Rattle.laws.specs.Sums.Indicators.{less, same, more, order}
@@ -130,6 +130,10 @@ module _ {A B : Type 0} where
   pub all-map : {P : A → Type 0} (Q : B → Type 0) (g : A → B) {xs : List A} → All P xs → ((x : A) → P x → Q (g x)) → All Q (map g xs)
   all-map Q g none h = none
   all-map Q g (also {x} p ps) h = also (h x p) (all-map Q g ps h)
+
+  pub map-ext : {P : A → Type 0} (f g : A → B) {xs : List A} → All P xs → ((x : A) → P x → f x ≡ g x) → map f xs ≡ map g xs
+  map-ext f g none h = refl
+  map-ext f g (also {x} p ps) h = ap₂ (λ (y : B) (ys : List B). y ∷ ys) (h x p) (map-ext f g ps h)
 
   pub all-flatMap : {P : A → Type 0} {Q : B → Type 0} (g : A → List B) {xs : List A} → All P xs → ((x : A) → P x → All Q (g x)) → All Q (flatMap g xs)
   unfolding flatMap
@@ -265,6 +269,10 @@ module _ {P : ℕ → Type 0} where
   all-drop zero a = a
   all-drop (suc j) none = none
   all-drop (suc j) (also p ps) = all-drop j ps
+
+-- all that is behind a place
+pub rest-whole : (s : List ℕ) (at : ℕ) → take (length s - at) (drop at s) ≡ drop at s
+rest-whole s at = take-all (length s - at) (drop at s) (omega (arith, length-drop at s))
 
 -- before a place, at it and behind it
 pub sumOver-split : (f : ℕ → ℕ) (o : List ℕ) (j : ℕ) → j < length o → sumOver f o ≡ sumOver f (take j o) + (f (getD o j 0) + sumOver f (drop (suc j) o))

@@ -1,7 +1,7 @@
 use borrow.Author.Needs.{needs}
 use mathlib.Core.Path.{_∙_, ap}
 use Rattle.model.specs.Charts.{fieldAnswer}
-use Rattle.passes.specs.Fields.{rest-whole}
+use Rattle.laws.specs.Sums.Lists.{rest-whole}
 use Rattle.passes.proofs.field_at.Statement.{statement}
 use Rattle.passes.proofs.field_at.Tie as tie
 

@@ -5,7 +5,8 @@ use mathlib.Core.Bool.{Bool}
 use lib.ListN.{length as len}
 use lib.Seq.{length-take-le}
 use Rattle.model.specs.Checks.{refusal}
-use Rattle.writer.specs.Answers.{asks, Asked, refused, inside, fits, written}
+use Rattle.writing.specs.Answers.{asks, refused}
+use Rattle.writer.specs.Answers.{ChartAsked, counted-is, inside, fits, chart-written}
 use Rattle.writer.proofs.write.Statement.{statement}
 use Rattle.writer.proofs.write.Tie as tie
 
@@ -27,17 +28,21 @@ start c = let lent = c .before in lent .before .before .before
 
 -- what the call has asked
 asked : (c : tie.After-write-refusal)
-    → let length = counted c in let s = start length .args in Asked (s .l) (s .buffer .now) (length .chart-length .result) (c .write-refusal .result)
+    → let length = counted c in let s = start length .args in ChartAsked (s .l) (s .buffer .now) (length .chart-length .result) (c .write-refusal .result)
 asked c =
     let length = counted c .chart-length in
     let size = len (start (counted c) .args .buffer .now) in
     record {
+      asked =
+          record {
+            measured = λ t. length .ensures ∙ counted-is _ t;
+            told = c .write-refusal .ensures ∙ ap (λ (b : Bool). refusal (asks b (length .result) size)) (c .before .is-valid .ensures);
+          };
       measured = length .ensures;
-      told = c .write-refusal .ensures ∙ ap (λ (b : Bool). refusal (asks b (length .result) size)) (c .before .is-valid .ensures);
     }
 
 returns : tie.Need-returns
-returns c = refused (asked (c .before)) (c .if1 .taken)
+returns c = refused (asked (c .before) .asked) (c .if1 .taken)
 
 -- the order has 64 places
 places : (c : tie.Start) → len (c .args .l .order) ≡ 64
@@ -69,7 +74,7 @@ returns-2 : tie.Need-returns-2
 returns-2 c =
     let put = c .before .before in
     let at = passed (put .before .before) in
-    written (asked (at .before)) (at .if1 .left) (places (start (counted (at .before)))) (put .put-chart .ensures)
+    chart-written (asked (at .before)) (at .if1 .left) (places (start (counted (at .before)))) (put .put-chart .ensures)
 
 pub write-spec : {M : Type 1} → statement M
 write-spec =

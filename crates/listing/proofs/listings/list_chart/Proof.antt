@@ -1,7 +1,7 @@
 use borrow.Author.Needs.{needs}
 use native.Mathlib.Omega.{arith}
 use mathlib.Core.Path.{sym, ap, _∙_}
-use Rattle.model.specs.declared.ChartRead.{ChartRead}
+use Rattle.model.specs.declared.LayoutRead.{LayoutRead}
 use Rattle.model.specs.Lists.{upto}
 use Rattle.model.specs.Listing.{text, line}
 use Rattle.chart.specs.Laws.{read-valid}
@@ -46,7 +46,7 @@ list-layout-requires c κs =
     let accepted = c .before .before in
     let read = accepted .before in
     let same = read .read .ensures in
-    let good = read-valid (start read .args .bytes .now) (ap (λ (r : ChartRead). r .refusal) (sym same) ∙ accepted .if2 .left) in
+    let good = read-valid (start read .args .bytes .now) (ap (λ (r : LayoutRead). r .refusal) (sym same) ∙ accepted .if2 .left) in
     (rw same (good .0), rw same (good .1), read .before .if1 .left)
 
 same-length-2 : tie.Need-same-length-2

@@ -7,10 +7,7 @@ use mathlib.Core.Path.{_≡_, refl, sym, ap, _∙_}
 use mathlib.Core.List.{List, [], _∷_, _++_}
 use lib.ListN.{length, getD, take, drop, replicate, length-append, length-replicate, getD-replicate, List·getD-append, List·getD-eq-default}
 use lib.Seq.{take-length, length-take-le, getD-take, getD-append-add}
-
--- the first 64 of a list, filled up with 0
-abbrev pub padded : List ℕ → List ℕ
-padded o = take 64 (o ++ replicate 64 0)
+pub use Rattle.model.specs.Charts.{padded}
 
 pub padded-length : (o : List ℕ) → length (padded o) ≡ 64
 padded-length o = length-take-le 64 (o ++ replicate 64 0) (omega (arith, length-append o (replicate 64 0), length-replicate {A = ℕ} 64 0))

@@ -2,8 +2,8 @@ use borrow.Author.Needs.{needs}
 use mathlib.Core.Path.{sym, ap}
 use Rattle.model.specs.declared.SizeFound.{SizeFound}
 use Rattle.model.specs.Charts.{sizeFound, accept, refuse}
-use Rattle.chart.proofs.size_code.Statement.{statement}
-use Rattle.chart.proofs.size_code.Tie as tie
+use Rattle.readers.proofs.size_code.Statement.{statement}
+use Rattle.readers.proofs.size_code.Tie as tie
 
 enum-told : tie.Need-enum-told
 enum-told c = search needs

@@ -3,8 +3,8 @@ use mathlib.Core.Path.{refl}
 use borrow.Author.Tests.{le-leb, lt-leb}
 use Rattle.model.specs.Checks.{refusal}
 use Rattle.laws.specs.Sums.Indicators.{test-held, test-failed}
-use Rattle.writer.proofs.write_refusal.Statement.{statement}
-use Rattle.writer.proofs.write_refusal.Tie as tie
+use Rattle.writing.proofs.write_refusal.Statement.{statement}
+use Rattle.writing.proofs.write_refusal.Tie as tie
 
 returns : tie.Need-returns
 unfolding refusal

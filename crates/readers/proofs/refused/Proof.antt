@@ -1,9 +1,9 @@
 use borrow.Author.Needs.{needs}
 use mathlib.Core.Path.{ap}
 use Rattle.model.specs.declared.Layout.{Layout}
-use Rattle.chart.specs.Reading.{refusedRead}
-use Rattle.chart.proofs.refused.Statement.{statement}
-use Rattle.chart.proofs.refused.Tie as tie
+use Rattle.readers.specs.Passes.{refusedRead}
+use Rattle.readers.proofs.refused.Statement.{statement}
+use Rattle.readers.proofs.refused.Tie as tie
 
 empty-requires : tie.Need-empty-requires
 empty-requires c κs = search needs

@@ -1,0 +1,115 @@
+-- What an import gives (document 02, Note 4): a valid layout in the order 0, 1, 2 and so on, with its true crossings.
+use Prim.Native.Nat.{ℕ, _≤_}
+use mathlib.Core.Path.{_≡_, sym, ap, _∙_, subst}
+use mathlib.Core.Bool.{true}
+use mathlib.Core.List.{List}
+use lib.ListN.{length, drop}
+use lib.Dec.{T, eqb, lit<}
+use borrow.Author.Tests.{eq-eqb, eqb-true}
+use Rattle.model.specs.declared.Layout.{Layout}
+use Rattle.model.specs.declared.LayoutRead.{LayoutRead}
+use Rattle.model.specs.Lists.{upto, every}
+use Rattle.model.specs.Layouts.{vertexOrder, crossingsOf, eachOnce, valid}
+use Rattle.model.specs.Checks.{refusal}
+use Rattle.model.specs.Graph6.{holdsSix, bytesFor, pairsByHigher, unpacked, startsWithSize, graph6Size, graph6Data, graph6Edges, graph6SizeChecks}
+use Rattle.model.specs.Graph6.{dataChecks, paddingChecks, graph6Checks, graph6Layout, importOf}
+use Rattle.laws.specs.Sums.Indicators.{T-true, both-left, both-right}
+use Rattle.laws.specs.Sums.Lists.{All, none, also, length-upto}
+use Rattle.laws.specs.Orders.Permutations.{upto-permutation}
+use Rattle.laws.specs.Layouts.Sizes.{Sized}
+use Rattle.laws.specs.Layouts.Validity.{permutation-eachOnce}
+use Rattle.laws.specs.Layouts.Refusals.{Numbered, all-pass}
+use Rattle.laws.specs.Graph6.Pairs.{chosen-within}
+use Rattle.laws.specs.Graph6.Sizes.{size-accepted, size-found}
+use Rattle.bodies.specs.Words.{adjacency-length}
+use Rattle.readers.specs.Padded.{padded-length}
+use Rattle.readers.specs.Layouts.{Accepted, front, valid-read, count-true}
+use Rattle.readers.specs.Passes.{acceptedRead, refusedRead, read-as-number, read-as-accepted, read-as-refused, read-as-sized}
+
+pub import-number : (s : List ℕ) → importOf s .refusal ≡ refusal (graph6Checks s)
+unfolding importOf
+import-number s = read-as-number (graph6Checks s) (graph6Layout s)
+
+pub import-is : (s : List ℕ) → importOf s .refusal ≡ 0 → importOf s ≡ acceptedRead (graph6Layout s)
+unfolding importOf
+import-is s e = read-as-accepted (graph6Checks s) (graph6Layout s) e
+
+pub import-refused : (s : List ℕ) → (importOf s .refusal ≡ 0 → ⊥) → importOf s ≡ refusedRead (importOf s .refusal)
+unfolding importOf
+import-refused s d = read-as-refused (graph6Checks s) (graph6Layout s) d
+
+-- the arrays of a layout that is imported have their places
+pub imported-sized : (s : List ℕ) → Sized (importOf s .layout)
+unfolding importOf graph6Layout
+imported-sized s =
+    read-as-sized (graph6Checks s) (graph6Layout s)
+    (record { places = padded-length (upto (graph6Size s)); words = adjacency-length (graph6Edges (graph6Size s) (graph6Data s)) })
+
+numbered : (s : List ℕ) → Numbered (graph6Checks s)
+unfolding graph6Checks graph6SizeChecks dataChecks paddingChecks
+numbered s = also (lit< tt) (also (lit< tt) (also (lit< tt) none))
+
+-- ---- an accepted import
+
+-- what the questions ask: a size part, then as many bytes as the pairs take, each of six bits, and no padding bit set
+pub record Graph6 (s : List ℕ) : Type 0 where
+  pub few : graph6Size s ≤ 64
+  pub starts : startsWithSize s (graph6Size s) ≡ true
+  pub long : length (graph6Data s) ≡ bytesFor (length (pairsByHigher (graph6Size s)))
+  pub six : every holdsSix (graph6Data s) ≡ true
+  pub unset : every (eqb 0) (drop (length (pairsByHigher (graph6Size s))) (unpacked (graph6Data s))) ≡ true
+
+pub all-asked : {s : List ℕ} → Graph6 s → refusal (graph6Checks s) ≡ 0
+unfolding graph6Checks graph6SizeChecks dataChecks paddingChecks refusal
+all-asked {s} g =
+    rw (
+      size-found s (graph6Size s) (g .few) (g .starts) .0,
+      eq-eqb (length (graph6Data s)) (bytesFor (length (pairsByHigher (graph6Size s)))) (g .long),
+      g .six,
+      g .unset,
+    )
+
+-- the edges that some bytes give, in the order 0, 1, 2 and so on
+pub edges-accepted : (n : ℕ) (bytes : List ℕ) → n ≤ 64 → Accepted n (graph6Edges n bytes) (upto n)
+unfolding graph6Edges
+edges-accepted n bytes few =
+    record {
+      few = few;
+      within = chosen-within (unpacked bytes) n;
+      long = length-upto n;
+      each = T-true (eachOnce n (upto n)) (permutation-eachOnce (upto-permutation n));
+    }
+
+module _ (s : List ℕ) (e : importOf s .refusal ≡ 0) where
+  pub imported-graph6 : Graph6 s
+  unfolding graph6Checks graph6SizeChecks dataChecks paddingChecks
+  imported-graph6 = from (all-pass (numbered s) (sym (import-number s) ∙ e))
+    where
+      from : All (λ c. c .passes ≡ true) (graph6Checks s) → Graph6 s
+      from (also size (also bytes (also padding none))) =
+          let long = eqb (length (graph6Data s)) (bytesFor (length (pairsByHigher (graph6Size s)))) in
+          let six = every holdsSix (graph6Data s) in
+          record {
+            few = size-accepted s size .0;
+            starts = size-accepted s size .1;
+            long = eqb-true (length (graph6Data s)) (bytesFor (length (pairsByHigher (graph6Size s)))) (both-left long six bytes);
+            six = both-right long six bytes;
+            unset = padding;
+          }
+
+  accepted : Accepted (graph6Size s) (graph6Edges (graph6Size s) (graph6Data s)) (upto (graph6Size s))
+  accepted = edges-accepted (graph6Size s) (graph6Data s) (imported-graph6 .few)
+
+  layout-is : importOf s .layout ≡ graph6Layout s
+  layout-is = ap (λ (r : LayoutRead). r .layout) (import-is s e)
+
+  -- "and the true count"
+  pub imported-valid : T (valid (importOf s .layout)) × (importOf s .layout .count ≡ crossingsOf (importOf s .layout))
+  unfolding graph6Layout
+  imported-valid =
+      subst (λ (l : Layout). T (valid l) × (l .count ≡ crossingsOf l)) (sym layout-is) (valid-read accepted, count-true accepted)
+
+  -- "gives the order 0, 1, 2 and so on"
+  pub imported-order : vertexOrder (importOf s .layout) ≡ upto (importOf s .layout .n)
+  unfolding graph6Layout vertexOrder
+  imported-order = subst (λ (l : Layout). vertexOrder l ≡ upto (l .n)) (sym layout-is) (front accepted)
