@@ -1,0 +1,2 @@
+-- Bits: the pairs packed one after the other.
+pub mod Bits
