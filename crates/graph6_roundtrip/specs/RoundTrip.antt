@@ -1,0 +1,183 @@
+-- Graphs exported and imported, and imported and exported (document 02, Note 4).
+use Prim.Native.Nat.{ℕ, _≤_}
+use native.Mathlib.Omega.{arith}
+use mathlib.Core.Path.{_≡_, sym, ap, ap₂, _∙_}
+use mathlib.Core.Bool.{true}
+use mathlib.Core.List.{List, _++_}
+use lib.ListN.{length, getD, take, drop, List·getD-eq-default}
+use lib.Seq.{drop-append-seam}
+use lib.Dec.{T, eqb}
+use Rattle.model.specs.declared.Layout.{Layout}
+use Rattle.model.specs.declared.LayoutRead.{LayoutRead}
+use Rattle.model.specs.Lists.{upto, every, keep}
+use Rattle.model.specs.Crossings.{linked, edges, crossings}
+use Rattle.model.specs.Layouts.{valid}
+use Rattle.model.specs.Charts.{layoutWith}
+use Rattle.model.specs.Writing.{writeOf, writtenBytes}
+use Rattle.model.specs.Graph6.{bytesFor, packed, unpacked, sizePart, pairsByHigher, pairBits, graph6Of, startsWithSize, graph6Size, graph6Data}
+use Rattle.model.specs.Graph6.{graph6Edges, graph6Layout, importOf, inRisingOrder}
+use Rattle.laws.specs.Sums.Lists.{All}
+use Rattle.laws.specs.Layouts.Sizes.{Sized}
+use Rattle.laws.specs.Layouts.Validity.{sound}
+use Rattle.laws.specs.Buffers.Formats.{write-accepted, write-accepts, written-front}
+use Rattle.laws.specs.Graph6.Packing.{packedIn, packedIn-same, unpacked-length, unpacked-bits}
+use Rattle.laws.specs.Graph6.Pairs.{chosen-ext, pairBits-bits, pairBits-length}
+use Rattle.laws.specs.Graph6.Sizes.{size-starts, starts-with, size-found}
+use Rattle.bodies.specs.Words.{adjacencyOf}
+use Rattle.readers.specs.Padded.{padded}
+use Rattle.readers.specs.Passes.{acceptedRead}
+use Rattle.readers.specs.Graph6.{Graph6, all-asked, import-number, import-is, imported-graph6, imported-valid}
+use Rattle.chart.specs.Laws.{same-words}
+use Rattle.chart.specs.Sequence.{same-member}
+use Rattle.roundtrip.specs.EdgeLists.{edges-words}
+use Rattle.graph6_roundtrip.specs.Bits.{Six, all-six, six-all, unset-from, unpadded, unpacked-packed, packed-unpacked}
+use Rattle.graph6_roundtrip.specs.Edges.{own-chosen, own-edges, chosen-bits}
+use Rattle.graph6_roundtrip.specs.Exports.{bitBytes, export-parts, bit-bytes-length, bit-bytes-six}
+
+-- ---- exported and imported
+
+-- a size, and as many bytes of six bits as the pairs take, no padding bit set
+module _ {n : ℕ} {bytes : List ℕ} (few : n ≤ 64) (long : length bytes ≡ bytesFor (length (pairsByHigher n))) (six : All Six bytes)
+    (unset : every (eqb 0) (drop (length (pairsByHigher n)) (unpacked bytes)) ≡ true) where
+  graph : List ℕ
+  graph = sizePart n ++ bytes
+
+  size-is : graph6Size graph ≡ n
+  unfolding graph
+  size-is = size-found graph n few (size-starts n bytes) .1
+
+  data-is : graph6Data graph ≡ bytes
+  unfolding graph6Data graph
+  data-is = ap (λ (k : ℕ). drop (length (sizePart k)) graph) size-is ∙ drop-append-seam (sizePart n) bytes
+
+  is-graph6 : Graph6 graph
+  unfolding graph
+  is-graph6 =
+      record {
+        few = rw size-is few;
+        starts = ap (startsWithSize graph) size-is ∙ size-starts n bytes;
+        long = rw (size-is, data-is) long;
+        six = rw data-is (six-all six);
+        unset = rw (size-is, data-is) unset;
+      }
+
+  parts-imported : importOf (sizePart n ++ bytes) ≡ record { refusal = 0; layout = layoutWith n (graph6Edges n bytes) (upto n) }
+  unfolding graph graph6Layout
+  parts-imported = import-is graph (import-number graph ∙ all-asked is-graph6) ∙ rw (size-is, data-is)
+
+-- the bits that are packed and unpacked again are those of the graph, and 0 behind them
+module _ (n : ℕ) (adj : List ℕ) where
+  bits-again : (k : ℕ) → getD (unpacked (bitBytes n adj)) k 0 ≡ getD (pairBits n adj) k 0
+  unfolding bitBytes bytesFor
+  bits-again = unpacked-packed (bytesFor (length (pairsByHigher n))) (pairBits-bits n adj) (omega (arith, pairBits-length n adj))
+
+  padding-unset : every (eqb 0) (drop (length (pairsByHigher n)) (unpacked (bitBytes n adj))) ≡ true
+  padding-unset =
+      unset-from (length (pairsByHigher n)) (unpacked (bitBytes n adj))
+      (λ i h. bits-again i ∙ List·getD-eq-default (pairBits n adj) 0 (omega (arith, pairBits-length n adj)))
+
+  -- they choose the pairs that are joined
+  edges-again : graph6Edges n (bitBytes n adj) ≡ keep (λ e. linked adj (e .low) (e .high)) (pairsByHigher n)
+  unfolding graph6Edges pairBits
+  edges-again =
+      chosen-ext (unpacked (bitBytes n adj)) (pairBits n adj) (pairsByHigher n) bits-again
+      ∙ own-chosen (λ e. linked adj (e .low) (e .high)) (pairsByHigher n)
+
+-- "Export then import keeps n and every link": all of the layout but its order and its count
+pub exported-imported : (l : Layout) → Sized l → T (valid l) → importOf (graph6Of l) ≡ record { refusal = 0; layout = inRisingOrder l }
+unfolding inRisingOrder
+exported-imported l s t =
+    let n = l .n in
+    let adj = l .adjacency in
+    let whole = sound l t in
+    ap importOf (export-parts l)
+    ∙ parts-imported (whole .small) (bit-bytes-length n adj) (bit-bytes-six n adj) (padding-unset n adj)
+    ∙ ap read-as
+    (ap adjacencyOf (edges-again n adj)
+    ∙ same-words (keep (λ e. linked adj (e .low) (e .high)) (pairsByHigher n)) (edges n adj) (same-member (own-edges n adj))
+    ∙ edges-words n adj (whole .symmetry) (whole .bits) (whole .unused) (whole .small) (s .words))
+  where
+    read-as : List ℕ → LayoutRead
+    read-as adj =
+        record {
+          refusal = 0;
+          layout = record { n = l .n; order = padded (upto (l .n)); adjacency = adj; count = crossings (l .n) (upto (l .n)) adj };
+        }
+
+-- in plain terms
+pub links-kept : (l : Layout) → Sized l → T (valid l)
+    → (importOf (graph6Of l) .layout .n ≡ l .n) × ((u v : ℕ) → linked (importOf (graph6Of l) .layout .adjacency) u v ≡ linked (l .adjacency) u v)
+unfolding inRisingOrder
+links-kept l s t =
+    let same = exported-imported l s t in
+    (ap (λ (r : LayoutRead). r .layout .n) same, λ u v. ap (λ (r : LayoutRead). linked (r .layout .adjacency) u v) same)
+
+-- so with the call itself: where it is accepted, as many bytes of the buffer as it answers are imported so
+pub export-then-import : (l : Layout) (buffer : List ℕ) → Sized l → writeOf graph6Of l buffer .refusal ≡ 0
+    → importOf (take (writeOf graph6Of l buffer .length) (writtenBytes graph6Of l buffer)) ≡ record { refusal = 0; layout = inRisingOrder l }
+export-then-import l buffer s e =
+    ap importOf (written-front graph6Of l buffer e) ∙ exported-imported l s (write-accepted graph6Of l buffer e .0)
+
+-- ---- imported and exported
+
+module _ {s : List ℕ} (g : Graph6 s) where
+  -- the bits of the graph that is imported, without the padding
+  bits-are : pairBits (graph6Size s) (adjacencyOf (graph6Edges (graph6Size s) (graph6Data s)))
+      ≡ take (length (pairsByHigher (graph6Size s))) (unpacked (graph6Data s))
+  unfolding graph6Edges bytesFor
+  bits-are = chosen-bits (g .few) (unpacked-bits (graph6Data s)) (omega (arith, unpacked-length (graph6Data s), g .long))
+
+  bytes-again : bitBytes (graph6Size s) (adjacencyOf (graph6Edges (graph6Size s) (graph6Data s))) ≡ graph6Data s
+  unfolding bitBytes
+  bytes-again =
+      let pairs = length (pairsByHigher (graph6Size s)) in
+      let bits = unpacked (graph6Data s) in
+      ap (packedIn (bytesFor pairs)) bits-are
+      ∙ packedIn-same (bytesFor pairs) (take pairs bits) bits (unpadded pairs bits (g .unset))
+      ∙ ap (λ (m : ℕ). packedIn m bits) (sym (g .long))
+      ∙ packed-unpacked (all-six (graph6Data s) (g .six))
+
+  layout-exported : graph6Of (graph6Layout s) ≡ s
+  unfolding graph6Layout graph6Data
+  layout-exported =
+      export-parts (graph6Layout s)
+      ∙ ap (λ (x : List ℕ). sizePart (graph6Size s) ++ x) bytes-again
+      ∙ sym (starts-with s (graph6Size s) (g .starts))
+
+-- "an accepted import, then export, keeps every byte"
+pub imported-exported : (s : List ℕ) → importOf s .refusal ≡ 0 → graph6Of (importOf s .layout) ≡ s
+imported-exported s e = ap (λ (r : LayoutRead). graph6Of (r .layout)) (import-is s e) ∙ layout-exported (imported-graph6 s e)
+
+-- so with the call itself, into a buffer that is long enough: "it answers its length and keeps buffer bytes beyond it"
+pub import-then-export : (s buffer : List ℕ) → importOf s .refusal ≡ 0 → length s ≤ length buffer
+    → (writeOf graph6Of (importOf s .layout) buffer ≡ record { refusal = 0; length = length s })
+    × (writtenBytes graph6Of (importOf s .layout) buffer ≡ s ++ drop (length s) buffer)
+import-then-export s buffer e room =
+    let same = imported-exported s e in
+    let call = write-accepts graph6Of (importOf s .layout) buffer (imported-valid s e .0) (omega (arith, ap length same)) in (
+      call .0 ∙ ap (λ (x : List ℕ). record { refusal = 0; length = length x }) same,
+      call .1 ∙ ap (λ (x : List ℕ). x ++ drop (length x) buffer) same,
+    )
+
+-- ---- what follows
+
+-- an accepted import, exported and imported again, is the same layout with the same count
+pub imported-again : (s : List ℕ) → importOf s .refusal ≡ 0 → importOf (graph6Of (importOf s .layout)) ≡ importOf s
+imported-again s e = ap importOf (imported-exported s e)
+
+-- two accepted inputs that give the same layout are the same bytes
+pub imports-tell : (s t : List ℕ) → importOf s .refusal ≡ 0 → importOf t .refusal ≡ 0 → importOf s .layout ≡ importOf t .layout → s ≡ t
+imports-tell s t p q e = sym (imported-exported s p) ∙ ap graph6Of e ∙ imported-exported t q
+
+-- "Export drops the order": layouts of the same vertices and edges have the same export, whatever their orders and counts
+pub order-dropped : (l m : Layout) → l .n ≡ m .n → l .adjacency ≡ m .adjacency → graph6Of l ≡ graph6Of m
+unfolding graph6Of
+order-dropped l m sizes words = ap₂ (λ (n : ℕ) (adj : List ℕ). sizePart n ++ packed (pairBits n adj)) sizes words
+
+-- and the export tells the vertices and the edges
+pub exports-tell : (l m : Layout) → Sized l → T (valid l) → Sized m → T (valid m) → graph6Of l ≡ graph6Of m → (l .n ≡ m .n) × (l .adjacency ≡ m .adjacency)
+unfolding inRisingOrder
+exports-tell l m s t r u e = (ap (λ (x : LayoutRead). x .layout .n) same, ap (λ (x : LayoutRead). x .layout .adjacency) same)
+  where
+    same : acceptedRead (inRisingOrder l) ≡ acceptedRead (inRisingOrder m)
+    same = sym (exported-imported l s t) ∙ ap importOf e ∙ exported-imported m r u
