@@ -15,7 +15,8 @@ use Rattle.model.specs.declared.Call.the-variants as call
 use Rattle.model.specs.Lists.{one, sumOver, All, none, also}
 use Rattle.model.specs.Layouts.{crossingsOf, valid}
 use Rattle.model.specs.Sifting.{optimaOf, siftOf, siftRound, roundOf, roundsUpTo, settleOf}
-use Rattle.model.specs.Histories.{Start, empty, read, Step, Sift, Round, Follow, ended, next, outcome, ofAdded, ofChanged, ofAppended, ofSifted, ofRounded}
+use Rattle.model.specs.Histories.{Start, empty, read, imported, Step, Sift, Round, Follow, ended, next}
+use Rattle.model.specs.Histories.{outcome, ofAdded, ofChanged, ofAppended, ofSifted, ofRounded}
 use Rattle.model.specs.Histories.{ofConverged, answerOf, accepted, roundsOfStep, siftsOfStep}
 use Rattle.model.specs.Histories.{butLast, sifting, siftCalled, roundsOfCall, siftsOfRound, roundsDue, saysConverged}
 use Rattle.model.specs.Histories.{roundOn, optimaTold, LocalMinimum}
@@ -34,6 +35,7 @@ use Rattle.chart.specs.Laws.{read-sized}
 use Rattle.laws.specs.Append.Calls.{lay-sized}
 use Rattle.laws.specs.Sifting.Calls.{sift-sized, round-sized}
 use Rattle.laws.specs.Sifting.Calls.{settle-sized}
+use Rattle.readers.specs.Graph6.{imported-valid, imported-sized}
 use Rattle.chart.specs.Laws.{empty-valid, empty-count, read-valid}
 
 -- what an accepted call gives
@@ -223,6 +225,7 @@ call-keeps l (call.Converge limit) r = right-kept r (settle-keeps l limit) (sett
 pub start-right : {l : Layout} → Start l → Right l
 start-right empty = record { is-valid = empty-valid; sized = empty-sized; counted = empty-count }
 start-right (read s e) = record { is-valid = read-valid s e .0; sized = read-sized s; counted = read-valid s e .1 }
+start-right (imported s e) = record { is-valid = imported-valid s e .0; sized = imported-sized s; counted = imported-valid s e .1 }
 
 -- ---- a refused call answers its refusal code and gives the layout back
 

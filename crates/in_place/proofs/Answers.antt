@@ -34,7 +34,7 @@ use Rattle.model.specs.declared.Layout.{Layout}
 use Rattle.model.proofs.Layout as L
 use Rattle.model.proofs.Layout.Laws as L′
 use Rattle.model.proofs.Changed as Changed
-use Rattle.model.proofs.ChartRead as ChartRead
+use Rattle.model.proofs.LayoutRead as LayoutRead
 use Rattle.model.proofs.Added as Added
 use Rattle.model.proofs.AddReport as AddReport
 use Rattle.model.proofs.Appended as Appended
@@ -188,9 +188,9 @@ changed =
     code-only Changed.the-type Changed.Laws.the-laws tnil (λ r. r .refusal) (λ r. r .layout) (λ r. vnil) refl (λ r. refl)
     (λ r all. (all .1 .0, all .0))
 
-abbrev pub chart-read : Answer ChartRead.the-row u8
+abbrev pub chart-read : Answer LayoutRead.the-row u8
 chart-read =
-    code-only ChartRead.the-type ChartRead.Laws.the-laws tnil (λ r. r .refusal) (λ r. r .layout) (λ r. vnil) refl (λ r. refl)
+    code-only LayoutRead.the-type LayoutRead.Laws.the-laws tnil (λ r. r .refusal) (λ r. r .layout) (λ r. vnil) refl (λ r. refl)
     (λ r all. (all .1 .0, all .0))
 
 -- ---- the refusal code and numbers

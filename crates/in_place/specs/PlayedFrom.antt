@@ -9,11 +9,11 @@ use Rattle.model.specs.Playing.{startOf, playedCalls, playOf, tableOf}
 use Rattle.history.specs.Demand3.{Demand3}
 
 -- what is returned, the table at exit, and the claim over the calls played
-abbrev Promised : (chart calls table : List ℕ) → Played → List ℕ → Origin → Type 0
-Promised chart calls table r after from =
-    (r ≡ playOf from chart calls (length table))
-    × ((after ≡ tableOf from chart calls table) × Demand3 (startOf from chart .layout) (playedCalls from chart calls (length table)))
+abbrev Promised : (bytes calls table : List ℕ) → Played → List ℕ → Origin → Type 0
+Promised bytes calls table r after from =
+    (r ≡ playOf from bytes calls (length table))
+    × ((after ≡ tableOf from bytes calls table) × Demand3 (startOf from bytes .layout) (playedCalls from bytes calls (length table)))
 
-pub played-from : (chart calls table : List ℕ) {r : Played} {after : List ℕ} {from to : Origin}
-    → from ≡ to → Promised chart calls table r after from → Promised chart calls table r after to
-played-from chart calls table {r} {after} = subst (Promised chart calls table r after)
+pub played-from : (bytes calls table : List ℕ) {r : Played} {after : List ℕ} {from to : Origin}
+    → from ≡ to → Promised bytes calls table r after from → Promised bytes calls table r after to
+played-from bytes calls table {r} {after} = subst (Promised bytes calls table r after)

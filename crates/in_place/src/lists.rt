@@ -1,11 +1,9 @@
 // The empty layout, a chart's listing, and lists of calls, for hosts: no lent layout.
 ghost use mathlib.Core.Path.{_≡_};
-ghost use mathlib.Core.Bool.{cond};
 ghost use lib.ListN.{length};
-ghost use Rattle.model.specs.declared.Origin.the-variants.{Empty, Chart};
 ghost use Rattle.model.specs.Layouts.{emptyLayout};
 ghost use Rattle.model.specs.Listing.{listedLength, listedBytes};
-ghost use Rattle.model.specs.Playing.{startOf, playedCalls, playOf, tableOf};
+ghost use Rattle.model.specs.Playing.{startOf, originOf, playedCalls, playOf, tableOf};
 ghost use Rattle.history.specs.Demand3.{Demand3};
 use model::Layout;
 use model::Origin;
@@ -26,29 +24,25 @@ pub extern "C" fn rl_list_chart(chart: &[u8], out: &mut [u8]) -> usize
     listing::list_chart(chart, out)
 }
 
-// Plays a list of calls from the chart, or from the empty layout.
+// Plays a list of calls: from the bytes as a chart where origin is 1, from them as a graph in graph6
+// where it is 2, and otherwise from the empty layout.
 #[no_mangle]
-pub extern "C" fn rl_play(
-    from_chart: bool,
-    chart: &[u8],
-    calls: &[u64],
-    answers: &mut [u64],
-) -> Played
-    ensures { λ r. ⌜ r ≡ playOf (cond «from_chart» Chart Empty) (now (chart .entry)) (now (calls .entry)) (length (now (answers .entry))) ⌝ }
-    ensures { λ r. ⌜ now (answers .exit) ≡ tableOf (cond «from_chart» Chart Empty) (now (chart .entry)) (now (calls .entry)) (now (answers .entry)) ⌝ }
-    ensures claim { λ r. ⌜ Demand3 (startOf (cond «from_chart» Chart Empty) (now (chart .entry)) .layout)
-        (playedCalls (cond «from_chart» Chart Empty) (now (chart .entry)) (now (calls .entry)) (length (now (answers .entry)))) ⌝ }
+pub extern "C" fn rl_play(origin: u8, bytes: &[u8], calls: &[u64], answers: &mut [u64]) -> Played
+    ensures { λ r. ⌜ r ≡ playOf (originOf origin) (now (bytes .entry)) (now (calls .entry)) (length (now (answers .entry))) ⌝ }
+    ensures { λ r. ⌜ now (answers .exit) ≡ tableOf (originOf origin) (now (bytes .entry)) (now (calls .entry)) (now (answers .entry)) ⌝ }
+    ensures claim { λ r. ⌜ Demand3 (startOf (originOf origin) (now (bytes .entry)) .layout)
+        (playedCalls (originOf origin) (now (bytes .entry)) (now (calls .entry)) (length (now (answers .entry)))) ⌝ }
 {
-    let origin = origin_of(from_chart);
-    playing::play(origin, chart, calls, answers)
+    let from = origin_of(origin);
+    playing::play(from, bytes, calls, answers)
 }
 
-fn origin_of(from_chart: bool) -> Origin
-    ensures { λ r. ⌜ r ≡ cond «from_chart» Chart Empty ⌝ }
+fn origin_of(number: u8) -> Origin
+    ensures { λ r. ⌜ r ≡ originOf number ⌝ }
 {
-    if from_chart {
-        Origin::Chart
-    } else {
-        Origin::Empty
+    match number {
+        1 => Origin::Chart,
+        2 => Origin::Graph6,
+        _ => Origin::Empty,
     }
 }

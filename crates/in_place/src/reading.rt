@@ -3,11 +3,12 @@ ghost use mathlib.Core.Path.{_≡_};
 ghost use Rattle.model.specs.Layouts.{valid};
 ghost use Rattle.model.specs.Reading.{countOf, orderRefusal, orderBytes};
 ghost use Rattle.model.specs.Reports.{readOver, crossingReportOf};
-ghost use Rattle.model.specs.WrittenCharts.{writeOf, writtenBytes};
-use model::ChartWritten;
+ghost use Rattle.model.specs.Writing.{writeOf, writtenBytes};
+ghost use Rattle.model.specs.WrittenCharts.{chartOf};
 use model::Counted;
 use model::CrossingReport;
 use model::Layout;
+use model::LayoutWritten;
 use reports::crossing_report;
 use reports::read_over;
 
@@ -53,9 +54,9 @@ pub extern "C" fn rl_order(l: &Layout, buffer: &mut [u8]) -> u8
 
 // Writes the layout's chart to the start of the buffer, and answers its length.
 #[no_mangle]
-pub extern "C" fn rl_write_chart(l: &Layout, buffer: &mut [u8]) -> ChartWritten
-    ensures { λ r. ⌜ (r ≡ writeOf (now (l .entry)) (now (buffer .entry)))
-        × (now (buffer .exit) ≡ writtenBytes (now (l .entry)) (now (buffer .entry))) ⌝ }
+pub extern "C" fn rl_write_chart(l: &Layout, buffer: &mut [u8]) -> LayoutWritten
+    ensures { λ r. ⌜ (r ≡ writeOf chartOf (now (l .entry)) (now (buffer .entry)))
+        × (now (buffer .exit) ≡ writtenBytes chartOf (now (l .entry)) (now (buffer .entry))) ⌝ }
 {
     writer::write(*l, buffer)
 }

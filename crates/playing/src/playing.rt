@@ -1,4 +1,4 @@
-// A list of calls played from the empty layout or from a chart.
+// A list of calls played from the empty layout, from a chart or from a graph in graph6.
 ghost use mathlib.Core.Path.{_≡_};
 ghost use mathlib.Core.List.{_++_};
 ghost use Prim.Native.Nat.{_+_, _*_, _≤_};
@@ -12,22 +12,22 @@ use encoding::call_at;
 use encoding::count_calls;
 use encoding::put_answer;
 use model::ANSWER_WIDTH;
-use model::ChartRead;
 use model::Decoded;
 use model::Layout;
+use model::LayoutRead;
 use model::Origin;
 use model::Played;
 use steps::step;
 
-// Plays the calls, and writes the answer of each into the table. Refused where the chart is, and with
-// 18 where the table is too short for the answers: nothing is then played or written.
-pub fn play(origin: Origin, chart: &[u8], calls: &[u64], answers: &mut [u64]) -> Played
-    ensures returned { λ r. ⌜ r ≡ playOf origin (now (chart .entry)) (now (calls .entry)) (length (now (answers .entry))) ⌝ }
-    ensures table { λ r. ⌜ now (answers .exit) ≡ tableOf origin (now (chart .entry)) (now (calls .entry)) (now (answers .entry)) ⌝ }
-    ensures claim { λ r. ⌜ Demand3 (startOf origin (now (chart .entry)) .layout)
-        (playedCalls origin (now (chart .entry)) (now (calls .entry)) (length (now (answers .entry)))) ⌝ }
+// Plays the calls, and writes the answer of each into the table. Refused where the chart or graph is,
+// and with 18 where the table is too short for the answers: nothing is then played or written.
+pub fn play(origin: Origin, bytes: &[u8], calls: &[u64], answers: &mut [u64]) -> Played
+    ensures returned { λ r. ⌜ r ≡ playOf origin (now (bytes .entry)) (now (calls .entry)) (length (now (answers .entry))) ⌝ }
+    ensures table { λ r. ⌜ now (answers .exit) ≡ tableOf origin (now (bytes .entry)) (now (calls .entry)) (now (answers .entry)) ⌝ }
+    ensures claim { λ r. ⌜ Demand3 (startOf origin (now (bytes .entry)) .layout)
+        (playedCalls origin (now (bytes .entry)) (now (calls .entry)) (length (now (answers .entry)))) ⌝ }
 {
-    let start = start_of(origin, chart);
+    let start = start_of(origin, bytes);
     let refusal = start.refusal;
     let layout = start.layout;
     if refusal != 0 {
@@ -52,15 +52,16 @@ pub fn play(origin: Origin, chart: &[u8], calls: &[u64], answers: &mut [u64]) ->
     }
 }
 
-fn start_of(origin: Origin, chart: &[u8]) -> ChartRead
-    ensures { λ r. ⌜ r ≡ startOf origin (now (chart .entry)) ⌝ }
+fn start_of(origin: Origin, bytes: &[u8]) -> LayoutRead
+    ensures { λ r. ⌜ r ≡ startOf origin (now (bytes .entry)) ⌝ }
 {
     match origin {
-        Origin::Empty => ChartRead {
+        Origin::Empty => LayoutRead {
             refusal: 0,
             layout: layout::empty(),
         },
-        Origin::Chart => chart::read(chart),
+        Origin::Chart => chart::read(bytes),
+        Origin::Graph6 => graph6::import(bytes),
     }
 }
 

@@ -1,36 +1,51 @@
--- A chart read over a lent layout: what reading gives, but for the layout of a refused chart.
-use mathlib.Core.Path.{_≡_, refl, sym, ap, _∙_}
+-- A chart or a graph read over a lent layout: what reading gives, but for the layout where it is refused.
+use Prim.Native.Nat.{ℕ, zero, suc}
+use mathlib.Core.Path.{_≡_, refl, sym, ap}
 use mathlib.Core.List.{List}
-use Prim.Native.Nat.{ℕ}
 use Rattle.model.specs.declared.Layout.{Layout}
-use Rattle.model.specs.declared.ChartRead.{ChartRead}
-use Rattle.model.specs.Checks.{refusal}
-use Rattle.model.specs.Charts.{chartChecks, chartLayout, readOf}
+use Rattle.model.specs.declared.LayoutRead.{LayoutRead}
 use Rattle.model.specs.Layouts.{emptyLayout}
-use Rattle.model.specs.Reports.{readOver}
-use Rattle.laws.specs.Layouts.Refusals.{when-accepted, when-refused, checked-number}
+use Rattle.model.specs.Checks.{Check, refusal, byRefusal, checked}
+use Rattle.model.specs.Charts.{chartChecks, chartLayout, readAs, readOf}
+use Rattle.model.specs.Graph6.{graph6Checks, graph6Layout, importOf}
+use Rattle.model.specs.Reports.{readOver, importOver}
+use Rattle.readers.specs.Passes.{acceptedRead}
 
--- the answer to a refused chart, with a layout
-abbrev refusedWith : Layout → ℕ → ChartRead
+-- the answer to what is refused, with a layout
+abbrev pub refusedWith : Layout → ℕ → LayoutRead
 refusedWith l r = record { refusal = r; layout = l }
 
-abbrev accepted : List ℕ → ChartRead
-accepted s = record { refusal = 0; layout = chartLayout s }
+-- what was read, or the layout where that was refused
+unfoldable pub keptOver : Layout → LayoutRead → LayoutRead
+keptOver l r = byRefusal (r .refusal) r (refusedWith l)
 
-module _ (l : Layout) (s : List ℕ) {r : ChartRead} (read : r ≡ readOf s) where
-  number : r .refusal ≡ refusal (chartChecks s)
-  unfolding readOf
-  number =
-      ap (λ (a : ChartRead). a .refusal) read
-      ∙ checked-number (chartChecks s) (accepted s) (refusedWith emptyLayout) (λ (a : ChartRead). a .refusal) refl (λ c. refl)
+module _ (l : Layout) (r : LayoutRead) where
+  pub kept-refused : (r .refusal ≡ 0 → ⊥) → refusedWith l (r .refusal) ≡ keptOver l r
+  unfolding keptOver byRefusal
+  kept-refused d = by-number (r .refusal) d
+    where
+      by-number : (k : ℕ) → (k ≡ 0 → ⊥) → refusedWith l k ≡ byRefusal k r (refusedWith l)
+      by-number zero d = absurd (d refl)
+      by-number (suc k) d = refl
 
-  pub over-refused : (r .refusal ≡ 0 → ⊥) → refusedWith l (r .refusal) ≡ readOver l s
-  unfolding readOver
-  over-refused isn't = sym (when-refused (chartChecks s) (accepted s) (refusedWith l) number isn't)
+  pub kept-read : r .refusal ≡ 0 → r ≡ keptOver l r
+  unfolding keptOver byRefusal
+  kept-read e = ap (λ (k : ℕ). byRefusal k r (refusedWith l)) (sym e)
 
-  pub over-accepted : r .refusal ≡ 0 → r ≡ readOver l s
-  unfolding readOf readOver
-  over-accepted is =
-      let passed : refusal (chartChecks s) ≡ 0 = sym number ∙ is in
-      read ∙ when-accepted (chartChecks s) (accepted s) (refusedWith emptyLayout) passed
-      ∙ sym (when-accepted (chartChecks s) (accepted s) (refusedWith l) passed)
+-- by the questions of the reader
+module _ (l : Layout) (checks : List Check) (next : Layout) where
+  kept-checked : keptOver l (readAs checks next) ≡ checked checks (acceptedRead next) (refusedWith l)
+  unfolding keptOver checked byRefusal
+  kept-checked = by-number (refusal checks)
+    where
+      by-number : (k : ℕ) → keptOver l (byRefusal k (acceptedRead next) (refusedWith emptyLayout)) ≡ byRefusal k (acceptedRead next) (refusedWith l)
+      by-number zero = refl
+      by-number (suc k) = refl
+
+pub over-read : (l : Layout) (s : List ℕ) → keptOver l (readOf s) ≡ readOver l s
+unfolding readOf readOver
+over-read l s = kept-checked l (chartChecks s) (chartLayout s)
+
+pub over-imported : (l : Layout) (s : List ℕ) → keptOver l (importOf s) ≡ importOver l s
+unfolding importOf importOver
+over-imported l s = kept-checked l (graph6Checks s) (graph6Layout s)

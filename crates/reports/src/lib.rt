@@ -1,22 +1,35 @@
-// By value, what a host gets of a chart read over a layout, and of the search for a crossing pair.
+// By value, what a host gets of a chart or a graph read over a layout, and of the search for a crossing pair.
 ghost use mathlib.Core.Path.{_≡_};
 ghost use mathlib.Core.List.{[]};
-ghost use Rattle.model.specs.Reports.{readOver, crossingReportOf, pairReport};
+ghost use Rattle.model.specs.Reports.{readOver, importOver, crossingReportOf, pairReport};
+ghost use Rattle.reports.specs.ReadOver.{keptOver};
 use crossing::first_crossing;
-use model::ChartRead;
 use model::CrossingReport;
 use model::Edge;
 use model::FirstCrossing;
 use model::Layout;
+use model::LayoutRead;
 
 // The chart's layout, or the one handed in where the chart is refused.
-pub fn read_over(l: Layout, chart: &[u8]) -> ChartRead
+pub fn read_over(l: Layout, chart: &[u8]) -> LayoutRead
     ensures { λ r. ⌜ r ≡ readOver l (now (chart .entry)) ⌝ }
 {
-    let read = chart::read(chart);
+    over(l, chart::read(chart))
+}
+
+// The same for a graph in graph6.
+pub fn import_over(l: Layout, graph: &[u8]) -> LayoutRead
+    ensures { λ r. ⌜ r ≡ importOver l (now (graph .entry)) ⌝ }
+{
+    over(l, graph6::import(graph))
+}
+
+fn over(l: Layout, read: LayoutRead) -> LayoutRead
+    ensures { λ r. ⌜ r ≡ keptOver l read ⌝ }
+{
     let refusal = read.refusal;
     if refusal != 0 {
-        return ChartRead { refusal, layout: l };
+        return LayoutRead { refusal, layout: l };
     }
     read
 }

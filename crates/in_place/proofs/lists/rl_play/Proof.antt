@@ -17,7 +17,7 @@ returns c =
     let called = c .before .before in
     let chosen = called .before .before in
     let s = chosen .before .before .before .before .args in
-    played-from (s .chart .now) (s .calls .now) (s .answers .now) (chosen .origin-of .ensures) (called .play .ensures)
+    played-from (s .bytes .now) (s .calls .now) (s .answers .now) (chosen .origin-of .ensures) (called .play .ensures)
 
 pub rl-play-spec : {M : Type 1} → statement M
 rl-play-spec = tie.close (tie.spec origin-of-requires play-requires same-length returns)

@@ -18,21 +18,35 @@ enum-told-2 c = search needs
 read-requires : tie.Need-read-requires
 read-requires c κs = search needs
 
+enum-told-3 : tie.Need-enum-told-3
+enum-told-3 c = search needs
+
+import-requires : tie.Need-import-requires
+import-requires c κs = search needs
+
 returns : tie.Need-returns
 unfolding startOf
 returns c =
     let told = c .before in
-    let chart = told .before .before .before .args .chart .now in
+    let bytes = told .before .before .before .args .bytes .now in
     ap (λ (l : Layout). record { refusal = 0; layout = l }) (c .empty .ensures)
-    ∙ ap (λ (o : Origin). startOf o chart) (sym (told .enum-told .given .1))
+    ∙ ap (λ (o : Origin). startOf o bytes) (sym (told .enum-told .given .1))
 
 returns-2 : tie.Need-returns-2
 unfolding startOf
 returns-2 c =
     let told = c .before in
-    let chart = told .before .before .before .args .chart .now in
-    c .read .ensures ∙ ap (λ (o : Origin). startOf o chart) (sym (told .enum-told2 .given .1))
+    let bytes = told .before .before .before .args .bytes .now in
+    c .read .ensures ∙ ap (λ (o : Origin). startOf o bytes) (sym (told .enum-told2 .given .1))
+
+returns-3 : tie.Need-returns-3
+unfolding startOf
+returns-3 c =
+    let told = c .before in
+    let bytes = told .before .before .before .args .bytes .now in
+    c .import .ensures ∙ ap (λ (o : Origin). startOf o bytes) (sym (told .enum-told3 .given .1))
 
 pub start-of-spec : {M : Type 1} → statement M
 start-of-spec =
-    tie.close (tie.spec enum-told empty-requires enum-told-2 read-requires returns returns-2)
+    tie.close
+    (tie.spec enum-told empty-requires enum-told-2 read-requires enum-told-3 import-requires returns returns-2 returns-3)

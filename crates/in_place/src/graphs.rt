@@ -1,0 +1,27 @@
+// A graph in graph6 imported over a lent layout, and a lent layout exported in graph6.
+ghost use mathlib.Core.Path.{_≡_};
+ghost use Rattle.model.specs.Reports.{importOver};
+ghost use Rattle.model.specs.Writing.{writeOf, writtenBytes};
+ghost use Rattle.model.specs.Graph6.{graph6Of};
+use model::Layout;
+use model::LayoutWritten;
+use reports::import_over;
+
+#[no_mangle]
+pub extern "C" fn rl_import_graph6(l: &mut Layout, graph: &[u8]) -> u8
+    ensures { λ r. ⌜ (r ≡ importOver (now (l .entry)) (now (graph .entry)) .refusal)
+        × (now (l .exit) ≡ importOver (now (l .entry)) (now (graph .entry)) .layout) ⌝ }
+{
+    let answer = import_over(*l, graph);
+    *l = answer.layout;
+    answer.refusal
+}
+
+// Writes the layout's graph to the start of the buffer, and answers how many bytes it has.
+#[no_mangle]
+pub extern "C" fn rl_export_graph6(l: &Layout, buffer: &mut [u8]) -> LayoutWritten
+    ensures { λ r. ⌜ (r ≡ writeOf graph6Of (now (l .entry)) (now (buffer .entry)))
+        × (now (buffer .exit) ≡ writtenBytes graph6Of (now (l .entry)) (now (buffer .entry))) ⌝ }
+{
+    exporter::export(*l, buffer)
+}
