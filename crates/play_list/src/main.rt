@@ -1,5 +1,5 @@
 // Plays the list of calls on standard input and writes the answer lines (tests/README.md). The work
-// is in player; here records and charts are read, and lines are written.
+// is in player; here records and the bytes behind them are read, and lines are written.
 ghost use mathlib.Core.Path.{_≡_};
 ghost use Prim.Native.Nat.{_≤_, min};
 ghost use lib.ListN.{length};
@@ -23,7 +23,7 @@ fn main() {
     }
 }
 
-// Reads a record, with the chart that follows it if one does, plays it and writes its line.
+// Reads a record, with the bytes that follow it if some do, plays it and writes its line.
 fn play_next(l: Layout) -> Played {
     let mut record = [0u8; 32];
     let got = io::read_full(STDIN_FILENO, &mut record);
@@ -34,8 +34,8 @@ fn play_next(l: Layout) -> Played {
             ended: true,
         };
     }
-    if player::starts_chart(&record[..got]) {
-        return play_chart(l, player::number(&record[..got], 8));
+    if player::starts_from_bytes(&record[..got]) {
+        return play_start(l, &record[..got]);
     }
     let mut line = io::large_buffer();
     let played = player::play(l, &record[..got], &mut line);
@@ -44,29 +44,29 @@ fn play_next(l: Layout) -> Played {
     played
 }
 
-fn play_chart(l: Layout, length: u64) -> Played {
-    let mut chart = chart_buffer();
-    let kept = player::chart_kept(length);
-    play_kept(l, length, &mut chart[..kept])
+fn play_start(l: Layout, record: &[u8]) -> Played {
+    let mut bytes = start_buffer();
+    let kept = player::bytes_kept(player::number(record, 8));
+    play_kept(l, record, &mut bytes[..kept])
 }
 
-fn play_kept(l: Layout, length: u64, chart: &mut [u8]) -> Played {
-    let is_whole = read_chart(length, chart);
+fn play_kept(l: Layout, record: &[u8], bytes: &mut [u8]) -> Played {
+    let is_whole = read_bytes(player::number(record, 8), bytes);
     let mut line = io::large_buffer();
-    let played = player::play_chart(l, chart, is_whole, &mut line);
+    let played = player::play_start(l, record, bytes, is_whole, &mut line);
     let written = played.written;
     io::write_all(STDOUT_FILENO, &line[..written]);
     played
 }
 
-// Reads a chart of length bytes, fills the buffer with the first of them and passes over the rest
-// and the padding. False if the input ends before.
-fn read_chart(length: u64, chart: &mut [u8]) -> bool {
-    let got = io::read_full(STDIN_FILENO, chart);
-    if got < chart.len() {
+// Reads length bytes, fills the buffer with the first of them and passes over the rest and the
+// padding. False if the input ends before.
+fn read_bytes(length: u64, bytes: &mut [u8]) -> bool {
+    let got = io::read_full(STDIN_FILENO, bytes);
+    if got < bytes.len() {
         return false;
     }
-    pass_over(player::chart_rest(length))
+    pass_over(player::bytes_rest(length))
 }
 
 fn pass_over(count: u64) -> bool {
@@ -94,8 +94,8 @@ fn at_most_4096(count: u64) -> usize
     if count < 4096 { count as usize } else { 4096 }
 }
 
-// Room for a chart, and for one byte more, which tells that it is too long.
-fn chart_buffer() -> [u8; 8193]
+// Room for a chart, and for one byte more, which tells that it is too long. A graph needs less.
+fn start_buffer() -> [u8; 8193]
     ensures { λ r. ⌜ 8193 ≡ length r ⌝ }
 {
     [0; 8193]

@@ -9,8 +9,9 @@ use model::Layout;
 use records::number;
 use replies::play_call;
 use text::put_text;
+use views::Format;
 
-// Plays a record that starts from no chart, and ends the list at one that is cut short.
+// Plays a record that no bytes follow, and ends the list at one that is cut short.
 pub fn play(l: Layout, record: &[u8], line: &mut [u8; 65536]) -> Played
     ensures { λ r. ⌜ Counts (r .written) (now (line .exit)) ⌝ }
 {
@@ -23,25 +24,40 @@ pub fn play(l: Layout, record: &[u8], line: &mut [u8; 65536]) -> Played
     play_op(l, op, a, b, line)
 }
 
-// Is the record whole, and a start from a chart? The chart follows it in the list.
-pub fn starts_chart(record: &[u8]) -> bool {
+// Is the record whole, and a start from bytes that follow it in the list: a chart, or a graph in
+// graph6?
+pub fn starts_from_bytes(record: &[u8]) -> bool {
     if record.len() < 32 {
         return false;
     }
-    number(record, 0) == 1
+    match number(record, 0) {
+        1 => true,
+        28 => true,
+        _ => false,
+    }
 }
 
-// Starts from the bytes kept of a chart, and ends the list at one that is cut short.
-pub fn play_chart(l: Layout, bytes: &[u8], is_whole: bool, line: &mut [u8; 65536]) -> Played
+// Starts from the bytes kept of those that follow a record, and ends the list where they are cut
+// short.
+pub fn play_start(
+    l: Layout,
+    record: &[u8],
+    bytes: &[u8],
+    is_whole: bool,
+    line: &mut [u8; 65536],
+) -> Played
     ensures { λ r. ⌜ Counts (r .written) (now (line .exit)) ⌝ }
 {
     if !is_whole {
         return end(l, line);
     }
+    if number(record, 0) == 28 {
+        return starts::import_graph(l, bytes, line);
+    }
     starts::read_chart(l, bytes, line)
 }
 
-// What the table of ops says, but for charts.
+// What the table of ops says, but for starts from bytes.
 fn play_op(l: Layout, op: u64, a: u64, b: u64, line: &mut [u8]) -> Played
     ensures { λ r. ⌜ r .written ≤ 65536 ⌝ }
 {
@@ -54,7 +70,8 @@ fn play_op(l: Layout, op: u64, a: u64, b: u64, line: &mut [u8]) -> Played
         24 => views::count(l, line),
         25 => views::order(l, a, b, line),
         26 => views::pair(l, line),
-        27 => views::write(l, a, b, line),
+        27 => views::write(l, Format::Chart, a, b, line),
+        29 => views::write(l, Format::Graph6, a, b, line),
         _ => play_decoded(l, encoding::call_of(op, a as usize, b as usize), line),
     }
 }

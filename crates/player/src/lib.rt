@@ -8,8 +8,8 @@ mod starts;
 
 pub use answers::Played;
 pub use dispatch::play;
-pub use dispatch::play_chart;
-pub use dispatch::starts_chart;
-pub use records::chart_kept;
-pub use records::chart_rest;
+pub use dispatch::play_start;
+pub use dispatch::starts_from_bytes;
+pub use records::bytes_kept;
+pub use records::bytes_rest;
 pub use records::number;

@@ -1,4 +1,4 @@
-// The starts: from the empty layout, and from a chart.
+// The starts: from the empty layout, from a chart, and from a graph in graph6.
 ghost use Prim.Native.Nat.{_≤_};
 use answers::Played;
 use answers::put_head;
@@ -18,5 +18,14 @@ pub(crate) fn read_chart(l: Layout, bytes: &[u8], line: &mut [u8]) -> Played
     let answer = chart::read(bytes);
     let after = answer.layout;
     let at = put_head(line, b"chart", answer.refusal);
+    told(line, at, l, after)
+}
+
+pub(crate) fn import_graph(l: Layout, bytes: &[u8], line: &mut [u8]) -> Played
+    ensures { λ r. ⌜ r .written ≤ 65536 ⌝ }
+{
+    let answer = graph6::import(bytes);
+    let after = answer.layout;
+    let at = put_head(line, b"import", answer.refusal);
     told(line, at, l, after)
 }

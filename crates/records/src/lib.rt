@@ -1,5 +1,5 @@
-// The numbers of a record, eight bytes each, low byte first, the sizes of a chart in a list, and
-// layouts with a field set to such a number.
+// The numbers of a record, eight bytes each, low byte first, the sizes of bytes that follow a
+// record in a list, and layouts with a field set to such a number.
 mod fields;
 
 ghost use mathlib.Core.Path.{_≡_};
@@ -36,9 +36,9 @@ fn wide(byte: u8) -> u64
     byte as u64
 }
 
-// Of a chart of length bytes, how many are kept to be read: one that is longer than 8,192 bytes is
-// refused for that.
-pub fn chart_kept(length: u64) -> usize
+// Of length bytes behind a record, how many are kept to be read. A longer chart or graph is refused as
+// its first 8,193 bytes are.
+pub fn bytes_kept(length: u64) -> usize
     ensures { λ r. ⌜ r ≤ 8193 ⌝ }
 {
     if length < 8193 { length as usize } else { 8193 }
@@ -46,7 +46,7 @@ pub fn chart_kept(length: u64) -> usize
 
 // How many bytes follow in the list behind those kept: the others, and the padding to a multiple
 // of 32.
-pub fn chart_rest(length: u64) -> u64 {
+pub fn bytes_rest(length: u64) -> u64 {
     let padding = (32 - length % 32) % 32;
     if length < 8193 {
         padding

@@ -7,10 +7,10 @@ use answers::put_head;
 use answers::told;
 use decimals::put_bytes;
 use decimals::put_number;
-use model::ChartWritten;
 use model::Edge;
 use model::FirstCrossing;
 use model::Layout;
+use model::LayoutWritten;
 use text::put_text;
 
 pub fn count(l: Layout, line: &mut [u8]) -> Played
@@ -42,30 +42,52 @@ fn order_into(l: Layout, line: &mut [u8], buffer: &mut [u8]) -> Played
     told(line, end, l, l)
 }
 
-// Writes the chart into a buffer of size bytes, or 8,192 if that is less, each of which holds fill
+// What a layout is written as.
+pub enum Format {
+    Chart,
+    Graph6,
+}
+
+// Writes the layout into a buffer of size bytes, or 8,192 if that is less, each of which holds fill
 // modulo 256 before the call.
-pub fn write(l: Layout, size: u64, fill: u64, line: &mut [u8]) -> Played
+pub fn write(l: Layout, format: Format, size: u64, fill: u64, line: &mut [u8]) -> Played
     ensures { λ r. ⌜ r .written ≤ 65536 ⌝ }
 {
     let mut buffer = filled((fill % 256) as u8);
     let lent = at_most(size, 8192);
-    write_into(l, line, &mut buffer[..lent])
+    write_into(l, format, line, &mut buffer[..lent])
 }
 
-fn write_into(l: Layout, line: &mut [u8], buffer: &mut [u8]) -> Played
+fn write_into(l: Layout, format: Format, line: &mut [u8], buffer: &mut [u8]) -> Played
     requires { ⌜ length (now buffer) ≤ 8192 ⌝ }
     ensures { λ r. ⌜ r .written ≤ 65536 ⌝ }
 {
-    let answer = writer::write(l, buffer);
-    let length_end = put_written(line, answer);
+    let length_end = write_as(l, format, line, buffer);
     let end = put_buffer(line, length_end, buffer);
     told(line, end, l, l)
 }
 
-fn put_written(line: &mut [u8], answer: ChartWritten) -> usize
-    ensures { λ r. ⌜ r ≤ 30 ⌝ }
+// Answers where the line's name and numbers end.
+fn write_as(l: Layout, format: Format, line: &mut [u8], buffer: &mut [u8]) -> usize
+    ensures { λ r. ⌜ r ≤ 31 ⌝ }
 {
-    let head_end = put_head(line, b"write", answer.refusal);
+    match format {
+        Format::Chart => {
+            let answer = writer::write(l, buffer);
+            put_written(line, b"write", answer)
+        }
+        Format::Graph6 => {
+            let answer = exporter::export(l, buffer);
+            put_written(line, b"export", answer)
+        }
+    }
+}
+
+fn put_written(line: &mut [u8], name: &[u8], answer: LayoutWritten) -> usize
+    requires { ⌜ length (now name) ≤ 6 ⌝ }
+    ensures { λ r. ⌜ r ≤ 31 ⌝ }
+{
+    let head_end = put_head(line, name, answer.refusal);
     put_number(line, head_end, answer.length as u64)
 }
 
