@@ -85,6 +85,7 @@ pub fn check_listing(chart: &[u8], listing: &str) -> Result<(), String> {
 mod tests {
     use super::*;
     use crate::followed::{change_found, check_lines, check_pairs};
+    use crate::imported;
     use crate::make::charts::Chart;
     use crate::make::graph::Graph;
     use crate::make::lists;
@@ -110,12 +111,16 @@ mod tests {
                 let check = |step: &Step| {
                     check_line(step)?;
                     written::check_line(step)?;
+                    imported::check_line(step)?;
                     sifted::check_line(step)?;
                     sifted::check_sift(step)
                 };
                 assert_eq!(check_lines(&made.bytes, &lines, check), Ok(()));
-                let again = check_pairs(&made.bytes, &lines, sifted::check_again);
-                assert_eq!(again, Ok(()));
+                let again = |last: &Step, step: &Step| {
+                    sifted::check_again(last, step)?;
+                    imported::check_again(last, step)
+                };
+                assert_eq!(check_pairs(&made.bytes, &lines, again), Ok(()));
             }
         }
         assert_eq!(check_listing(&square(), &listing(&square())), Ok(()));

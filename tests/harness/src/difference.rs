@@ -199,16 +199,40 @@ mod tests {
 
     #[test]
     fn a_length_and_a_byte_are_told() {
-        let one = "write 0 10 buffer 68 0 1 0 n 0 order 0 count 0 words\n";
-        let other = one.replace("10 buffer 68 0 1", "11 buffer 68 1 1");
+        for name in ["write", "export"] {
+            let one = format!("{name} 0 10 buffer 68 0 1 0 n 0 order 0 count 0 words\n");
+            let other = one.replace("10 buffer 68 0 1", "11 buffer 68 1 1");
+            let due = [
+                "word 3, the length: 10 against 11",
+                "word 6, byte 1 of the buffer: 0 against 1",
+            ];
+            assert_eq!(
+                found(Answers, &one, &other),
+                (1, due.map(String::from).to_vec())
+            );
+        }
+    }
+
+    #[test]
+    fn another_import_is_told() {
+        let one = "import 0 n 4 order 0 1 2 3 count 1 words 0 4 1 8 2 1 3 2\n";
+        for (to, due) in [
+            ("import 22 n", "word 2, the refusal number: 0 against 22"),
+            ("import 0 m", "word 3, `n`: n against nothing"),
+        ] {
+            let other = one.replace("import 0 n", to);
+            assert_eq!(found(Answers, one, &other).1[0], due);
+        }
+        let other = one.replace("0 4 1 8 2 1 3 2", "0 8 1 4 2 2 3 1");
+        let due = "word 14, neighbour word 0: 4 against 8";
+        assert_eq!(found(Answers, one, &other).1[0], due);
+        let other = one.replace("order 0 1 2 3 count 1", "order 0 2 1 3 count 0");
         let due = [
-            "word 3, the length: 10 against 11",
-            "word 6, byte 1 of the buffer: 0 against 1",
+            "word 7, place 1 of the order: 1 against 2",
+            "word 8, place 2 of the order: 2 against 1",
+            "word 11, count: 1 against 0",
         ];
-        assert_eq!(
-            found(Answers, one, &other),
-            (1, due.map(String::from).to_vec())
-        );
+        assert_eq!(found(Answers, one, &other).1, due);
     }
 
     #[test]
@@ -266,11 +290,8 @@ mod tests {
         }
     }
 
-    /// Among all that can be planted are the best places of each call that
-    /// sifts.
-    #[test]
-    fn planted_best_places_are_found() {
-        let output = "sift 0 1 2 n 4\nround 0 1 1 8 n 4\nsettle 0 1 2 yes 16 n 4\n";
+    /// Sees that these are among all that can be planted in an output.
+    fn are_planted(output: &str, due: &[(usize, &str)]) {
         let mut told = Vec::new();
         for index in 0..100 {
             let planted = plant(output.as_bytes(), &mut Rng::new(1, "plant", index));
@@ -278,12 +299,34 @@ mod tests {
             let found = found.expect("a difference");
             told.push((found.line, found.text()));
         }
-        for (line, text) in [
+        for &(line, text) in due {
+            assert!(told.contains(&(line, text.to_string())), "{text}");
+        }
+    }
+
+    /// The best places of each call that sifts.
+    #[test]
+    fn planted_best_places_are_found() {
+        let output = "sift 0 1 2 n 4\nround 0 1 1 8 n 4\nsettle 0 1 2 yes 16 n 4\n";
+        let due = [
             (1, "word 4, the best places: 2 against 3"),
             (2, "word 5, the best places: 8 against 9"),
             (3, "word 6, the best places: 16 against 17"),
-        ] {
-            assert!(told.contains(&(line, text.to_string())), "{text}");
-        }
+        ];
+        are_planted(output, &due);
+    }
+
+    #[test]
+    fn planted_words_of_graph6_are_found() {
+        let output = "import 0 n 4 order 0 1 count 1 words 0 4\nexport 0 2 buffer 67 81 n 4\n";
+        let due = [
+            (1, "word 2, the refusal number: 0 against 1"),
+            (1, "word 4, n: 4 against 5"),
+            (1, "word 9, count: 1 against 2"),
+            (2, "word 2, the refusal number: 0 against 1"),
+            (2, "word 3, the length: 2 against 3"),
+            (2, "word 6, byte 1 of the buffer: 81 against 82"),
+        ];
+        are_planted(output, &due);
     }
 }

@@ -2,7 +2,7 @@
 
 use crate::make::ops::*;
 
-/// Bytes in a record; a chart is padded to a multiple of it.
+/// Bytes in a record; a chart or a graph6 is padded to a multiple of it.
 const RECORD: usize = 32;
 
 /// A record of a list, or what ends it.
@@ -10,14 +10,16 @@ const RECORD: usize = 32;
 pub enum Entry<'a> {
     /// A start from a chart, with the chart.
     Chart(&'a [u8]),
+    /// A start from a graph6, with the graph6.
+    Import(&'a [u8]),
     /// Any other record that is played.
     Record(Record),
     /// A record with an unknown op, behind which nothing is played.
     Unknown(u64),
     /// A record that is cut short.
     CutRecord,
-    /// A chart of so many bytes that is cut short, or its padding.
-    CutChart(u64),
+    /// A start whose bytes, so many, are cut short, or their padding.
+    CutStart(&'static str, u64),
 }
 
 /// The records of a list, up to its end.
@@ -42,26 +44,29 @@ fn take<'a>(list: &mut &'a [u8]) -> Entry<'a> {
             .fold(0, |sum, &byte| sum << 8 | u64::from(byte));
     }
     match record[0] {
-        CHART => take_chart(list, record[1]),
-        EMPTY | SET_N..=SET_COUNT | ADD..=WRITE => Entry::Record(record),
+        CHART => take_padded(list, record[1]).map_or(cut("chart", record), Entry::Chart),
+        IMPORT => take_padded(list, record[1]).map_or(cut("import", record), Entry::Import),
+        EMPTY | SET_N..=SET_COUNT | ADD..=WRITE | EXPORT => Entry::Record(record),
         op => Entry::Unknown(op),
     }
 }
 
-fn take_chart<'a>(list: &mut &'a [u8], length: u64) -> Entry<'a> {
-    let whole = usize::try_from(length).ok();
-    let padded = whole.and_then(|length| length.checked_next_multiple_of(RECORD));
-    let parts = padded.and_then(|padded| list.split_at_checked(padded));
-    let (Some((chart, rest)), Some(length)) = (parts, whole) else {
-        return Entry::CutChart(length);
-    };
+fn cut<'a>(name: &'static str, [_, length, ..]: Record) -> Entry<'a> {
+    Entry::CutStart(name, length)
+}
+
+/// So many bytes, if all of them and of their padding are there.
+fn take_padded<'a>(list: &mut &'a [u8], length: u64) -> Option<&'a [u8]> {
+    let length = usize::try_from(length).ok()?;
+    let padded = length.checked_next_multiple_of(RECORD)?;
+    let (bytes, rest) = list.split_at_checked(padded)?;
     *list = rest;
-    Entry::Chart(&chart[..length])
+    Some(&bytes[..length])
 }
 
 impl Entry<'_> {
     fn ends(&self) -> bool {
-        !matches!(self, Entry::Chart(_) | Entry::Record(_))
+        !matches!(self, Entry::Chart(_) | Entry::Import(_) | Entry::Record(_))
     }
 
     /// Whether a line is printed for it.
@@ -73,10 +78,11 @@ impl Entry<'_> {
     pub fn text(&self) -> String {
         match self {
             Entry::Chart(chart) => format!("chart of {} bytes", chart.len()),
+            Entry::Import(graph6) => format!("import of {} bytes", graph6.len()),
             Entry::Record(record) => record_text(*record),
             Entry::Unknown(op) => format!("unknown op {op}"),
             Entry::CutRecord => "a record cut short".to_string(),
-            Entry::CutChart(length) => format!("chart of {length} bytes, cut short"),
+            Entry::CutStart(name, length) => format!("{name} of {length} bytes, cut short"),
         }
     }
 }
@@ -99,14 +105,15 @@ fn record_text([op, a, b, _]: Record) -> String {
         COUNT => "count".to_string(),
         ORDER => format!("order into {a} bytes of {b}"),
         PAIR => "pair".to_string(),
-        _ => format!("write into {a} bytes of {b}"),
+        WRITE => format!("write into {a} bytes of {b}"),
+        _ => format!("export into {a} bytes of {b}"),
     }
 }
 
 #[cfg(test)]
 mod tests {
     use super::*;
-    use crate::make::records::{bytes, chart};
+    use crate::make::records::{bytes, chart, import};
     use crate::make::{lists, stored};
     use crate::naive::play::play;
 
@@ -121,30 +128,34 @@ mod tests {
             [ORDER, 12, 255, 0],
             [SET_ORDER, 4, 9, 0],
             [WRITE, 18, 0, 0],
+            [EXPORT, 2, 7, 0],
         ];
         let mut list = records.map(bytes).concat();
         list.extend(chart(&[0x44, 0, 1]));
+        list.extend(import(b"CQ"));
         list.extend(bytes([SETTLE, 1000, 0, 0]));
         let due = [
             "link 3 7",
             "order into 12 bytes of 255",
             "set place 4 of the order to 9",
             "write into 18 bytes of 0",
+            "export into 2 bytes of 7",
             "chart of 3 bytes",
+            "import of 2 bytes",
             "settle with limit 1000",
         ];
         assert_eq!(texts(&list), due);
         let says: Vec<bool> = entries(&list).iter().map(Entry::says).collect();
-        assert_eq!(says, [true, true, false, true, true, true]);
+        assert_eq!(says, [true, true, false, true, true, true, true, true]);
     }
 
     #[test]
     fn nothing_is_read_behind_the_end() {
         let add = bytes([ADD, 0, 0, 0]);
-        let unknown = bytes([28, 0, 0, 0]);
+        let unknown = bytes([30, 0, 0, 0]);
         assert_eq!(
             texts(&[&add[..], &unknown, &add].concat()),
-            ["add", "unknown op 28"]
+            ["add", "unknown op 30"]
         );
         assert_eq!(texts(&add[..31]), ["a record cut short"]);
         let long = bytes([CHART, u64::MAX, 0, 0]);
@@ -152,6 +163,8 @@ mod tests {
         assert_eq!(texts(&[long, add].concat()), [cut]);
         let padding = chart(&[0x44]);
         assert_eq!(texts(&padding[..63]), ["chart of 1 bytes, cut short"]);
+        let padding = import(b"CQ");
+        assert_eq!(texts(&padding[..63]), ["import of 2 bytes, cut short"]);
     }
 
     #[test]

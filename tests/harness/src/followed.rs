@@ -203,7 +203,7 @@ mod tests {
                 match step.answer() {
                     Some(("link", 0)) => assert_eq!(after, before + 1),
                     Some(("unlink", 0)) => assert_eq!(after + 1, before),
-                    Some(("chart" | "empty", _)) => {}
+                    Some(("chart" | "import" | "empty", _)) => {}
                     _ => assert_eq!(after, before, "{}", step.line),
                 }
             }

@@ -20,7 +20,7 @@ pub struct Labelled<'a> {
 const OPTIMA: &str = "the best places";
 
 /// The answers of each call.
-const ANSWERS: [(&str, &[&str]); 8] = [
+const ANSWERS: [(&str, &[&str]); 9] = [
     ("add", &["the new vertex"]),
     ("lay", &["the tally"]),
     ("sift", &["the saving", OPTIMA]),
@@ -41,6 +41,7 @@ const ANSWERS: [(&str, &[&str]); 8] = [
         ],
     ),
     ("write", &["the length"]),
+    ("export", &["the length"]),
 ];
 
 /// The words of a line with what they are. The numbers of neighbour words are
@@ -148,7 +149,6 @@ mod tests {
             ["`buffer`", "byte 0 of the buffer", "byte 1 of the buffer"]
         );
         assert_eq!(order[10], "place 1 of the order");
-        let write = labels(Output::Answers, "write 0 1 buffer 68 7 n 2 order 1 0");
         let due = [
             "the length",
             "`buffer`",
@@ -156,7 +156,10 @@ mod tests {
             "byte 1 of the buffer",
             "`n`",
         ];
-        assert_eq!(write[2..7], due);
+        for name in ["write", "export"] {
+            let line = format!("{name} 0 1 buffer 68 7 n 2 order 1 0");
+            assert_eq!(labels(Output::Answers, &line)[2..7], due);
+        }
         let pair = labels(Output::Answers, "pair 0 pair 1 2 3 4 n 5");
         let due = ["what is found", "the first edge's lower end"];
         assert_eq!(pair[2..4], due);

@@ -1,10 +1,12 @@
 //! Makes charts and lists of calls from a seed, gives them to programs and
 //! compares what they print with what a naive model of document 01 gives.
 
+mod collected;
 mod counted;
 mod difference;
 mod entries;
 mod followed;
+mod imported;
 mod input;
 mod label;
 mod laid;
@@ -21,7 +23,7 @@ mod written;
 use std::io::Write;
 use std::process::ExitCode;
 
-use make::{five, stored};
+use make::{collections, five, stored};
 use options::Options;
 use tally::{Tally, ENOUGH};
 
@@ -61,13 +63,22 @@ fn finish(options: &Options, tally: &Tally) -> ExitCode {
         None => format!("{count} charts and {count} lists ({calls} calls)"),
         Some(names) => format!("{count} lists of {names} ({calls} calls)"),
     };
-    let five = if five::open(&options.known) {
-        format!(" and all {} graphs on five vertices", five::GRAPHS)
-    } else {
-        String::new()
-    };
-    println!("compare: seed {seed}, {inputs}{five} agree");
+    let always = always(options);
+    println!("compare: seed {seed}, {inputs}{always} agree");
     ExitCode::SUCCESS
+}
+
+/// The graphs that every run has, if its calls allow it.
+fn always(options: &Options) -> String {
+    let mut always = String::new();
+    if five::open(&options.known) {
+        always += &format!(" and all {} graphs on five vertices", five::GRAPHS);
+    }
+    if collections::open(&options.known) {
+        let graphs = collections::graph_count();
+        always += &format!(" and {graphs} graphs of the collections");
+    }
+    always
 }
 
 /// How much the naive model left to the programs, but for counting crossings

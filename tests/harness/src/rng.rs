@@ -49,4 +49,17 @@ impl Rng {
     pub fn bytes(&mut self, length: usize) -> Vec<u8> {
         (0..length).map(|_| self.word() as u8).collect()
     }
+
+    /// Fewer bytes than a bound that isn't 0.
+    pub fn few_bytes(&mut self, bound: usize) -> Vec<u8> {
+        let length = self.below(bound);
+        self.bytes(length)
+    }
+
+    /// The bytes, of which there is one at least, with one bit flipped.
+    pub fn flip(&mut self, mut bytes: Vec<u8>) -> Vec<u8> {
+        let place = self.below(bytes.len());
+        bytes[place] ^= 1 << self.below(8);
+        bytes
+    }
 }

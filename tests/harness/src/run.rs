@@ -1,10 +1,13 @@
 //! A run: makes every chart and list, and compares the sides on it.
 
+use crate::collected;
 use crate::counted::{self, check_listing};
 use crate::followed::{check_lines, check_pairs, Step};
+use crate::imported;
 use crate::input::{record_of, Failure, Input, Model};
 use crate::label::Output;
 use crate::laid;
+use crate::make::collections::{self, Collection, COLLECTIONS};
 use crate::make::{charts, five, lists};
 use crate::naive;
 use crate::options::Options;
@@ -14,7 +17,7 @@ use crate::tally::Tally;
 use crate::written;
 
 /// Compares all sides on all charts, unless lists are to be of some calls only,
-/// on all lists, and on all graphs on five vertices.
+/// on all lists, on all graphs on five vertices, and on the collections.
 pub fn compare(options: &Options) -> Result<Tally, Failure> {
     let mut tally = Tally::default();
     if options.only.is_none() {
@@ -31,6 +34,11 @@ pub fn compare(options: &Options) -> Result<Tally, Failure> {
     if five::open(&options.known) {
         for number in 0..five::LISTS {
             compare_five(options, number)?;
+        }
+    }
+    if collections::open(&options.known) {
+        for (number, file) in COLLECTIONS.iter().enumerate() {
+            compare_collection(options, number, file)?;
         }
     }
     Ok(tally)
@@ -89,6 +97,7 @@ fn compare_list(
     let lines = input.compare(&options.play, model, plant)?;
     let check = |step: &Step| {
         written::check_line(step)?;
+        imported::check_line(step)?;
         if !naive {
             counted::check_line(step)?;
             sifted::check_sift(step)?;
@@ -96,14 +105,21 @@ fn compare_list(
         laid::check_line(step)?;
         sifted::check_line(step)
     };
+    let check_pair = |last: &Step, step: &Step| {
+        sifted::check_again(last, step)?;
+        imported::check_again(last, step)
+    };
     let checked = check_lines(&made.bytes, &lines, check)
-        .and_then(|()| check_pairs(&made.bytes, &lines, sifted::check_again));
-    checked.map_err(|(line, text)| {
-        let record = record_of(&made.bytes, line);
-        input.failure(format!("{record}: {text}"))
-    })?;
+        .and_then(|()| check_pairs(&made.bytes, &lines, check_pair));
+    checked.map_err(|found| failed(&input, found))?;
     tally.list(&made, &lines);
     Ok(())
+}
+
+/// The failure of a check in a line of a list.
+fn failed(input: &Input, (line, text): (usize, String)) -> Failure {
+    let record = record_of(input.bytes, line);
+    input.failure(format!("{record}: {text}"))
 }
 
 fn compare_five(options: &Options, number: usize) -> Result<(), Failure> {
@@ -112,4 +128,12 @@ fn compare_five(options: &Options, number: usize) -> Result<(), Failure> {
     let model: Model = naive::play::play;
     input.compare(&options.play, Some(model), None)?;
     Ok(())
+}
+
+fn compare_collection(options: &Options, number: usize, file: &Collection) -> Result<(), Failure> {
+    let list = file.list();
+    let input = Input::list(file.name, number, &list);
+    let model: Model = naive::play::play;
+    let lines = input.compare(&options.play, Some(model), None)?;
+    collected::check(file, &list, &lines).map_err(|found| failed(&input, found))
 }

@@ -1,57 +1,80 @@
-//! Charts that programs wrote, read back and compared with what is due.
+//! Charts and graph6 that programs wrote, read back and compared with what is
+//! due.
 
 use crate::counted::true_count;
 use crate::entries::Entry;
 use crate::followed::{numbers, Step};
-use crate::make::ops::WRITE;
+use crate::make::ops::{EXPORT, WRITE};
 use crate::naive::chart::read;
+use crate::naive::graph6::import;
 use crate::naive::layout::Layout;
-use crate::naive::play::write;
+use crate::naive::play::{export, write};
 
-/// Whether a chart that was written is read as the layout that the line shows,
-/// with its true crossings, and whether a line of `write`, accepted or not, is
-/// the naive model's for the layout before it.
+/// Whether what was written is read as the layout that the line shows, a graph6
+/// in rising order, with its true crossings, and whether a line of `write` or
+/// `export`, accepted or not, is the naive model's for the layout before it.
 pub fn check_line(step: &Step) -> Result<(), String> {
-    let Entry::Record([WRITE, length, fill, _]) = step.entry else {
-        return Ok(());
+    let due = match step.entry {
+        Entry::Record([WRITE, length, fill, _]) => write(&step.before, length, fill),
+        Entry::Record([EXPORT, length, fill, _]) => export(&step.before, length, fill),
+        _ => return Ok(()),
     };
-    if let Some(chart) = chart(step.line) {
-        check_read_back(&chart, &step.after)?;
+    if let Some(bytes) = written(step.line) {
+        check_read_back(&step.entry, &bytes, &step.after)?;
     }
-    let due = write(&step.before, length, fill) + " n ";
-    if step.line.starts_with(&due) && step.before == step.after {
+    if step.line.starts_with(&(due + " n ")) && step.before == step.after {
         Ok(())
     } else {
         Err("not what the naive model writes".to_string())
     }
 }
 
-fn check_read_back(chart: &[u8], layout: &Layout) -> Result<(), String> {
-    let (refusal, read) = read(chart);
+fn check_read_back(entry: &Entry, bytes: &[u8], layout: &Layout) -> Result<(), String> {
+    let (what, (refusal, read), due) = match entry {
+        Entry::Record([EXPORT, ..]) => ("graph6", import(bytes), in_rising_order(layout)),
+        _ => ("chart", read(bytes), layout.clone()),
+    };
     if refusal != 0 {
-        return Err(format!("the chart that is written gets refusal {refusal}"));
+        return Err(format!("the {what} that is written gets refusal {refusal}"));
     }
     let count = true_count(&read);
-    let layout = layout.clone();
-    if read == (Layout { count, ..layout }) {
+    if read == (Layout { count, ..due }) {
         Ok(())
     } else {
-        Err("the chart that is written is read as another layout".to_string())
+        Err(format!(
+            "the {what} that is written is read as another layout"
+        ))
     }
 }
 
-/// The chart that an accepted `write` shows.
-pub fn chart(line: &str) -> Option<Vec<u8>> {
-    let behind = line.strip_prefix("write 0 ")?;
-    let length: usize = behind.split(' ').next()?.parse().ok()?;
-    let buffer = numbers(line, " buffer ");
-    let chart = buffer.get(..length)?;
-    Some(chart.iter().map(|&byte| byte as u8).collect())
+fn in_rising_order(layout: &Layout) -> Layout {
+    let mut rising = layout.clone();
+    for (v, place) in (0..layout.n).zip(&mut rising.order) {
+        *place = v as u8;
+    }
+    rising
 }
 
-/// Whether a line starts from the chart that the line before it wrote.
-pub fn is_read_back(before: &Step, step: &Step) -> bool {
-    chart(before.line).is_some_and(|chart| step.entry == Entry::Chart(&chart))
+/// What an accepted `write` or `export` shows that it wrote.
+pub fn written(line: &str) -> Option<Vec<u8>> {
+    let words: Vec<&str> = line.splitn(4, ' ').collect();
+    let ["write" | "export", "0", length, _] = words[..] else {
+        return None;
+    };
+    let buffer = numbers(line, " buffer ");
+    let written = buffer.get(..length.parse().ok()?)?;
+    Some(written.iter().map(|&byte| byte as u8).collect())
+}
+
+/// Whether a line starts from what the line before it wrote.
+pub fn is_read_back(last: &Step, step: &Step) -> bool {
+    let Some(bytes) = written(last.line) else {
+        return false;
+    };
+    match last.entry {
+        Entry::Record([WRITE, ..]) => step.entry == Entry::Chart(&bytes),
+        _ => step.entry == Entry::Import(&bytes),
+    }
 }
 
 #[cfg(test)]
@@ -60,12 +83,12 @@ mod tests {
     use crate::followed::{change_found, check_lines, steps};
     use crate::make::charts::Chart;
     use crate::make::graph::Graph;
-    use crate::make::ops::{SET_COUNT, SET_N};
+    use crate::make::ops::{MOVE, SET_COUNT, SET_N};
     use crate::make::records;
     use crate::naive::play::play;
 
-    /// Document 01's first ring with another count, written into 19 bytes and
-    /// into 17, read back, and spoilt.
+    /// Document 01's first ring with another count, written into 17 bytes and
+    /// into 19, read back, and spoilt.
     fn list() -> Vec<u8> {
         let (edges, order) = (vec![(3, 1), (0, 2)], vec![0, 1, 2, 3]);
         let start = records::chart(&Chart::of(&Graph { edges, order }).bytes());
@@ -83,20 +106,73 @@ mod tests {
         .concat()
     }
 
+    /// The same, moved and exported into 1 byte and into 3, imported, and spoilt.
+    fn list_of_graph6() -> Vec<u8> {
+        let calls = [
+            [SET_COUNT, 9, 0, 0],
+            [MOVE, 0, 1, 0],
+            [EXPORT, 1, 6, 0],
+            [EXPORT, 3, 7, 0],
+        ];
+        let spoilt = [[SET_N, 5, 0, 0], [EXPORT, 3, 8, 0]];
+        [
+            records::import(b"CQ"),
+            calls.map(records::bytes).concat(),
+            records::import(b"CQ"),
+            spoilt.map(records::bytes).concat(),
+        ]
+        .concat()
+    }
+
     #[test]
-    fn a_chart_is_found_in_its_line_and_behind_it() {
-        let (list, lines) = (list(), play(&list()));
-        let steps: Vec<Step> = steps(&list, &lines).collect();
-        let lengths: Vec<Option<usize>> = steps
-            .iter()
-            .map(|step| chart(step.line).map(|chart| chart.len()))
-            .collect();
-        assert_eq!(lengths, [None, None, Some(18), None, None]);
-        let back: Vec<bool> = steps
-            .windows(2)
-            .map(|pair| is_read_back(&pair[0], &pair[1]))
-            .collect();
-        assert_eq!(back, [false, false, true, false]);
+    fn what_is_written_is_found_in_its_line_and_behind_it() {
+        let found = |list: Vec<u8>| {
+            let lines = play(&list);
+            let steps: Vec<Step> = steps(&list, &lines).collect();
+            let lengths: Vec<Option<usize>> = steps
+                .iter()
+                .map(|step| written(step.line).map(|bytes| bytes.len()))
+                .collect();
+            let mut pairs = steps.windows(2);
+            let back = pairs.position(|pair| is_read_back(&pair[0], &pair[1]));
+            (lengths, back)
+        };
+        let due = vec![None, None, Some(18), None, None];
+        assert_eq!(found(list()), (due, Some(2)));
+        let due = vec![None, None, None, Some(2), None, None];
+        assert_eq!(found(list_of_graph6()), (due, Some(3)));
+    }
+
+    #[test]
+    fn a_wrong_graph6_buffer_or_layout_is_found() {
+        let (list, lines) = (list_of_graph6(), play(&list_of_graph6()));
+        assert_eq!(check_lines(&list, &lines, check_line), Ok(()));
+        let due = "export 0 2 buffer 67 81 7 n 4 order 1 0 2 3";
+        assert!(lines.contains(due));
+        for (line, from, to, due) in [
+            (
+                3,
+                "export 19 0 buffer 6",
+                "export 19 0 buffer 5",
+                "not what",
+            ),
+            (3, "export 19 0", "export 19 1", "not what"),
+            (3, "export 19 0", "export 18 0", "not what"),
+            (4, "67 81 7 n", "67 82 7 n", "another layout"),
+            (4, "67 81 7 n", "67 73 7 n", "another layout"),
+            (4, "67 81 7 n", "68 81 7 n", "gets refusal 21"),
+            (4, "67 81 7 n", "66 81 7 n", "gets refusal 22"),
+            (4, "67 81 7 n", "62 81 7 n", "gets refusal 20"),
+            (4, "67 81 7 n", "67 81 6 n", "not what"),
+            (4, "export 0 2", "export 0 3", "gets refusal 21"),
+            (4, "export 0 2", "export 0 1", "gets refusal 21"),
+            (4, "export 0 2", "export 0 4", "not what"),
+            (4, "7 n 4 order 1 0 2 3", "7 n 4 order 0 1 2 3", "not what"),
+            (6, "export 11 0", "export 19 0", "not what"),
+        ] {
+            let text = change_found(&list, &lines, check_line, (line, from, to));
+            assert!(text.contains(due), "{to}: {text}");
+        }
     }
 
     #[test]

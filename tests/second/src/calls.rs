@@ -4,6 +4,7 @@ use crate::append;
 use crate::chart;
 use crate::circle::{Circle, Edge};
 use crate::crossings;
+use crate::graph6;
 use crate::layout::{Layout, PLACES};
 use crate::sifting::{self, Convergence, Round, Sift};
 
@@ -153,18 +154,29 @@ pub fn order(layout: Layout, buffer: &mut [u8]) -> Answer<()> {
     })
 }
 
-/// The chart, written to the first bytes of a lent buffer. Answers its length.
-pub fn write_chart(layout: Layout, buffer: &mut [u8]) -> Answer<usize> {
-    let chart = if layout.is_valid() {
-        chart::bytes(&layout)
+/// What is made of a layout, written to the first bytes of a lent buffer.
+/// Answers its length.
+fn write(layout: Layout, buffer: &mut [u8], make: fn(&Layout) -> Vec<u8>) -> Answer<usize> {
+    let made = if layout.is_valid() {
+        make(&layout)
     } else {
         Vec::new()
     };
-    let length = chart.len();
+    let length = made.len();
     answer(layout, &[(length <= buffer.len(), 19)], |_| {
-        buffer[..length].copy_from_slice(&chart);
+        buffer[..length].copy_from_slice(&made);
         length
     })
+}
+
+/// The chart.
+pub fn write_chart(layout: Layout, buffer: &mut [u8]) -> Answer<usize> {
+    write(layout, buffer, chart::bytes)
+}
+
+/// Export: the graph6.
+pub fn write_graph6(layout: Layout, buffer: &mut [u8]) -> Answer<usize> {
+    write(layout, buffer, graph6::bytes)
 }
 
 /// The shown crossing pair.

@@ -3,7 +3,7 @@
 use std::collections::BTreeSet;
 
 use crate::circle::Circle;
-use crate::crossings::crossings;
+use crate::crossings::counted;
 use crate::layout::{Layout, PLACES};
 
 /// The longest input that passes the first check.
@@ -34,9 +34,7 @@ pub fn read(input: &[u8]) -> Result<Layout, u8> {
     if !sorted.into_iter().eq(0..n) {
         return Err(8);
     }
-    let mut layout = Layout::new(order, &edges);
-    layout.count = crossings(&Circle::new(&layout));
-    Ok(layout)
+    Ok(counted(order, &edges))
 }
 
 /// Divides the input into fields of tag and body.

@@ -1,6 +1,15 @@
 //! Counting crossings, and finding the first one.
 
 use crate::circle::{Circle, Edge};
+use crate::layout::Layout;
+
+/// A layout of the vertices in `order` with these edges that carries its
+/// crossings.
+pub fn counted(order: &[u8], edges: &[(u8, u8)]) -> Layout {
+    let mut layout = Layout::new(order, edges);
+    layout.count = crossings(&Circle::new(&layout));
+    layout
+}
 
 /// The sums of the first 0, 1, 2 and so on numbers.
 pub fn prefix_sums(numbers: &[u32]) -> Vec<u32> {

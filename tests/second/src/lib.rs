@@ -11,6 +11,7 @@ pub mod calls;
 pub mod chart;
 pub mod circle;
 pub mod crossings;
+pub mod graph6;
 pub mod layout;
 pub mod list;
 pub mod play;

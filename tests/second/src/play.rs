@@ -3,11 +3,15 @@
 
 use crate::calls::{self, Answer, Crossing};
 use crate::chart;
+use crate::graph6;
 use crate::layout::{Layout, PLACES};
 use crate::list::yes_or_no;
 
-/// Bytes in a record; a chart is padded to a multiple of it.
+/// Bytes in a record; a chart or a graph6 is padded to a multiple of it.
 const RECORD: usize = 32;
+
+/// Bytes in the longest buffer that a chart or a graph6 is written to.
+const BUFFER: u64 = 8192;
 
 /// A record: the op and its three numbers.
 type Record = [u64; 4];
@@ -51,13 +55,13 @@ fn take_record(list: &mut &[u8]) -> Option<Record> {
     Some(record)
 }
 
-/// The next chart, if all of it and of its padding is there.
-fn take_chart<'a>(list: &mut &'a [u8], length: u64) -> Option<&'a [u8]> {
+/// The next chart or graph6, if all of it and of its padding is there.
+fn take_padded<'a>(list: &mut &'a [u8], length: u64) -> Option<&'a [u8]> {
     let length = usize::try_from(length).ok()?;
     let padded = length.checked_next_multiple_of(RECORD)?;
-    let (chart, rest) = list.split_at_checked(padded)?;
+    let (bytes, rest) = list.split_at_checked(padded)?;
     *list = rest;
-    Some(&chart[..length])
+    Some(&bytes[..length])
 }
 
 /// Sets one field, if that is what the record asks for. A place that is not
@@ -80,11 +84,12 @@ fn set_place<T>(places: &mut [T], place: usize, value: T) {
     }
 }
 
-/// Starts from the empty layout or from a chart.
+/// Starts from the empty layout, from a chart or from a graph6.
 fn start([op, a, _, _]: Record, list: &mut &[u8]) -> Option<Told> {
     let (name, read) = match op {
         0 => ("empty", Ok(Layout::EMPTY)),
-        1 => ("chart", chart::read(take_chart(list, a)?)),
+        1 => ("chart", chart::read(take_padded(list, a)?)),
+        28 => ("import", graph6::read(take_padded(list, a)?)),
         _ => return None,
     };
     Some(Told {
@@ -119,7 +124,8 @@ fn call(layout: Layout, [op, a, b, _]: Record) -> Option<Told> {
         24 => told("count", calls::count(layout), |c| format!(" {c}")),
         25 => read_order(layout, a, b),
         26 => told("pair", calls::first_crossing(layout), pair_text),
-        27 => write_chart(layout, a, b),
+        27 => write("write", a, b, |buffer| calls::write_chart(layout, buffer)),
+        29 => write("export", a, b, |buffer| calls::write_graph6(layout, buffer)),
         _ => return None,
     })
 }
@@ -130,11 +136,14 @@ fn read_order(layout: Layout, length: u64, fill: u64) -> Told {
     lent("order", length.min(255), fill, read, |()| String::new())
 }
 
-/// The call `write`, into a buffer of at most as many bytes as a chart may have.
-fn write_chart(layout: Layout, length: u64, fill: u64) -> Told {
-    let length = length.min(chart::MAX_BYTES as u64);
-    let write = |buffer: &mut [u8]| calls::write_chart(layout, buffer);
-    lent("write", length, fill, write, |l| format!(" {l}"))
+/// A call that writes the layout and answers a length.
+fn write(
+    name: &'static str,
+    length: u64,
+    fill: u64,
+    call: impl FnOnce(&mut [u8]) -> Answer<usize>,
+) -> Told {
+    lent(name, length.min(BUFFER), fill, call, |l| format!(" {l}"))
 }
 
 /// A call that is lent a buffer of so many bytes, filled beforehand.

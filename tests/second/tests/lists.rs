@@ -16,12 +16,22 @@ fn records(list: &[&[u64]]) -> Vec<u8> {
     list.iter().flat_map(|numbers| record(numbers)).collect()
 }
 
-/// A start from a chart.
-fn chart(bytes: &[u8]) -> Vec<u8> {
-    let mut list = record(&[1, bytes.len() as u64]);
+/// A start from bytes behind its record, padded.
+fn start(op: u64, bytes: &[u8]) -> Vec<u8> {
+    let mut list = record(&[op, bytes.len() as u64]);
     list.extend(bytes);
     list.resize(list.len().next_multiple_of(32), 0);
     list
+}
+
+/// A start from a chart.
+fn chart(bytes: &[u8]) -> Vec<u8> {
+    start(1, bytes)
+}
+
+/// A start from a graph6.
+fn import(bytes: &[u8]) -> Vec<u8> {
+    start(28, bytes)
 }
 
 fn first_ring() -> Vec<u8> {
@@ -54,6 +64,18 @@ fn the_worked_example() {
 }
 
 #[test]
+fn the_worked_example_of_graph6() {
+    let list = [import(b"DQc"), record(&[29, 5, 7])].concat();
+    assert_eq!(list.len(), 96);
+    let rest = format!("n 5 order {} count 1 words", places("0 1 2 3 4"));
+    let due = format!(
+        "import 0 {rest} 0 20 1 8 2 1 3 18 4 9\n\
+         export 0 3 buffer 68 81 99 7 7 {rest}\n"
+    );
+    assert_eq!(play(&list), due);
+}
+
+#[test]
 fn each_call_has_its_answers() {
     let order = places("0 1 2 3");
     let rest = format!("n 4 order {order} count 1 words");
@@ -75,6 +97,10 @@ fn each_call_has_its_answers() {
     assert_eq!(written, line(&format!("write 0 18 buffer {chart} 255 255")));
     assert_eq!(last_line(&[&[27, 3, 7]]), line("write 19 0 buffer 7 7 7"));
     assert_eq!(last_line(&[&[27, 0, 7]]), line("write 19 0 buffer"));
+    let exported = last_line(&[&[29, 3, 0x1FF]]);
+    assert_eq!(exported, line("export 0 2 buffer 67 81 255"));
+    assert_eq!(last_line(&[&[29, 1, 7]]), line("export 19 0 buffer 7"));
+    assert_eq!(last_line(&[&[29, 0, 7]]), line("export 19 0 buffer"));
     assert!(last_line(&[&[2, 5], &[22]]).starts_with("round 11 0 0 0 n 5 "));
     let turned = places("1 0 2 3");
     let rest = format!("n 4 order {turned} count 0 words");
@@ -102,10 +128,12 @@ fn an_order_gets_a_buffer_of_at_most_255_bytes() {
 }
 
 #[test]
-fn a_chart_gets_a_buffer_of_at_most_8192_bytes() {
+fn a_chart_or_a_graph6_gets_a_buffer_of_at_most_8192_bytes() {
     let wide = (1 << 32) + 18;
-    let lengths = [8191, 8192, 8193, wide, u64::MAX].map(|length| buffer_length(27, length));
-    assert_eq!(lengths, [8191, 8192, 8192, 8192, 8192]);
+    for op in [27, 29] {
+        let lengths = [8191, 8192, 8193, wide, u64::MAX].map(|length| buffer_length(op, length));
+        assert_eq!(lengths, [8191, 8192, 8192, 8192, 8192]);
+    }
 }
 
 #[test]
@@ -118,6 +146,33 @@ fn what_is_written_can_be_read_behind_it() {
     let lines: Vec<&str> = lines.lines().collect();
     assert!(lines[1].starts_with("write 0 18 ") && lines[1].ends_with(&counts(9)));
     assert_eq!(lines[3], format!("chart 0 {}", counts(1)));
+}
+
+/// The first ring in another order, exported and imported: its edges are 0-2
+/// and 1-3 still, so that no word changes.
+#[test]
+fn what_is_exported_can_be_imported_behind_it() {
+    let calls = records(&[&[19, 0, 1], &[29, 2]]);
+    let lines = play(&[first_ring(), calls, import(b"CQ"), import(b"CQ\n")].concat());
+    let lines: Vec<&str> = lines.lines().collect();
+    let due = format!("n 4 order {} count 0 words", places("1 0 2 3"));
+    assert_eq!(lines[2], format!("export 0 2 buffer 67 81 {due}"));
+    let due = format!("n 4 order {} count 1 words", places("0 1 2 3"));
+    assert_eq!(lines[3], format!("import 0 {due}"));
+    let zeros = places("");
+    let due = format!("n 0 order{zeros} count 0 words 0 0 1 0 2 0 3 0");
+    assert_eq!(lines[4], format!("import 21 {due}"));
+}
+
+/// An import is no call on what was there before it.
+#[test]
+fn an_import_stands_behind_any_layout() {
+    let spoilt = records(&[&[2, 65], &[29, 2]]);
+    let lines = play(&[spoilt, import(b"@"), import(b"")].concat());
+    let lines: Vec<&str> = lines.lines().collect();
+    assert!(lines[0].starts_with("export 11 0 buffer 0 0 n 65 "));
+    assert!(lines[1].starts_with("import 0 n 1 "));
+    assert!(lines[2].starts_with("import 20 n 0 "));
 }
 
 #[test]
@@ -157,13 +212,17 @@ fn a_start_shows_the_words_that_differ_from_those_before() {
 fn a_list_ends_at_an_unknown_op_or_where_it_is_cut() {
     assert_eq!(play(&[]), "");
     assert_eq!(play(&record(&[6])), "end\n");
-    assert_eq!(play(&records(&[&[28], &[24]])), "end\n");
+    assert_eq!(play(&records(&[&[30], &[24]])), "end\n");
     assert_eq!(play(&record(&[256 + 24])), "end\n");
     assert_eq!(play(&record(&[24])[..31]), "end\n");
-    assert_eq!(play(&record(&[1, 1])), "end\n");
-    assert_eq!(play(&record(&[1, u64::MAX])), "end\n");
+    for op in [1, 28] {
+        assert_eq!(play(&record(&[op, 1])), "end\n");
+        assert_eq!(play(&record(&[op, u64::MAX])), "end\n");
+    }
     let whole = first_ring();
-    assert_eq!(play(&whole[..whole.len() - 1]), "end\n");
+    for start in [&whole, &import(b"CQ")] {
+        assert_eq!(play(&start[..start.len() - 1]), "end\n");
+    }
     let lines = play(&[whole, record(&[9])].concat());
     assert!(lines.ends_with("words 0 4 1 8 2 1 3 2\nend\n"), "{lines}");
 }

@@ -2,26 +2,13 @@
 
 mod common;
 
-use common::{all_edges, all_graphs, complete, first_ring, layout, rising, Random};
-use second::calls::{self, Answer};
+use common::{all_edges, complete, first_ring, layout, many_layouts, rising};
+use second::calls;
 use second::chart;
 use second::layout::Layout;
 
-/// What a buffer of so many bytes gets, each of which holds 7 before the call.
-fn written(layout: Layout, length: usize) -> (Answer<usize>, Vec<u8>) {
-    let mut buffer = vec![7; length];
-    let answer = calls::write_chart(layout, &mut buffer);
-    assert_eq!(answer.layout, layout);
-    (answer, buffer)
-}
-
-/// The chart of a layout, in a buffer that is longer.
 fn chart_of(layout: Layout) -> Vec<u8> {
-    let (answer, mut buffer) = written(layout, chart::MAX_BYTES);
-    assert_eq!(answer.refusal, 0);
-    let behind = buffer.split_off(answer.value);
-    assert!(behind.iter().all(|&byte| byte == 7));
-    buffer
+    common::written(calls::write_chart, layout)
 }
 
 /// The chart is read back as the layout with its true count, whatever count it
@@ -79,17 +66,8 @@ fn a_turned_list_is_another_chart() {
 }
 
 #[test]
-fn every_graph_of_five_vertices_comes_back() {
-    for edges in all_graphs(5) {
-        comes_back(layout(&[3, 1, 4, 0, 2], &edges));
-    }
-}
-
-#[test]
-fn random_layouts_come_back() {
-    for seed in 0..200 {
-        comes_back(Random(seed).layout());
-    }
+fn layouts_come_back() {
+    many_layouts().for_each(comes_back);
 }
 
 #[test]
@@ -99,18 +77,7 @@ fn a_buffer_is_long_enough_or_untouched() {
         (first_ring(), 18),
         (complete(64), 4106),
     ] {
-        let chart = chart_of(ring);
-        assert_eq!(chart.len(), length);
-        for longer in 0..3 {
-            let (answer, buffer) = written(ring, length + longer);
-            assert_eq!((answer.refusal, answer.value), (0, length));
-            assert_eq!(buffer, [&chart[..], &vec![7; longer]].concat());
-        }
-        for shorter in [length - 1, length - 2, 1, 0] {
-            let (answer, buffer) = written(ring, shorter);
-            assert_eq!((answer.refusal, answer.value), (19, 0));
-            assert_eq!(buffer, vec![7; shorter]);
-        }
+        common::is_long_enough_or_untouched(calls::write_chart, ring, length);
     }
 }
 
@@ -119,9 +86,7 @@ fn validity_is_asked_before_the_length() {
     let mut ring = first_ring();
     ring.adjacency[3] = 0;
     for length in [0, 17, 18, 8192] {
-        let (answer, buffer) = written(ring, length);
-        assert_eq!((answer.refusal, answer.value), (11, 0));
-        assert_eq!(buffer, vec![7; length]);
+        common::is_untouched(calls::write_chart, ring, length, 11);
     }
 }
 

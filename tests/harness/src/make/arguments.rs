@@ -15,7 +15,7 @@ impl Maker {
             LAY | SIFT => (self.vertex(), 0),
             SETTLE => (self.limit(), 0),
             ORDER => (self.buffer(), self.fill()),
-            WRITE => (self.any_length(), self.fill()),
+            WRITE | EXPORT => (self.any_length(op), self.fill()),
             _ => (0, 0),
         }
     }

@@ -6,7 +6,7 @@ use super::density::QUARTERS;
 use super::families;
 use super::graph::Graph;
 use super::settled::settled;
-use super::special::SPECIALS;
+use super::special::{Special, SPECIALS};
 use crate::rng::Rng;
 
 /// The bodies of a chart's three fields, whatever they hold.
@@ -71,7 +71,7 @@ const SETTLED: &str = "settled already";
 pub fn chart(seed: u64, index: usize) -> Made {
     let mut rng = Rng::new(seed, "chart", index);
     if index % 3 == 2 {
-        return special(&mut rng, index / 3);
+        return special_chart(&mut rng, index / 3);
     }
     accepted_chart(&mut rng, Shape::new(seed, index - index / 3))
 }
@@ -129,12 +129,16 @@ fn accepted_chart(rng: &mut Rng, shape: Shape) -> Made {
 
 /// The special chart with some number. They take turns, but for the first one,
 /// which is dear and always the same.
-pub fn special(rng: &mut Rng, number: usize) -> Made {
+pub fn special(number: usize) -> &'static Special {
     let others = SPECIALS.len() - 1;
-    let special = match number {
+    match number {
         0 => &SPECIALS[0],
         _ => &SPECIALS[1 + (number - 1) % others],
-    };
+    }
+}
+
+fn special_chart(rng: &mut Rng, number: usize) -> Made {
+    let special = special(number);
     Made {
         bytes: (special.make)(rng),
         kind: special.kind,

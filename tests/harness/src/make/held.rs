@@ -3,6 +3,7 @@
 use super::ops::*;
 use super::records;
 use crate::naive::chart::{read, written};
+use crate::naive::graph6::{exported, import};
 use crate::naive::layout::{empty, valid, Layout};
 use crate::naive::play::after;
 
@@ -27,7 +28,7 @@ impl Held {
     pub fn record(&mut self, record: Record, cost: u64) {
         match record[0] {
             EMPTY => self.layout = Some(empty()),
-            COUNT..=WRITE => {}
+            COUNT..=WRITE | EXPORT => {}
             _ if cost <= self.left => {
                 self.left -= cost;
                 let play = |layout| after(layout, &records::bytes(record));
@@ -37,15 +38,22 @@ impl Held {
         }
     }
 
-    /// Takes in a start from a chart.
-    pub fn chart(&mut self, chart: &[u8]) {
-        self.layout = Some(read(chart).1);
+    /// Takes in a start from a chart or a graph6.
+    pub fn start(&mut self, op: u64, bytes: &[u8]) {
+        let (_, layout) = match op {
+            IMPORT => import(bytes),
+            _ => read(bytes),
+        };
+        self.layout = Some(layout);
     }
 
-    /// The chart that is written of it, if it is known and valid.
-    pub fn written(&self) -> Option<Vec<u8>> {
+    /// What a call writes of it, if it is known and valid.
+    pub fn written(&self, op: u64) -> Option<Vec<u8>> {
         let layout = self.layout.as_ref().filter(|layout| valid(layout));
-        layout.map(written)
+        layout.map(match op {
+            EXPORT => exported,
+            _ => written,
+        })
     }
 }
 
@@ -62,16 +70,21 @@ mod tests {
         held.record([LINK, 2, 0, 0], 1);
         held.record([MOVE, 0, 2, 0], BUDGET - 1);
         held.record([WRITE, 9, 0, 0], 1);
+        held.record([EXPORT, 9, 0, 0], 1);
         let due = [0x44, 0, 1, 3, 0x4C, 0, 2, 0, 2, 0x52, 0, 3, 1, 2, 0];
-        assert_eq!(held.written(), Some(due.to_vec()));
+        assert_eq!(held.written(WRITE), Some(due.to_vec()));
+        assert_eq!(held.written(EXPORT), Some(b"BO".to_vec()));
         held.record([SIFT, 0, 0, 0], 1);
         held.record([ADD, 0, 0, 0], 0);
-        assert_eq!(held.written(), None);
-        held.chart(&due);
-        assert_eq!(held.written(), Some(due.to_vec()));
+        assert_eq!(held.written(WRITE), None);
+        held.start(CHART, &due);
+        assert_eq!(held.written(WRITE), Some(due.to_vec()));
         held.record([SET_N, 2, 0, 0], 0);
-        assert_eq!(held.written(), None);
+        assert_eq!(held.written(WRITE), None);
+        assert_eq!(held.written(EXPORT), None);
+        held.start(IMPORT, b"BO");
+        assert_eq!(held.written(EXPORT), Some(b"BO".to_vec()));
         held.record([EMPTY, 0, 0, 0], 0);
-        assert_eq!(held.written().map(|chart| chart.len()), Some(10));
+        assert_eq!(held.written(WRITE).map(|chart| chart.len()), Some(10));
     }
 }

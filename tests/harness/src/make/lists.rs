@@ -124,7 +124,7 @@ impl Maker {
                 self.call(LAY);
                 self.some_calls(&[SIFT, SIFT, ROUND, SETTLE]);
                 let edit = self.rng.pick(&[ADD, LINK, UNLINK, MOVE]);
-                self.some_calls(&[edit, COUNT, PAIR, WRITE]);
+                self.some_calls(&[edit, COUNT, PAIR, WRITE, EXPORT]);
             }
         }
     }
@@ -183,7 +183,7 @@ impl Maker {
     /// What takes its turn from list to list: each size with some density, a
     /// vertex of which is sifted twice, each length of a buffer, each number of
     /// edges that is written, each family, each refusal number of each call, and
-    /// each special chart.
+    /// each special chart and graph6.
     fn in_turn(&mut self, seed: u64, index: usize) {
         let n = ((seed % 65) as usize + 7 * index) % 65;
         let graph = Graph::in_quarter(&mut self.rng, n, index % QUARTERS);
@@ -191,14 +191,15 @@ impl Maker {
         self.sift_twice();
         self.any_calls(2, 5);
         self.emit(ORDER, index as u64 % 66, 7);
-        self.call_write_in_turn(&graph, index);
+        self.call_writers_in_turn(&graph, index);
+        self.import_in_turn(&graph, index);
         self.lay_in_turn(index);
         let refused = self.known.refused();
         let (_, op, number) = refused[index % refused.len()];
         self.refused_call(op, number);
         if self.known.has(CHART) {
-            let chart = charts::special(&mut self.rng, index);
-            self.chart(&chart.bytes);
+            let chart = (charts::special(index).make)(&mut self.rng);
+            self.read(CHART, &chart);
             self.forget();
             self.emit(COUNT, 0, 0);
         }
@@ -221,7 +222,7 @@ impl Maker {
     fn end(&mut self) {
         match self.rng.below(8) {
             0 => {
-                let ops = [6, 15, 28, 255, 256 + ADD, (1 << 32) + COUNT, u64::MAX];
+                let ops = [6, 15, 30, 255, 256 + ADD, (1 << 32) + COUNT, u64::MAX];
                 let op = self.rng.pick(&ops);
                 self.record([op, 0, 0, 0]);
                 self.record([ADD, 0, 0, 0]);
@@ -233,11 +234,13 @@ impl Maker {
             }
             2 => {
                 let length = self.rng.pick(&[33, 8194, 1 << 32, u64::MAX]);
-                self.record([CHART, length, 0, 0]);
+                let op = self.rng.pick(&READERS);
+                self.record([op, length, 0, 0]);
                 self.record([ADD, 0, 0, 0]);
             }
             3 => {
-                self.chart(&[0x44]);
+                let op = self.rng.pick(&READERS);
+                self.read(op, b"@");
                 let cut = self.rng.within(1, 31);
                 self.bytes.truncate(self.bytes.len() - cut);
             }
@@ -253,6 +256,7 @@ mod tests {
     use crate::followed::{steps, Step};
     use crate::make::density::quarter;
     use crate::naive::chart::{read, written};
+    use crate::naive::graph6::import;
     use crate::naive::layout::{empty, isolated};
     use crate::naive::play::play;
     use crate::written::is_read_back;
@@ -272,7 +276,9 @@ mod tests {
     }
 
     fn is_start(line: &str) -> bool {
-        line.starts_with("empty ") || line.starts_with("chart ")
+        ["empty ", "chart ", "import "]
+            .iter()
+            .any(|start| line.starts_with(start))
     }
 
     /// What is read back behind its write is no new start.
@@ -324,6 +330,19 @@ mod tests {
     }
 
     #[test]
+    fn every_family_is_imported_now_and_then() {
+        for (index, family) in families::all().iter().enumerate() {
+            let is_import = |seed| {
+                let mut maker = Maker::new(Rng::new(seed, "import", index), &Known::all());
+                maker.lay_in_turn(index);
+                matches!(entries(&maker.bytes)[0], Entry::Import(_))
+            };
+            let imports = (0..30).filter(|&seed| is_import(seed)).count();
+            assert!((1..30).contains(&imports), "{}", family.name);
+        }
+    }
+
+    #[test]
     fn each_call_that_sifts_stands_behind_some_lay() {
         let lines = lines("lay, then sifting").concat();
         let lines: Vec<&str> = lines.lines().collect();
@@ -341,11 +360,12 @@ mod tests {
         let (mut ring, mut started) = (empty(), false);
         let mut wrote = false;
         for entry in entries(list) {
-            let read_back = matches!(entry, Entry::Chart(chart) if wrote && is_written(chart));
-            wrote = matches!(entry, Entry::Record([WRITE, ..]));
+            let read_back = wrote && is_written(&entry);
+            wrote = matches!(entry, Entry::Record([WRITE | EXPORT, ..]));
             match entry {
                 _ if read_back => {}
                 Entry::Chart(chart) => (ring, started) = (read(chart).1, true),
+                Entry::Import(graph6) => (ring, started) = (import(graph6).1, true),
                 Entry::Record([EMPTY, ..]) => (ring, started) = (empty(), true),
                 Entry::Record([SET_N, n, ..]) => ring.n = n,
                 Entry::Record([SET_WORD, v @ ..64, word, _]) => ring.words[v as usize] = word,
@@ -360,9 +380,13 @@ mod tests {
         starts
     }
 
-    /// Whether a chart is as it would be written.
-    fn is_written(chart: &[u8]) -> bool {
-        written(&read(chart).1) == chart
+    /// Whether a chart or a graph6 is as it would be written.
+    fn is_written(entry: &Entry) -> bool {
+        match entry {
+            Entry::Chart(chart) => written(&read(chart).1) == *chart,
+            Entry::Import(graph6) => import(graph6).0 == 0,
+            _ => false,
+        }
     }
 
     #[test]

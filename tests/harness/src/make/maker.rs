@@ -3,15 +3,17 @@
 use super::charts::Chart;
 use super::cost;
 use super::graph::{Edge, Graph};
+use super::graph6::Graph6;
 use super::held::Held;
 use super::ops::*;
 use super::records;
 use crate::rng::Rng;
 
 /// The calls, those oftener that are to come oftener.
-const CALLS: [u64; 27] = [
+const CALLS: [u64; 29] = [
     ADD, ADD, LINK, LINK, LINK, LINK, LINK, UNLINK, UNLINK, UNLINK, MOVE, MOVE, MOVE, LAY, LAY,
-    SIFT, SIFT, SIFT, ROUND, SETTLE, SETTLE, COUNT, ORDER, ORDER, PAIR, WRITE, WRITE,
+    SIFT, SIFT, SIFT, ROUND, SETTLE, SETTLE, COUNT, ORDER, ORDER, PAIR, WRITE, WRITE, EXPORT,
+    EXPORT,
 ];
 
 /// What the naive model may do for the calls of one list that are chosen by it.
@@ -83,14 +85,15 @@ impl Maker {
         self.bytes.extend(records::bytes(record));
     }
 
-    pub fn chart(&mut self, bytes: &[u8]) {
-        self.held.chart(bytes);
-        self.bytes.extend(records::chart(bytes));
+    /// Starts from a chart or a graph6.
+    pub fn read(&mut self, op: u64, bytes: &[u8]) {
+        self.held.start(op, bytes);
+        self.bytes.extend(records::start(op, bytes));
     }
 
-    /// The chart that is written of the layout, if that is known and valid.
-    pub fn written_chart(&self) -> Option<Vec<u8>> {
-        self.held.written()
+    /// What a call writes of the layout, if that is known and valid.
+    pub fn written(&self, op: u64) -> Option<Vec<u8>> {
+        self.held.written(op)
     }
 
     /// Starts from the empty layout.
@@ -101,8 +104,14 @@ impl Maker {
 
     /// Starts from the chart of a graph.
     pub fn write_chart(&mut self, graph: &Graph) {
-        self.chart(&Chart::of(graph).bytes());
-        (self.n, self.edges) = (graph.n(), graph.edges.clone());
+        self.read(CHART, &Chart::of(graph).bytes());
+        self.hold(graph);
+    }
+
+    /// Starts from the graph6 of a graph, which drops the order.
+    pub fn write_graph6(&mut self, graph: &Graph) {
+        self.read(IMPORT, &Graph6::of(graph).bytes());
+        self.hold(graph);
     }
 
     /// Starts from the layout of a graph, set field by field.
@@ -110,15 +119,28 @@ impl Maker {
         for record in records::fields(graph) {
             self.record(record);
         }
+        self.hold(graph);
+    }
+
+    fn hold(&mut self, graph: &Graph) {
         (self.n, self.edges) = (graph.n(), graph.edges.clone());
     }
 
-    /// Starts from a graph in one way or the other.
+    /// Starts from a graph in its order, in one way or the other.
     pub fn write_graph(&mut self, graph: &Graph) {
         if self.known.has(CHART) && self.rng.once_in(2) {
             self.write_chart(graph);
         } else {
             self.write_fields(graph);
+        }
+    }
+
+    /// Starts from a graph, now and then in rising order.
+    pub fn write_graph_in_any_order(&mut self, graph: &Graph) {
+        if self.known.has(IMPORT) && self.rng.once_in(3) {
+            self.write_graph6(graph);
+        } else {
+            self.write_graph(graph);
         }
     }
 
@@ -159,8 +181,9 @@ impl Maker {
     pub fn call(&mut self, op: u64) {
         let (a, b) = self.arguments(op);
         self.emit(op, a, b);
-        if op == WRITE && self.rng.once_in(2) {
-            self.read_back(a);
+        let writes = WRITERS.iter().any(|&(writer, _)| writer == op);
+        if writes && self.rng.once_in(2) {
+            self.read_back(op, a);
         }
     }
 
@@ -205,7 +228,7 @@ impl Maker {
     fn naive_cost(&self, op: u64, a: u64) -> u64 {
         let (n, m) = (self.n, self.edges.len());
         match op {
-            LINK | UNLINK | MOVE => 2 * cost::count(m),
+            LINK | UNLINK | MOVE | EXPORT => 2 * cost::count(m),
             LAY => cost::lay(n, m) + 2 * cost::count(m),
             SIFT => cost::sift(n, m),
             ROUND => cost::rounds(n, m, 1),

@@ -2,12 +2,15 @@
 
 pub mod arguments;
 pub mod charts;
+pub mod collections;
 pub mod cost;
 pub mod density;
 pub mod families;
 pub mod five;
 pub mod graph;
+pub mod graph6;
 pub mod held;
+pub mod imported;
 pub mod lists;
 pub mod maker;
 pub mod ops;

@@ -22,11 +22,19 @@ pub const COUNT: u64 = 24;
 pub const ORDER: u64 = 25;
 pub const PAIR: u64 = 26;
 pub const WRITE: u64 = 27;
+pub const IMPORT: u64 = 28;
+pub const EXPORT: u64 = 29;
+
+/// The starts from bytes that follow the record.
+pub const READERS: [u64; 2] = [CHART, IMPORT];
+
+/// The calls that write a layout, each before the start that reads it back.
+pub const WRITERS: [(u64, u64); 2] = [(WRITE, CHART), (EXPORT, IMPORT)];
 
 /// A call's name, its op, and the refusal numbers that it can answer.
 type Call = (&'static str, u64, &'static [u8]);
 
-const CALLS: [Call; 13] = [
+const CALLS: [Call; 15] = [
     ("chart", CHART, &[1, 2, 3, 4, 5, 6, 7, 8]),
     ("add", ADD, &[11, 16]),
     ("link", LINK, &[11, 12, 13, 14]),
@@ -40,10 +48,12 @@ const CALLS: [Call; 13] = [
     ("order", ORDER, &[11, 18]),
     ("pair", PAIR, &[11]),
     ("write", WRITE, &[11, 19]),
+    ("import", IMPORT, &[20, 21, 22]),
+    ("export", EXPORT, &[11, 19]),
 ];
 
 /// Names for several calls at once.
-const SETS: [(&str, &[&str]); 3] = [
+const SETS: [(&str, &[&str]); 4] = [
     (
         "layout",
         &[
@@ -51,11 +61,12 @@ const SETS: [(&str, &[&str]); 3] = [
         ],
     ),
     ("sifting", &["sift", "round", "settle"]),
+    ("graph6", &["import", "export"]),
     (
         "all",
         &[
             "chart", "add", "link", "unlink", "move", "lay", "sift", "round", "settle", "count",
-            "order", "pair", "write",
+            "order", "pair", "write", "import", "export",
         ],
     ),
 ];
@@ -71,7 +82,7 @@ impl Known {
     }
 
     /// Reads names of calls and of sets of calls, with commas between them;
-    /// none where a name is unknown, or where there is no call but `chart`.
+    /// none where a name is unknown, or where there is no call on a layout.
     pub fn parse(names: &str) -> Option<Known> {
         let mut wanted = Vec::new();
         for name in names.split(',') {
@@ -82,10 +93,7 @@ impl Known {
         }
         let mut known = CALLS.to_vec();
         known.retain(|(name, ..)| wanted.contains(name));
-        known
-            .iter()
-            .any(|&(_, op, _)| op != CHART)
-            .then_some(Known(known))
+        known.iter().any(is_on_layout).then_some(Known(known))
     }
 
     /// Whether a record with this op can be played.
@@ -113,11 +121,16 @@ impl Known {
     /// The known calls on a layout: name, op, and each refusal number that
     /// the call can answer.
     pub fn refused(&self) -> Vec<(&'static str, u64, u8)> {
-        let on_layout = self.0.iter().filter(|&&(_, op, _)| op != CHART);
+        let on_layout = self.0.iter().filter(|call| is_on_layout(call));
         let each = on_layout
             .flat_map(|&(name, op, numbers)| numbers.iter().map(move |&number| (name, op, number)));
         each.collect()
     }
+}
+
+/// Whether a call is made on a layout, and doesn't start from another one.
+fn is_on_layout(&(_, op, _): &Call) -> bool {
+    !READERS.contains(&op)
 }
 
 #[cfg(test)]
@@ -131,13 +144,13 @@ mod tests {
         assert!(!known.has(SETTLE) && !known.has(CHART));
         assert!(Known::parse("layout,shift").is_none());
         assert!(Known::parse("").is_none());
-        assert!(Known::parse("chart").is_none());
+        assert!(Known::parse("chart,import").is_none());
     }
 
     #[test]
     fn sets_name_every_call() {
         let all = Known::all().answers();
-        for names in ["all", "chart,layout,lay,sifting"] {
+        for names in ["all", "chart,layout,lay,sifting,graph6"] {
             let known = Known::parse(names).expect("known names");
             assert_eq!(known.answers(), all, "{names}");
         }
@@ -146,15 +159,15 @@ mod tests {
     #[test]
     fn all_calls_have_all_refusal_numbers() {
         let answers = Known::all().answers();
-        for number in (0..=8).chain(11..=19) {
+        for number in (0..=8).chain(11..=22) {
             assert!(answers.iter().any(|answer| answer.1 == number), "{number}");
         }
-        assert_eq!(answers.len(), 13 + 8 + 26);
+        assert_eq!(answers.len(), 15 + 8 + 26 + 5);
     }
 
     #[test]
     fn each_call_on_a_layout_is_refused_with_its_numbers() {
-        let known = Known::parse("chart,add,round").expect("known names");
+        let known = Known::parse("chart,add,round,import").expect("known names");
         let due = [("add", ADD, 11), ("add", ADD, 16), ("round", ROUND, 11)];
         assert_eq!(known.refused(), due);
     }

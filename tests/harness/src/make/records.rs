@@ -1,16 +1,26 @@
-//! Records and charts as they stand in a list (tests/README.md).
+//! Records, charts and graph6 as they stand in a list (tests/README.md).
 
 use super::graph::Graph;
-use super::ops::{Record, CHART, EMPTY, SET_N, SET_ORDER, SET_WORD};
+use super::ops::{Record, CHART, EMPTY, IMPORT, SET_N, SET_ORDER, SET_WORD};
 
 pub fn bytes(record: Record) -> Vec<u8> {
     record.iter().flat_map(|n| n.to_le_bytes()).collect()
 }
 
-/// A start from a chart, padded.
+/// A start from a chart.
 pub fn chart(chart: &[u8]) -> Vec<u8> {
-    let mut start = bytes([CHART, chart.len() as u64, 0, 0]);
-    start.extend(chart);
+    start(CHART, chart)
+}
+
+/// A start from a graph6.
+pub fn import(graph6: &[u8]) -> Vec<u8> {
+    start(IMPORT, graph6)
+}
+
+/// A start from what is read from some bytes, padded.
+pub fn start(op: u64, read: &[u8]) -> Vec<u8> {
+    let mut start = bytes([op, read.len() as u64, 0, 0]);
+    start.extend(read);
     start.resize(start.len().next_multiple_of(32), 0);
     start
 }

@@ -1,6 +1,5 @@
 //! Calls that are refused with a number wanted, on layouts made for it.
 
-use super::charts;
 use super::graph::Graph;
 use super::maker::Maker;
 use super::ops::*;
@@ -58,10 +57,7 @@ impl Maker {
             15 => self.two_of(graph, false),
             17 => (self.rng.pick(&[0, 1001, 1 << 32, u64::MAX]), 0),
             18 => (self.rng.below(graph.n()) as u64, 7),
-            19 => {
-                let length = charts::length(graph.n(), graph.edges.len());
-                (self.rng.below(length as usize) as u64, 7)
-            }
+            19 => (self.rng.below(self.written_length(op) as usize) as u64, 7),
             _ => (v, (v + 1) % n),
         }
     }

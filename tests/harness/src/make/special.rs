@@ -4,15 +4,15 @@ use super::charts::{field, Chart};
 use super::graph::{all_pairs, Graph};
 use crate::rng::Rng;
 
-/// A kind of chart, with the refusal number that document 01 gives it, where
-/// it gives all of the kind the same.
+/// A kind of chart or graph6, with the refusal number that the documents give
+/// it, where they give all of the kind the same.
 pub struct Special {
     pub kind: &'static str,
     pub refusal: Option<u8>,
     pub make: fn(&mut Rng) -> Vec<u8>,
 }
 
-const fn refused(refusal: u8, kind: &'static str, make: fn(&mut Rng) -> Vec<u8>) -> Special {
+pub const fn refused(refusal: u8, kind: &'static str, make: fn(&mut Rng) -> Vec<u8>) -> Special {
     Special {
         kind,
         refusal: Some(refusal),
@@ -20,11 +20,11 @@ const fn refused(refusal: u8, kind: &'static str, make: fn(&mut Rng) -> Vec<u8>)
     }
 }
 
-const fn accepted(kind: &'static str, make: fn(&mut Rng) -> Vec<u8>) -> Special {
+pub const fn accepted(kind: &'static str, make: fn(&mut Rng) -> Vec<u8>) -> Special {
     refused(0, kind, make)
 }
 
-const fn any(kind: &'static str, make: fn(&mut Rng) -> Vec<u8>) -> Special {
+pub const fn any(kind: &'static str, make: fn(&mut Rng) -> Vec<u8>) -> Special {
     Special {
         kind,
         refusal: None,
@@ -181,15 +181,10 @@ pub const SPECIALS: [Special; 34] = [
         Chart::of(&graph).bytes()
     }),
     any("a bit flipped", |rng| {
-        let mut bytes = base(rng).bytes();
-        let place = rng.below(bytes.len());
-        bytes[place] ^= 1 << rng.below(8);
-        bytes
+        let bytes = base(rng).bytes();
+        rng.flip(bytes)
     }),
-    any("bytes at random", |rng| {
-        let length = rng.below(80);
-        rng.bytes(length)
-    }),
+    any("bytes at random", |rng| rng.few_bytes(80)),
     any("three fields of bytes at random", |rng| {
         let mut body = || {
             let length = rng.below(5);

@@ -3,14 +3,16 @@
 use super::charts;
 use super::families::{self, Family};
 use super::graph::Graph;
+use super::graph6;
 use super::maker::Maker;
 use super::ops::*;
 use super::settled::{self, settled};
+use super::special::Special;
 
 /// A way to start: its name, an op that it cannot do without, and what it does.
 pub type Start = (&'static str, u64, fn(&mut Maker));
 
-const STARTS: [Start; 10] = [
+const STARTS: [Start; 12] = [
     ("empty", EMPTY, Maker::start_empty),
     ("chart", CHART, |maker| {
         maker.start_graph(Maker::write_chart)
@@ -25,7 +27,13 @@ const STARTS: [Start; 10] = [
         maker.start_spoilt(Maker::write_fields)
     }),
     ("fields at random", EMPTY, Maker::start_random),
-    ("refused chart", CHART, Maker::start_refused),
+    ("refused chart", CHART, |maker| maker.start_refused(CHART)),
+    ("graph6", IMPORT, |maker| {
+        maker.start_graph(Maker::write_graph6)
+    }),
+    ("refused graph6", IMPORT, |maker| {
+        maker.start_refused(IMPORT)
+    }),
     ("64 vertices, and add", ADD, Maker::start_full),
     ("settled already", EMPTY, Maker::start_settled),
     FAMILY,
@@ -57,7 +65,7 @@ impl Maker {
         let family = self.rng.pick(families);
         self.graphs.push(family.name);
         let graph = family.graph(&mut self.rng, most);
-        self.write_graph(&graph);
+        self.write_graph_in_any_order(&graph);
     }
 
     fn start_empty(&mut self) {
@@ -124,16 +132,24 @@ impl Maker {
         self.any_calls(2, 8);
     }
 
-    fn start_refused(&mut self) {
-        let number = self.rng.below(1000);
-        let mut chart = charts::special(&mut self.rng, number);
-        while chart.refusal == Some(0) {
-            let number = self.rng.below(1000);
-            chart = charts::special(&mut self.rng, number);
+    fn start_refused(&mut self, op: u64) {
+        let mut special = self.any_special(op);
+        while special.refusal == Some(0) {
+            special = self.any_special(op);
         }
-        self.chart(&chart.bytes);
+        let bytes = (special.make)(&mut self.rng);
+        self.read(op, &bytes);
         self.forget();
         self.any_calls(1, 4);
+    }
+
+    /// Any special chart or graph6.
+    fn any_special(&mut self, op: u64) -> &'static Special {
+        let number = self.rng.below(1000);
+        match op {
+            IMPORT => graph6::special(number),
+            _ => charts::special(number),
+        }
     }
 
     /// A graph in an order that sifting leaves, sifted and changed.

@@ -3,13 +3,35 @@
 
 use super::charts::Chart;
 use super::graph::{all_pairs, vertices, Graph};
+use super::graph6::Graph6;
 use super::ops::*;
-use super::records::{bytes, chart, fields};
+use super::records::{bytes, chart, fields, import};
 use super::special::SPECIALS;
 use crate::rng::Rng;
 
 /// Vertices that no layout has.
 const FAR: [u64; 5] = [64, 255, 256, 1 << 32, u64::MAX];
+
+/// graph6 worked by hand: accepted, and refused with 20, 21 and 22.
+const ACCEPTED: [&[u8]; 8] = [b"?", b"@", b"A?", b"A_", b"BO", b"CQ", b"C~", b"DQc"];
+const BAD_SIZE: [&[u8]; 12] = [
+    b"",
+    b">Qc",
+    b"\x7fQc",
+    b"~",
+    b"~?",
+    b"~?@",
+    b"~??>",
+    b"~??CDQc",
+    b"~??}",
+    b"~?@@",
+    b"~~?????C",
+    b">>graph6<<DQc",
+];
+const BAD_DATA: [&[u8]; 8] = [
+    b"?\n", b"@?", b"DQ", b"DQc?", b"DQc\n", b"D>c", b"DQ\x7f", b"D>d",
+];
+const BAD_PADDING: [&[u8]; 6] = [b"A@", b"AO", b"B@", b"BC", b"DQd", b"DQe"];
 
 /// The bytes of the list, of known calls.
 pub fn list(known: &Known) -> Vec<u8> {
@@ -27,6 +49,7 @@ pub fn list(known: &Known) -> Vec<u8> {
     list.any_count();
     list.read_back();
     list.charts();
+    list.imports();
     list.end();
     list.bytes
 }
@@ -66,6 +89,7 @@ impl List<'_> {
             [ORDER, 3, 7, 0],
             [PAIR, 0, 0, 0],
             [WRITE, 20, 7, 0],
+            [EXPORT, 3, 7, 0],
         ]);
     }
 
@@ -87,6 +111,9 @@ impl List<'_> {
             [WRITE, 9, 7, 0],
             [WRITE, 10, 7, 0],
             [WRITE, 12, 256 + 7, 0],
+            [EXPORT, 0, 7, 0],
+            [EXPORT, 1, 7, 0],
+            [EXPORT, 2, 256 + 7, 0],
         ]);
     }
 
@@ -106,6 +133,9 @@ impl List<'_> {
             [WRITE, 23, 9, 0],
             [WRITE, 24, 9, 0],
             [WRITE, 25, 9, 0],
+            [EXPORT, 3, 9, 0],
+            [EXPORT, 4, 9, 0],
+            [EXPORT, 5, 9, 0],
             [UNLINK, 0, 1, 0],
             [UNLINK, 4, 4, 0],
             [UNLINK, 0, 6, 0],
@@ -221,6 +251,9 @@ impl List<'_> {
             [ORDER, 65, 200, 0],
             [PAIR, 0, 0, 0],
             [WRITE, 18, 200, 0],
+            [EXPORT, 339, 200, 0],
+            [EXPORT, 340, 200, 0],
+            [EXPORT, 341, 200, 0],
         ]);
     }
 
@@ -274,7 +307,7 @@ impl List<'_> {
     }
 
     /// The first ring with another count than the true one, written, read back
-    /// and written again.
+    /// and written again; and the same with its graph6, in another order.
     fn read_back(&mut self) {
         self.play(&fields(&square()));
         self.play(&[[SET_COUNT, 7, 0, 0], [WRITE, 17, 0, 0], [WRITE, 18, 0, 0]]);
@@ -283,7 +316,12 @@ impl List<'_> {
             let sorted = Graph { edges, ..square() };
             self.bytes.extend(chart(&Chart::of(&sorted).bytes()));
         }
-        self.play(&[[WRITE, 19, 255, 0]]);
+        self.play(&[[WRITE, 19, 255, 0], [MOVE, 0, 1, 0]]);
+        self.play(&[[SET_COUNT, 7, 0, 0], [EXPORT, 1, 0, 0], [EXPORT, 2, 0, 0]]);
+        if self.known.has(IMPORT) {
+            self.bytes.extend(import(b"CQ"));
+        }
+        self.play(&[[EXPORT, 3, 255, 0]]);
     }
 
     /// A chart of each refusal number, and one that is read.
@@ -302,9 +340,38 @@ impl List<'_> {
         self.every_call();
     }
 
+    /// A graph6 of each refusal number, those that are accepted behind a layout
+    /// that isn't valid and with every call behind them, and those of paths of 61
+    /// vertices and more, exported in another order than they were imported.
+    fn imports(&mut self) {
+        if !self.known.has(IMPORT) {
+            return;
+        }
+        for refused in [&BAD_SIZE[..], &BAD_DATA, &BAD_PADDING].concat() {
+            self.bytes.extend(import(refused));
+            self.play(&[[COUNT, 0, 0, 0]]);
+        }
+        for graph6 in ACCEPTED {
+            self.play(&[[SET_N, 65, 0, 0]]);
+            self.bytes.extend(import(graph6));
+            self.play(&[[EXPORT, 3, 7, 0]]);
+            self.every_call();
+        }
+        for n in 61..=64 {
+            let (edges, order) = (all_pairs(n), vertices(n));
+            let mut path = Graph { edges, order };
+            path.edges.retain(|(a, b)| a + 1 == *b);
+            let graph6 = Graph6::of(&path).bytes();
+            self.bytes.extend(import(&graph6));
+            let length = graph6.len() as u64;
+            self.play(&[[MOVE, 0, 60, 0], [EXPORT, length, 7, 0]]);
+        }
+        self.bytes.extend(import(b"?"));
+    }
+
     /// An unknown op, with a record behind it that isn't played.
     fn end(&mut self) {
-        self.bytes.extend(bytes([28, 0, 0, 0]));
+        self.bytes.extend(bytes([30, 0, 0, 0]));
         self.bytes.extend(bytes([ADD, 0, 0, 0]));
     }
 }
@@ -335,8 +402,25 @@ mod tests {
         let list = list(&Known::all());
         let lines = play(&list);
         let steps: Vec<Step> = steps(&list, &lines).collect();
-        let mut pairs = steps.windows(2);
-        assert!(pairs.any(|pair| is_read_back(&pair[0], &pair[1])));
+        let pairs = steps.windows(2);
+        let back = pairs.filter(|pair| is_read_back(&pair[0], &pair[1]));
+        let back: Vec<&str> = back.filter_map(|pair| Some(pair[1].answer()?.0)).collect();
+        assert!(back.contains(&"chart") && back.contains(&"import"));
+    }
+
+    #[test]
+    fn each_graph6_worked_by_hand_gets_its_number() {
+        let lines = play(&list(&Known::all()));
+        let imports = |refusal: u8| {
+            let start = format!("import {refusal} ");
+            lines
+                .lines()
+                .filter(|line| line.starts_with(&start))
+                .count()
+        };
+        let refused = [20, 21, 22].map(imports);
+        assert_eq!(imports(0), ACCEPTED.len() + 4 + 2);
+        assert_eq!(refused, [BAD_SIZE.len(), BAD_DATA.len(), BAD_PADDING.len()]);
     }
 
     #[test]

@@ -1,8 +1,10 @@
-//! Layouts that are written to buffers of many lengths, and read back.
+//! Layouts that are written to buffers of many lengths, as charts and as graph6,
+//! and read back.
 
 use super::charts;
 use super::density::possible;
 use super::graph::Graph;
+use super::graph6;
 use super::maker::Maker;
 use super::ops::*;
 
@@ -15,15 +17,18 @@ const LENGTHS: usize = 11;
 const SHORT: usize = 8;
 
 impl Maker {
-    /// The length of the layout's chart.
-    fn chart_length(&self) -> u64 {
-        charts::length(self.n, self.edges.len())
+    /// The length of what a call writes of the layout.
+    pub fn written_length(&self, op: u64) -> u64 {
+        match op {
+            EXPORT => graph6::length(self.n),
+            _ => charts::length(self.n, self.edges.len()),
+        }
     }
 
-    /// Lengths of buffers: few bytes and about as many as the chart has, then
+    /// Lengths of buffers: few bytes and about as many as a call writes, then
     /// long ones, the last of them more than a buffer gets.
-    fn lengths(&mut self) -> [u64; LENGTHS] {
-        let due = self.chart_length();
+    fn lengths(&mut self, op: u64) -> [u64; LENGTHS] {
+        let due = self.written_length(op);
         let more = due + self.rng.within(3, 200) as u64;
         let wide = 1 << 32;
         let over = [8193, 65_536 + due, wide, wide + due, u64::MAX];
@@ -31,7 +36,7 @@ impl Maker {
         [
             0,
             1,
-            due - 2,
+            due.saturating_sub(2),
             due - 1,
             due,
             due + 1,
@@ -44,10 +49,10 @@ impl Maker {
     }
 
     /// A length of a buffer, seldom a long one.
-    pub fn any_length(&mut self) -> u64 {
+    pub fn any_length(&mut self, op: u64) -> u64 {
         let (short, long) = (0..SHORT, SHORT..LENGTHS);
         let from = if self.rng.once_in(16) { long } else { short };
-        let lengths = self.lengths();
+        let lengths = self.lengths(op);
         self.rng.pick(&lengths[from])
     }
 
@@ -57,28 +62,32 @@ impl Maker {
         self.rng.pick(&[0, 255, any, any])
     }
 
-    /// Reads back what was written into a buffer of so many bytes, if it was
+    /// Reads back what a call wrote into a buffer of so many bytes, if it was
     /// long enough and the layout is known.
-    pub fn read_back(&mut self, length: u64) {
-        let fits = |chart: &Vec<u8>| chart.len() as u64 <= length;
-        let known = self.known.among(&[CHART, WRITE]).len() == 2;
-        if let Some(chart) = self.written_chart().filter(|chart| known && fits(chart)) {
-            self.chart(&chart);
+    pub fn read_back(&mut self, op: u64, length: u64) {
+        let fits = |bytes: &Vec<u8>| bytes.len() as u64 <= length;
+        let Some(bytes) = self.written(op).filter(fits) else {
+            return;
+        };
+        let readers = WRITERS.iter().filter(|(writer, _)| *writer == op);
+        for &(_, reader) in readers {
+            if self.known.among(&[op, reader]).len() == 2 {
+                self.read(reader, &bytes);
+            }
         }
     }
 
     /// Writes a graph and one whose number of edges takes its turn, each into a
     /// buffer whose length takes its turn and into one just long enough.
-    pub fn call_write_in_turn(&mut self, graph: &Graph, index: usize) {
-        if !self.known.has(WRITE) {
-            return;
-        }
-        let other = self.graph_in_turn(index);
-        for graph in [graph, &other] {
-            self.write_graph(graph);
-            let lengths = self.lengths();
-            self.call_write(lengths[index % LENGTHS]);
-            self.call_write(self.chart_length());
+    pub fn call_writers_in_turn(&mut self, graph: &Graph, index: usize) {
+        for op in self.known.among(&WRITERS.map(|(writer, _)| writer)) {
+            let other = self.graph_in_turn(index);
+            for graph in [graph, &other] {
+                self.write_graph(graph);
+                let lengths = self.lengths(op);
+                self.call_writer(op, lengths[index % LENGTHS]);
+                self.call_writer(op, self.written_length(op));
+            }
         }
     }
 
@@ -92,11 +101,11 @@ impl Maker {
 
     /// Writes the layout, now and then with another count than the true one,
     /// into a buffer of so many bytes, and reads it back.
-    fn call_write(&mut self, length: u64) {
+    pub fn call_writer(&mut self, op: u64, length: u64) {
         self.any_count();
         let fill = self.fill();
-        self.emit(WRITE, length, fill);
-        self.read_back(length);
+        self.emit(op, length, fill);
+        self.read_back(op, length);
     }
 }
 
@@ -118,31 +127,46 @@ mod tests {
         let lists = indices.map(|index| {
             let mut maker = Maker::new(Rng::new(1, "written", index), &known);
             let graph = Graph::in_quarter(&mut maker.rng, index, index % 4);
-            maker.call_write_in_turn(&graph, index);
+            maker.call_writers_in_turn(&graph, index);
             maker.bytes
         });
         lists.collect()
     }
 
+    /// The calls that write and that read back, by their names.
+    const BOTH: [&str; 2] = ["chart,write", "graph6"];
+
     #[test]
     fn each_length_goes_with_each_number_of_edges() {
+        for names in BOTH {
+            each_length_goes_with_each_number_of_edges_of(names);
+        }
+    }
+
+    fn each_length_goes_with_each_number_of_edges_of(names: &str) {
         let (mut rooms, mut lents, mut fills) = (BTreeSet::new(), BTreeSet::new(), BTreeSet::new());
-        for list in in_turn("chart,write") {
+        for list in in_turn(names) {
             for step in steps(&list, &play(&list)) {
-                let Entry::Record([WRITE, length, fill, _]) = step.entry else {
-                    continue;
+                let (due, length, fill) = match step.entry {
+                    Entry::Record([WRITE, length, fill, _]) => {
+                        (charts::length(step.n(), step.m()), length, fill)
+                    }
+                    Entry::Record([EXPORT, length, fill, _]) => {
+                        (graph6::length(step.n()), length, fill)
+                    }
+                    _ => continue,
                 };
-                let due = charts::length(step.n(), step.m());
                 rooms.insert((step.m(), length.wrapping_sub(due) as i64));
                 lents.insert((step.m(), numbers(step.line, " buffer ").len()));
                 fills.insert(fill);
             }
         }
         for m in EDGES {
-            assert!((-2..=2).all(|room| rooms.contains(&(m, room))), "{m} edges");
+            assert!((-1..=2).all(|room| rooms.contains(&(m, room))), "{m} edges");
             let lengths = [0, 1, 8191, 8192];
             assert!(lengths.iter().all(|&length| lents.contains(&(m, length))));
         }
+        assert!(rooms.iter().any(|&(_, room)| room == -2));
         assert!(fills.contains(&0) && fills.contains(&255) && fills.len() > 20);
     }
 
@@ -151,7 +175,9 @@ mod tests {
     fn written(list: &[u8]) -> (usize, usize) {
         let lines = play(list);
         let steps: Vec<Step> = steps(list, &lines).collect();
-        let accepted = steps.iter().filter(|s| s.answer() == Some(("write", 0)));
+        let accepted = steps
+            .iter()
+            .filter(|s| matches!(s.answer(), Some(("write" | "export", 0))));
         let pairs = steps.windows(2);
         let back = pairs.filter(|pair| is_read_back(&pair[0], &pair[1]));
         (accepted.count(), back.count())
@@ -159,7 +185,7 @@ mod tests {
 
     #[test]
     fn what_is_written_in_turn_is_always_read_back() {
-        for list in in_turn("chart,write") {
+        for list in BOTH.map(in_turn).concat() {
             let (accepted, back) = written(&list);
             assert!(accepted >= 2);
             assert_eq!(accepted, back);
@@ -173,7 +199,7 @@ mod tests {
         let made = made.filter(|made| made.naive);
         let (mut accepted, mut back) = (0, 0);
         for (written, read) in made.map(|made| written(&made.bytes)) {
-            assert!(read >= 2);
+            assert!(read >= 4);
             accepted += written;
             back += read;
         }
@@ -190,9 +216,13 @@ mod tests {
 
     #[test]
     fn nothing_is_written_or_read_back_by_calls_that_are_not_known() {
-        let is_chart = |entry: &Entry| matches!(entry, Entry::Chart(_));
-        let is_write = |entry: &Entry| matches!(entry, Entry::Record([WRITE, ..]));
-        assert!(occurs("write", is_write) && !occurs("write", is_chart));
-        assert!(occurs("chart,count", is_chart) && !occurs("chart,count", is_write));
+        let reads = |entry: &Entry| matches!(entry, Entry::Chart(_) | Entry::Import(_));
+        let writes = |entry: &Entry| matches!(entry, Entry::Record([WRITE | EXPORT, ..]));
+        for names in ["write", "export"] {
+            assert!(occurs(names, writes) && !occurs(names, reads));
+        }
+        for names in ["chart,count", "import,count"] {
+            assert!(occurs(names, reads) && !occurs(names, writes));
+        }
     }
 }

@@ -1,6 +1,7 @@
 //! The calls of documents 01 and 02, each with its questions in their order.
 
 use super::chart::written;
+use super::graph6::exported;
 use super::layout::{crossings, edges, first_pair, isolated, joined, list, valid, Edge, Layout};
 
 /// The refusal number and the answers. Only an accepted call changes the
@@ -280,15 +281,25 @@ pub fn pair(layout: &Layout) -> Reply<Option<(Edge, Edge)>> {
 
 /// Writes the chart into a lent buffer. Answers its length.
 pub fn write(layout: &Layout, buffer: &mut [u8]) -> Reply<usize> {
+    put(layout, buffer, written)
+}
+
+/// Writes the graph6 into a lent buffer. Answers its length.
+pub fn export(layout: &Layout, buffer: &mut [u8]) -> Reply<usize> {
+    put(layout, buffer, exported)
+}
+
+/// Puts what is made of a valid layout into a lent buffer. Answers its length.
+fn put(layout: &Layout, buffer: &mut [u8], make: fn(&Layout) -> Vec<u8>) -> Reply<usize> {
     if !valid(layout) {
         return (11, 0);
     }
-    let chart = written(layout);
-    if buffer.len() < chart.len() {
+    let made = make(layout);
+    if buffer.len() < made.len() {
         return (19, 0);
     }
-    for (i, &byte) in chart.iter().enumerate() {
+    for (i, &byte) in made.iter().enumerate() {
         buffer[i] = byte;
     }
-    (0, chart.len())
+    (0, made.len())
 }

@@ -3,6 +3,7 @@
 
 pub mod calls;
 pub mod chart;
+pub mod graph6;
 pub mod layout;
 pub mod list;
 pub mod play;

@@ -2,6 +2,7 @@
 
 use super::calls;
 use super::chart;
+use super::graph6;
 use super::layout::{empty, Layout};
 
 /// Plays the list from the empty layout and gives every line.
@@ -73,27 +74,29 @@ impl Player<'_> {
                 self.layout = empty();
                 Step::Said("empty 0".to_string())
             }
-            1 => self.chart(a),
+            1 => self.start("chart", a, chart::read),
+            28 => self.start("import", a, graph6::import),
             2..=5 => {
                 self.set(op, a, b);
                 Step::Quiet
             }
-            16..=27 => Step::Said(self.call(op, a, b)),
+            16..=27 | 29 => Step::Said(self.call(op, a, b)),
             _ => Step::End,
         }
     }
 
-    fn chart(&mut self, length: u64) -> Step {
+    /// Starts from what is read from so many bytes behind the record.
+    fn start(&mut self, name: &str, length: u64, read: fn(&[u8]) -> (u8, Layout)) -> Step {
         let left = (self.list.len() - self.at) as u128;
         let padded = u128::from(length).div_ceil(32) * 32;
         if padded > left {
             return Step::End;
         }
         let bytes = &self.list[self.at..self.at + length as usize];
-        let (refusal, layout) = chart::read(bytes);
+        let (refusal, layout) = read(bytes);
         self.at += padded as usize;
         self.layout = layout;
-        Step::Said(format!("chart {refusal}"))
+        Step::Said(format!("{name} {refusal}"))
     }
 
     fn set(&mut self, op: u64, a: u64, b: u64) {
@@ -132,7 +135,8 @@ impl Player<'_> {
             24 => one("count", calls::count(layout)),
             25 => order(layout, a, b),
             26 => pair(layout),
-            _ => write(layout, a, b),
+            27 => write(layout, a, b),
+            _ => export(layout, a, b),
         }
     }
 }
@@ -151,8 +155,15 @@ fn order(layout: &Layout, length: u64, fill: u64) -> String {
 /// What the call `write` says.
 pub fn write(layout: &Layout, length: u64, fill: u64) -> String {
     let mut buffer = lent(length, 8192, fill);
-    let (refusal, written) = calls::write(layout, &mut buffer);
-    format!("write {refusal} {written} {}", shown(&buffer))
+    let reply = calls::write(layout, &mut buffer);
+    format!("{} {}", one("write", reply), shown(&buffer))
+}
+
+/// What the call `export` says.
+pub fn export(layout: &Layout, length: u64, fill: u64) -> String {
+    let mut buffer = lent(length, 8192, fill);
+    let reply = calls::export(layout, &mut buffer);
+    format!("{} {}", one("export", reply), shown(&buffer))
 }
 
 /// A buffer of so many bytes, or of the most if there are more.

@@ -1,11 +1,12 @@
 //! The naive model on the rings worked by hand in document 01, on the points
 //! that it leaves open of lay, on isolated vertices, on the optima of sifts, on
-//! charts written out again, and on random graphs.
+//! charts written out again, on graph6, and on random graphs.
 
 use std::collections::BTreeSet;
 
 use super::calls::{self, Reply};
 use super::chart::{read, written};
+use super::graph6::{exported, import, long_size, size};
 use super::layout::{crossings, edges, empty, list, Edge, Layout};
 use super::list::listing;
 use super::play::play;
@@ -378,6 +379,106 @@ fn a_write_is_played_into_at_most_8192_bytes() {
             said(length, 255),
             format!("write 0 10 buffer {chart}{rest}")
         );
+    }
+}
+
+/// The edges, n and the crossings of graph6 worked by hand; five vertices are
+/// the example in nauty's description of the format.
+#[test]
+fn graph6_worked_by_hand() {
+    for (graph6, n, links, count) in [
+        (&b"?"[..], 0, vec![], 0),
+        (b"@", 1, vec![], 0),
+        (b"A?", 2, vec![], 0),
+        (b"A_", 2, vec![(0, 1)], 0),
+        (b"Bo", 3, vec![(0, 1), (0, 2)], 0),
+        (b"BW", 3, vec![(0, 2), (1, 2)], 0),
+        (b"CQ", 4, vec![(0, 2), (1, 3)], 1),
+        (b"DQc", 5, vec![(0, 2), (0, 4), (1, 3), (3, 4)], 1),
+    ] {
+        let (refusal, ring) = import(graph6);
+        assert_eq!((refusal, ring.n, ring.count), (0, n, count));
+        assert_eq!(edges(&ring), links);
+        assert!(list(&ring).into_iter().eq(0..n as usize));
+        assert_eq!(exported(&ring), graph6);
+    }
+}
+
+#[test]
+fn graph6_are_refused_by_the_first_question() {
+    let none = [63; 336];
+    let long = |size: &[u8], data: usize| [size, &none[..data]].concat();
+    for (graph6, due) in [
+        (vec![], 20),
+        (vec![62], 20),
+        (vec![127], 20),
+        (b"~".to_vec(), 20),
+        (b"~?@".to_vec(), 20),
+        (b"~?>?".to_vec(), 20),
+        (long(b"~??}", 316), 20),
+        (long(b"~??~", 326), 0),
+        (long(b"~??~", 325), 21),
+        (long(b"~??~", 327), 21),
+        (long(b"~?@?", 336), 0),
+        (long(b"~?@?", 335), 21),
+        (long(b"~?@@", 336), 20),
+        (long(b"~~?@?", 336), 20),
+        (b">>graph6<<DQc".to_vec(), 20),
+        (b"DQc\n".to_vec(), 21),
+        (b"DQ".to_vec(), 21),
+        (b"D>d".to_vec(), 21),
+        (b"D\x7fc".to_vec(), 21),
+        (b"DQd".to_vec(), 22),
+        (b"DQe".to_vec(), 22),
+    ] {
+        let (refusal, ring) = import(&graph6);
+        assert_eq!(refusal, due, "{}", graph6.escape_ascii());
+        assert!(due == 0 || ring == empty());
+    }
+}
+
+#[test]
+fn sizes_in_three_bytes() {
+    assert_eq!(long_size(b"~??}"), Some(62));
+    assert_eq!(long_size(b"~?@?more"), Some(64));
+    assert_eq!(long_size(b"~}~~"), Some(258_047));
+    assert_eq!(long_size(b"??@?"), None);
+    assert_eq!(size(b"~?@?more"), Some((64, &b"more"[..])));
+    assert_eq!(size(b"}"), Some((62, &b""[..])));
+    assert_eq!(size(b"~??}"), None);
+}
+
+/// Importing what is exported gives the edges in rising order with the true
+/// count, whatever order and count there were.
+#[test]
+fn what_is_exported_is_imported() {
+    for index in 0..300 {
+        let mut rng = Rng::new(1, "exported", index);
+        let n = index % 65;
+        let graph = Graph::random(&mut rng, n, usize::MAX);
+        let mut ring = layout(&graph.order, &graph.edges);
+        ring.count = rng.word() as u32;
+        let due = layout(&vertices(n), &graph.edges);
+        assert_eq!(import(&exported(&ring)), (0, due));
+    }
+}
+
+#[test]
+fn an_export_asks_for_validity_and_then_for_room() {
+    let mut ring = layout(&[1, 0, 2, 3], &FIRST);
+    let mut buffer = [9; 3];
+    assert_eq!(calls::export(&ring, &mut buffer), (0, 2));
+    assert_eq!(buffer, [b'C', b'Q', 9]);
+    assert_eq!(calls::export(&ring, &mut buffer[..1]), (19, 0));
+    ring.words[0] = 0;
+    assert_eq!(calls::export(&ring, &mut buffer[..1]), (11, 0));
+    assert_eq!(buffer, [b'C', b'Q', 9]);
+    let said = |length, fill| super::play::export(&empty(), length, fill);
+    assert_eq!(said(0, 7), "export 19 0 buffer");
+    assert_eq!(said(2, 256 + 7), "export 0 1 buffer 63 7");
+    for length in [8192, 8193, u64::MAX] {
+        let rest = " 255".repeat(8191);
+        assert_eq!(said(length, 255), format!("export 0 1 buffer 63{rest}"));
     }
 }
 

@@ -3,8 +3,8 @@
 use std::collections::BTreeSet;
 use std::ops::RangeInclusive;
 
-use super::{lays, sifts, writes, Counts, Quarters, Tally};
-use crate::make::ops::{Known, ORDER, WRITE};
+use super::{imports, lays, sifts, writes, Counts, Quarters, Tally};
+use crate::make::ops::{Known, EXPORT, IMPORT, ORDER, WRITE};
 use crate::make::{charts, families, lists, starts};
 
 /// The quarters of all possible edges in words.
@@ -32,9 +32,22 @@ impl Tally {
         missing.extend(absent("sift", sifts::due(known), &self.sifts));
         let settles = sifts::due_of_settles(known);
         missing.extend(absent("settle", settles, &self.settles));
-        missing.extend(absent("write", writes::due(known), &self.writes));
-        if known.has(WRITE) {
-            missing.extend(without("write of size", 0..=64, &self.written_sizes));
+        missing.extend(self.missing_transfers(known));
+        missing
+    }
+
+    fn missing_transfers(&self, known: &Known) -> Vec<String> {
+        let mut missing = Vec::new();
+        for (name, op, due, transfers) in [
+            ("write", WRITE, writes::due(known, WRITE), &self.writes),
+            ("export", EXPORT, writes::due(known, EXPORT), &self.exports),
+            ("import", IMPORT, imports::due(known), &self.imports),
+        ] {
+            missing.extend(absent(name, due, &transfers.met));
+            if known.has(op) {
+                let title = format!("{name} of size");
+                missing.extend(without(&title, 0..=64, &transfers.sizes));
+            }
         }
         missing
     }
@@ -118,20 +131,24 @@ mod tests {
     use crate::make::records;
 
     /// What there is of each: kinds of list, of which two need lay, ways to
-    /// start, of which one needs add and three chart, and families of graphs.
+    /// start, of which one needs add, three chart and two import, and families of
+    /// graphs.
     const LISTS: usize = 5;
-    const STARTS: usize = 10;
+    const STARTS: usize = 12;
     const GRAPHS: usize = 16;
     /// Calls, and their answers; those of charts.
-    const CALLS: usize = 12;
-    const ANSWERS: usize = 47;
+    const CALLS: usize = 13;
+    const ANSWERS: usize = 54;
     const LISTINGS: usize = 9;
-    /// What is to occur of lays, of sifts, of settlings, and of charts that are
-    /// written, one of which needs chart.
+    /// What is to occur of lays, of sifts, of settlings, of charts that are
+    /// written, one of which needs chart, and of graph6 that are exported and
+    /// imported, one of which needs the other.
     const LAYS: usize = 6;
     const SIFTS: usize = 8;
     const SETTLES: usize = 2;
     const WRITES: usize = 9;
+    const EXPORTS: usize = 5;
+    const IMPORTS: usize = 34;
 
     fn list(records: &[[u64; 4]]) -> lists::Made {
         lists::Made {
@@ -170,18 +187,21 @@ mod tests {
     fn at_first_everything_is_missing() {
         let of_charts = LISTINGS + 3 + GRAPHS + 65 + 4;
         let of_lists = ANSWERS + 4 * CALLS + LISTS + STARTS + GRAPHS + 65 + 66;
-        let of_writes = WRITES + 65;
-        let of_all = of_charts + of_lists + LAYS + SIFTS + SETTLES + of_writes;
+        let of_transfers = WRITES + EXPORTS + IMPORTS + 3 * 65;
+        let of_all = of_charts + of_lists + LAYS + SIFTS + SETTLES + of_transfers;
         assert_eq!(missing(&Tally::default()).len(), of_all);
         let few = Known::parse("add,order").expect("known names");
-        let of_few = 6 + 4 * 2 + (LISTS - 2) + (STARTS - 3) + GRAPHS + 65 + 66;
+        let of_few = 6 + 4 * 2 + (LISTS - 2) + (STARTS - 5) + GRAPHS + 65 + 66;
         assert_eq!(Tally::default().missing(&few, false).len(), of_few);
         let sifting = Known::parse("sift,settle").expect("known names");
-        let of_sifting = 6 + 4 * 2 + (LISTS - 2) + (STARTS - 4) + GRAPHS + 65 + SIFTS + SETTLES;
+        let of_sifting = 6 + 4 * 2 + (LISTS - 2) + (STARTS - 6) + GRAPHS + 65 + SIFTS + SETTLES;
         assert_eq!(Tally::default().missing(&sifting, false).len(), of_sifting);
         let write = Known::parse("write").expect("known names");
-        let of_write = 3 + 4 + (LISTS - 2) + (STARTS - 4) + GRAPHS + 65 + (WRITES - 1) + 65;
+        let of_write = 3 + 4 + (LISTS - 2) + (STARTS - 6) + GRAPHS + 65 + (WRITES - 1) + 65;
         assert_eq!(Tally::default().missing(&write, false).len(), of_write);
+        let export = Known::parse("export").expect("known names");
+        let of_export = 3 + 4 + (LISTS - 2) + (STARTS - 6) + GRAPHS + 65 + (EXPORTS - 1) + 65;
+        assert_eq!(Tally::default().missing(&export, false).len(), of_export);
     }
 
     #[test]
@@ -314,6 +334,54 @@ mod tests {
             "write, a buffer one byte too short",
         ];
         assert_eq!(refused[4..], due);
+    }
+
+    #[test]
+    fn an_export_is_met_with_its_size_and_room() {
+        let line = "export 0 1 buffer 63 7 n 0 order 0 count 0 words\n";
+        let accepted = met(|tally| tally.list(&list(&[[EXPORT, 2, 7, 0]]), line));
+        let due = [
+            "calls on size 0",
+            "export of size 0",
+            "export, a buffer one byte longer",
+            "export, accepted",
+            "graph in lists, path",
+            "list, several starts",
+            "start, empty",
+        ];
+        assert_eq!(accepted, due);
+        let line = "export 19 0 buffer n 0 order 0 count 0 words\n";
+        let refused = met(|tally| tally.list(&list(&[[EXPORT, 0, 7, 0]]), line));
+        let due = [
+            "export with refusal 19",
+            "export, a buffer one byte too short",
+        ];
+        assert_eq!(refused[1..3], due);
+    }
+
+    /// Exported and imported again, and imported and exported again.
+    #[test]
+    fn imports_are_met_with_what_is_before_and_behind_them() {
+        let mut made = list(&[[EXPORT, 1, 0, 0]]);
+        made.bytes.extend(records::import(b"?"));
+        made.bytes.extend(records::bytes([EXPORT, 1, 0, 0]));
+        made.bytes.extend(records::import(b""));
+        let lines = "export 0 1 buffer 63 n 0 order 0 count 0 words\n\
+                     import 0 n 0 order 0 count 0 words\n\
+                     export 0 1 buffer 63 n 0 order 0 count 0 words\n\
+                     import 20 n 0 order 0 count 0 words\n";
+        let met = met(|tally| tally.list(&made, lines));
+        for due in [
+            "export, read back",
+            "import of size 0",
+            "import with refusal 20",
+            "import, 0 padding bits, accepted",
+            "import, accepted",
+            "import, exported again",
+            "import, no byte",
+        ] {
+            assert!(met.contains(&due.to_string()), "{due}");
+        }
     }
 
     #[test]

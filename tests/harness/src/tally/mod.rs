@@ -1,5 +1,6 @@
 //! How often each thing occurred in a run.
 
+mod imports;
 mod lays;
 mod missing;
 mod sifts;
@@ -7,10 +8,13 @@ mod writes;
 
 use std::collections::{BTreeMap, BTreeSet};
 
+use crate::entries::Entry;
 use crate::followed::{numbers, steps, Step};
+use crate::imported::exported_again;
 use crate::make::charts;
 use crate::make::density::{quarter, LARGE, QUARTERS};
 use crate::make::lists;
+use crate::make::ops::{EXPORT, WRITE};
 use crate::written::is_read_back;
 
 /// From so many charts and lists on, everything must have occurred.
@@ -51,13 +55,31 @@ pub struct Tally {
     /// accepted settlings.
     sifts: Counts,
     settles: Counts,
-    /// What occurred of charts that were written, and the numbers of vertices
-    /// in those layouts.
-    writes: Counts,
-    written_sizes: BTreeSet<usize>,
+    /// Charts that were written, and graph6 that were exported and imported.
+    writes: Transfers,
+    exports: Transfers,
+    imports: Transfers,
     /// How many charts and lists were too dear for the naive model.
     charts_without_naive: usize,
     lists_without_naive: usize,
+}
+
+/// What occurred of layouts that were written or imported, and their numbers of
+/// vertices.
+#[derive(Default)]
+struct Transfers {
+    met: Counts,
+    sizes: BTreeSet<usize>,
+}
+
+impl Transfers {
+    /// Takes in a line and what occurs in it.
+    fn line(&mut self, step: &Step, refusal: u8, met: Vec<String>) {
+        add_all(&mut self.met, met);
+        if refusal == 0 {
+            self.sizes.insert(step.n());
+        }
+    }
 }
 
 impl Tally {
@@ -97,7 +119,14 @@ impl Tally {
     /// Takes in what an answer line is to the one before it.
     fn pair(&mut self, last: &Step, step: &Step) {
         if is_read_back(last, step) {
-            add(&mut self.writes, writes::READ_BACK);
+            let transfers = match step.entry {
+                Entry::Import(_) => &mut self.exports,
+                _ => &mut self.writes,
+            };
+            add(&mut transfers.met, writes::READ_BACK);
+        }
+        if exported_again(last, step).is_some() {
+            add(&mut self.imports.met, imports::EXPORTED);
         }
         if sifts::is_again_behind_a_move(last, step) {
             add(&mut self.sifts, sifts::AGAIN);
@@ -125,16 +154,16 @@ impl Tally {
             "lay" if refusal == 0 => add_all(&mut self.lays, lays::met(step)),
             "sift" if refusal == 0 => add_all(&mut self.sifts, sifts::met(step)),
             "settle" if refusal == 0 => add_all(&mut self.settles, sifts::met_by_settle(step)),
-            "write" => self.write(step, refusal),
+            "write" => self
+                .writes
+                .line(step, refusal, writes::met(step, WRITE, refusal)),
+            "export" => self
+                .exports
+                .line(step, refusal, writes::met(step, EXPORT, refusal)),
+            "import" => self
+                .imports
+                .line(step, refusal, imports::met(step, refusal)),
             _ => {}
-        }
-    }
-
-    /// Takes in a line of `write`.
-    fn write(&mut self, step: &Step, refusal: u8) {
-        add_all(&mut self.writes, writes::met(step, refusal));
-        if refusal == 0 {
-            self.written_sizes.insert(step.n());
         }
     }
 
@@ -161,7 +190,9 @@ impl Tally {
             ("lay", &self.lays),
             ("sift", &self.sifts),
             ("settle", &self.settles),
-            ("write", &self.writes),
+            ("write", &self.writes.met),
+            ("export", &self.exports.met),
+            ("import", &self.imports.met),
         ] {
             for (name, times) in counts {
                 text += &format!("{title}, {name}: {times}\n");
@@ -172,7 +203,9 @@ impl Tally {
         for (title, met) in [
             ("sizes of accepted charts", &self.chart_sizes),
             ("sizes of valid layouts in lists", &self.list_sizes),
-            ("sizes of written layouts", &self.written_sizes),
+            ("sizes of written layouts", &self.writes.sizes),
+            ("sizes of exported layouts", &self.exports.sizes),
+            ("sizes of imported layouts", &self.imports.sizes),
             ("lengths of buffers for an order", &self.buffers),
         ] {
             text += &format!("{title}: {}\n", met.len());
@@ -202,7 +235,7 @@ impl Tally {
 }
 
 fn is_call(name: &str) -> bool {
-    name != "empty" && name != "chart"
+    !["empty", "chart", "import"].contains(&name)
 }
 
 fn last_number(line: &str) -> Option<usize> {

@@ -1,19 +1,12 @@
 //! Layouts and charts for the tests. Not every test file uses all of them.
 #![allow(dead_code)]
 
-use second::circle::Circle;
-use second::crossings::crossings;
+use second::calls::Answer;
+pub use second::crossings::counted as layout;
 use second::layout::Layout;
 
 /// The edges of the first ring worked by hand in document 01.
 pub const FIRST: [(u8, u8); 2] = [(0, 2), (1, 3)];
-
-/// A layout that carries its crossings.
-pub fn layout(order: &[u8], edges: &[(u8, u8)]) -> Layout {
-    let mut layout = Layout::new(order, edges);
-    layout.count = crossings(&Circle::new(&layout));
-    layout
-}
 
 /// The first ring: edges 0-2 and 1-3, order 0 1 2 3.
 pub fn first_ring() -> Layout {
@@ -49,6 +42,12 @@ pub fn all_graphs(n: u8) -> impl Iterator<Item = Vec<(u8, u8)>> {
         let kept = numbered.filter(|(i, _)| chosen >> i & 1 == 1);
         kept.map(|(_, &edge)| edge).collect()
     })
+}
+
+/// Every graph of five vertices, in one order, and layouts at random.
+pub fn many_layouts() -> impl Iterator<Item = Layout> {
+    let small = all_graphs(5).map(|edges| layout(&[3, 1, 4, 0, 2], &edges));
+    small.chain((0..200).map(|seed| Random(seed).layout()))
 }
 
 /// Numbers from a seed (splitmix64).
@@ -95,4 +94,49 @@ pub fn chart(size: &[u8], edges: &[u8], order: &[u8]) -> Vec<u8> {
 /// The body of a field of edges.
 pub fn edge_bytes(edges: &[(u8, u8)]) -> Vec<u8> {
     edges.iter().flat_map(|&(a, b)| [a, b]).collect()
+}
+
+/// A call that writes a layout into a lent buffer and answers a length.
+pub type Write = fn(Layout, &mut [u8]) -> Answer<usize>;
+
+/// What each byte of a buffer holds before a call.
+const FILL: u8 = 7;
+
+/// What a call writes into a buffer of so many bytes.
+pub fn lent(write: Write, layout: Layout, length: usize) -> (Answer<usize>, Vec<u8>) {
+    let mut buffer = vec![FILL; length];
+    let answer = write(layout, &mut buffer);
+    assert_eq!(answer.layout, layout);
+    (answer, buffer)
+}
+
+/// What a call writes, without the bytes beyond it.
+pub fn written(write: Write, layout: Layout) -> Vec<u8> {
+    let (answer, mut buffer) = lent(write, layout, 8192);
+    assert_eq!(answer.refusal, 0);
+    let beyond = buffer.split_off(answer.value);
+    assert!(beyond.iter().all(|&byte| byte == FILL));
+    buffer
+}
+
+/// A buffer as long as what is written or longer gets it, a shorter one is
+/// refused and left.
+pub fn is_long_enough_or_untouched(write: Write, layout: Layout, length: usize) {
+    let due = written(write, layout);
+    assert_eq!(due.len(), length);
+    for longer in 0..3 {
+        let (answer, buffer) = lent(write, layout, length + longer);
+        assert_eq!((answer.refusal, answer.value), (0, length));
+        assert_eq!(buffer, [&due[..], &vec![FILL; longer]].concat());
+    }
+    for shorter in [length - 1, length.saturating_sub(2), 0] {
+        is_untouched(write, layout, shorter, 19);
+    }
+}
+
+/// A buffer of so many bytes is left by a refused call.
+pub fn is_untouched(write: Write, layout: Layout, length: usize, refusal: u8) {
+    let (answer, buffer) = lent(write, layout, length);
+    assert_eq!((answer.refusal, answer.value), (refusal, 0));
+    assert_eq!(buffer, vec![FILL; length]);
 }
