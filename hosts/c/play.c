@@ -9,12 +9,13 @@
 
 #include "rostulanda.h"
 
-/* Bytes in a record; a chart is padded to a multiple of it. */
+/* Bytes in a record; a chart or graph6 is padded to a multiple of it. */
 #define RECORD 32
 
-/* The longest buffers that a list can lend for an order and for a chart. */
+/* The longest buffers that a list can lend: for an order, and for a chart or
+ * graph6. */
 #define LONGEST_ORDER 255
-#define LONGEST_CHART 8192
+#define LONGEST_WRITTEN 8192
 
 /* A list, and how far it is played. */
 typedef struct list {
@@ -27,6 +28,10 @@ typedef struct list {
 typedef struct record {
     uint64_t op, a, b;
 } record;
+
+/* The calls that read a layout from bytes, and those that write it to them. */
+typedef uint8_t reader(rl_layout *l, const uint8_t *bytes, size_t length);
+typedef rl_written writer(const rl_layout *l, uint8_t *buffer, size_t length);
 
 /* All of standard input. */
 static list read_list(void)
@@ -67,8 +72,8 @@ static bool take_record(list *l, record *taken)
     return true;
 }
 
-/* The next chart; NULL if not all of it and of its padding is there. */
-static const uint8_t *take_chart(list *l, uint64_t length)
+/* The next chart or graph6; NULL if not all of it and of its padding is there. */
+static const uint8_t *take_bytes(list *l, uint64_t length)
 {
     size_t left = l->length - l->at;
     if (length > left)
@@ -76,9 +81,9 @@ static const uint8_t *take_chart(list *l, uint64_t length)
     size_t padded = (length + RECORD - 1) / RECORD * RECORD;
     if (padded > left)
         return NULL;
-    const uint8_t *chart = l->bytes + l->at;
+    const uint8_t *bytes = l->bytes + l->at;
     l->at += padded;
-    return chart;
+    return bytes;
 }
 
 /* Sets one field, if that is what the record asks for. */
@@ -110,14 +115,14 @@ static void print_bytes(const uint8_t *bytes, size_t length)
         printf(" %u", bytes[i]);
 }
 
-/* Starts from a chart, and from the empty layout if that is refused. */
-static bool play_chart(rl_layout *l, list *rest, uint64_t length)
+/* Starts from a chart or graph6, and from the empty layout if that is refused. */
+static bool play_start(rl_layout *l, list *rest, uint64_t length, const char *name, reader *read)
 {
-    const uint8_t *chart = take_chart(rest, length);
-    if (chart == NULL)
+    const uint8_t *bytes = take_bytes(rest, length);
+    if (bytes == NULL)
         return false;
     *l = rl_empty();
-    printf("chart %u", rl_read_chart(l, chart, length));
+    printf("%s %u", name, read(l, bytes, length));
     return true;
 }
 
@@ -150,12 +155,13 @@ static void play_order(const rl_layout *l, record r)
     print_buffer(buffer, length);
 }
 
-static void play_write_chart(const rl_layout *l, record r)
+/* Writes a chart or graph6. */
+static void play_write(const rl_layout *l, record r, const char *name, writer *write)
 {
-    uint8_t buffer[LONGEST_CHART];
+    uint8_t buffer[LONGEST_WRITTEN];
     size_t length = fill_buffer(buffer, sizeof buffer, r);
-    rl_written written = rl_write_chart(l, buffer, length);
-    printf("write %u %zu", written.refusal, written.length);
+    rl_written written = write(l, buffer, length);
+    printf("%s %u %zu", name, written.refusal, written.length);
     print_buffer(buffer, length);
 }
 
@@ -180,7 +186,7 @@ static bool play_call(rl_layout *l, list *rest, record r)
         printf("empty 0");
         return true;
     case 1:
-        return play_chart(l, rest, r.a);
+        return play_start(l, rest, r.a, "chart", rl_read_chart);
     case 16: {
         rl_vertex added = rl_add_vertex(l);
         printf("add %u %zu", added.refusal, added.vertex);
@@ -225,7 +231,12 @@ static bool play_call(rl_layout *l, list *rest, record r)
         play_first_crossing(l);
         return true;
     case 27:
-        play_write_chart(l, r);
+        play_write(l, r, "write", rl_write_chart);
+        return true;
+    case 28:
+        return play_start(l, rest, r.a, "import", rl_import_graph6);
+    case 29:
+        play_write(l, r, "export", rl_export_graph6);
         return true;
     default:
         return false;

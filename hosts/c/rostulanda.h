@@ -41,6 +41,9 @@ extern "C" {
 /* The most bytes that rl_write_chart writes. */
 #define RL_WRITTEN_CHART_BYTES 4106
 
+/* The most bytes that rl_export_graph6 writes. */
+#define RL_GRAPH6_BYTES 340
+
 /* The least buffer for rl_list_chart. */
 #define RL_LISTING_BYTES 1024
 
@@ -70,7 +73,12 @@ enum rl_refusal {
     RL_NO_ROOM = 16,
     RL_LIMIT_OUT_OF_RANGE = 17,
     RL_BUFFER_TOO_SHORT = 18,
-    RL_WRITE_BUFFER_TOO_SHORT = 19
+    RL_WRITE_BUFFER_TOO_SHORT = 19,
+
+    /* Importing a graph6. */
+    RL_GRAPH6_SIZE = 20,
+    RL_GRAPH6_DATA = 21,
+    RL_GRAPH6_PADDING = 22
 };
 
 /* The question that a refused call answered "no". */
@@ -95,6 +103,9 @@ static inline const char *rl_refusal_text(uint8_t refusal)
     case RL_LIMIT_OUT_OF_RANGE: return "is the limit from 1 to 1000?";
     case RL_BUFFER_TOO_SHORT: return "is the lent buffer long enough?";
     case RL_WRITE_BUFFER_TOO_SHORT: return "has the buffer as many bytes as are written?";
+    case RL_GRAPH6_SIZE: return "does the graph6 start with a size from 0 to 64, in its shortest form?";
+    case RL_GRAPH6_DATA: return "has the graph6 as many bytes as its size asks for, each from 63 to 126?";
+    case RL_GRAPH6_PADDING: return "are the padding bits of the graph6 all 0?";
     default: return "unknown";
     }
 }
@@ -104,8 +115,8 @@ static inline const char *rl_refusal_text(uint8_t refusal)
  *
  * The first n places of the order hold the vertices clockwise, each once; the
  * others are 0. Bit w of adjacency[v] (neighbour word) is set exactly when an
- * edge joins v and w. count is the carried count: from rl_empty or
- * rl_read_chart on it is the number of crossings. All bytes 0 is the empty
+ * edge joins v and w. count is the carried count: from rl_empty, rl_read_chart
+ * or rl_import_graph6 on it is the number of crossings. All bytes 0 is the empty
  * layout.
  */
 typedef struct rl_layout {
@@ -174,7 +185,7 @@ typedef struct rl_crossing {
     rl_edge second;
 } rl_crossing;
 
-/* How many bytes the written chart has. */
+/* How many bytes the written chart or graph6 has. */
 typedef struct rl_written {
     uint8_t refusal;
     size_t length;
@@ -251,6 +262,10 @@ rl_layout rl_empty(void);
 /* Reads a chart, and its true crossings with it. Refused: 1 to 8. */
 uint8_t rl_read_chart(rl_layout *l, const uint8_t *chart, size_t length);
 
+/* Imports a graph in graph6, one without header or line end: the order 0, 1, 2
+ * and so on, and its true crossings (document 02, Note 4). Refused: 20, 21, 22. */
+uint8_t rl_import_graph6(rl_layout *l, const uint8_t *graph6, size_t length);
+
 /* ---- calls that change a layout; each asks first whether it is valid (11) ---- */
 
 /* Adds vertex n, without edges, at the end of the order (document 01: add).
@@ -303,6 +318,11 @@ rl_crossing rl_first_crossing(const rl_layout *l);
  * its true crossings. Refused: 19, for fewer bytes than the chart has. */
 rl_written rl_write_chart(const rl_layout *l, uint8_t *buffer, size_t length);
 
+/* Writes the layout's graph6, without header or line end, to the start of the
+ * buffer; the bytes beyond it keep what they hold. Neither the order nor the
+ * carried count is in it. Refused: 19, for fewer bytes than the graph6 has. */
+rl_written rl_export_graph6(const rl_layout *l, uint8_t *buffer, size_t length);
+
 /* Whether the layout is valid (whole): all of the fields as rl_layout says,
  * but for the count. */
 bool rl_is_valid(const rl_layout *l);
@@ -327,17 +347,26 @@ enum rl_call {
     RL_CALL_CONVERGE = 23
 };
 
+/* Where a list starts; any other number is the empty layout too. */
+enum rl_origin {
+    RL_FROM_EMPTY = 0,
+    RL_FROM_CHART = 1,
+    RL_FROM_GRAPH6 = 2
+};
+
 /*
- * Plays a list of calls from the empty layout, or from a chart. A call is three
- * numbers: an rl_call and what it names, 0 where it names less. The list ends
- * at the first number that is no rl_call; one or two numbers at its end are not
- * looked at. An answer is RL_ANSWER_NUMBERS numbers: the refusal code and up to
- * four more, in the sequence of the call's own answer, a bool as 1 or 0, and 0
- * where it has fewer. Refused: 1 to 8 for the chart (the layout is then empty),
- * and 18 for less room than the answers of all calls take (the layout is then the
- * one at the start). Answers behind the last call keep what they hold.
+ * Plays a list of calls from an rl_origin: from the empty layout, which looks at
+ * no byte of the start, or from the chart or graph6 that the start holds. A call
+ * is three numbers: an rl_call and what it names, 0 where it names less. The list
+ * ends at the first number that is no rl_call; one or two numbers at its end are
+ * not looked at. An answer is RL_ANSWER_NUMBERS numbers: the refusal code and up
+ * to four more, in the sequence of the call's own answer, a bool as 1 or 0, and 0
+ * where it has fewer. Refused: 1 to 8 for a chart and 20 to 22 for a graph6 (the
+ * layout is then empty), and 18 for less room than the answers of all calls take
+ * (the layout is then the one at the start). Answers behind the last call keep
+ * what they hold.
  */
-rl_played rl_play(bool from_chart, const uint8_t *chart, size_t chart_length,
+rl_played rl_play(uint8_t origin, const uint8_t *start, size_t start_length,
                   const uint64_t *calls, size_t calls_length,
                   uint64_t *answers, size_t answers_length);
 

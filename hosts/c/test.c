@@ -22,6 +22,9 @@ static int tried, failed;
 /* Four vertices, 0-2 and 1-3: one crossing. */
 static const uint8_t chart[] = {0x44, 0, 1, 4, 0x4C, 0, 4, 0, 2, 1, 3, 0x52, 0, 4, 0, 1, 2, 3};
 
+/* The same in graph6: 0-2 is the second pair, 1-3 the fifth. */
+static const uint8_t graph6[] = {4 + 63, 18 + 63};
+
 static rl_layout first(void)
 {
     rl_layout l = rl_empty();
@@ -61,6 +64,52 @@ static void starts(void)
     HOLDS(rl_read_chart(&l, too_long, sizeof too_long) == RL_CHART_TOO_LONG);
     HOLDS(rl_read_chart(&l, too_long, sizeof too_long - 1) != RL_CHART_TOO_LONG);
     HOLDS(same(&l, &before));
+}
+
+/* A graph6 over a layout, whatever that held. */
+static void imports(void)
+{
+    rl_layout due = first();
+    rl_layout l;
+    memset(&l, 0xFF, sizeof l);
+    HOLDS(rl_import_graph6(&l, graph6, sizeof graph6) == RL_ACCEPTED && same(&l, &due));
+    /* Four vertices and the fourth pair, 0-3. */
+    HOLDS(rl_import_graph6(&l, (const uint8_t *)"CC", 2) == RL_ACCEPTED);
+    HOLDS(l.adjacency[0] == 8 && l.adjacency[1] == 0 && l.adjacency[2] == 0 && l.adjacency[3] == 1);
+    due = rl_empty();
+    HOLDS(rl_import_graph6(&l, (const uint8_t *)"?", 1) == RL_ACCEPTED && same(&l, &due));
+    HOLDS(rl_add_vertex(&due).refusal == RL_ACCEPTED);
+    HOLDS(rl_import_graph6(&l, (const uint8_t *)"@", 1) == RL_ACCEPTED && same(&l, &due));
+}
+
+/* Graph6 of each refusal; the layout stays as it came. */
+static void refused_imports(void)
+{
+    static const struct {
+        const char *graph6;
+        uint8_t refusal;
+    } due[] = {
+        /* Nothing, a byte that is none of graph6, a header. */
+        {"", RL_GRAPH6_SIZE}, {"\n", RL_GRAPH6_SIZE}, {"\177", RL_GRAPH6_SIZE},
+        {">>graph6<<CQ", RL_GRAPH6_SIZE},
+        /* The longer form: cut short, of 4, of 62, of 65, with a wrong byte. */
+        {"~?@", RL_GRAPH6_SIZE}, {"~??CQ", RL_GRAPH6_SIZE}, {"~??}", RL_GRAPH6_SIZE},
+        {"~?@@", RL_GRAPH6_SIZE}, {"~?@\177", RL_GRAPH6_SIZE}, {"~~????", RL_GRAPH6_SIZE},
+        /* 63 and 64 vertices without data, too few and too many bytes, a line end. */
+        {"~??~", RL_GRAPH6_DATA}, {"~?@?", RL_GRAPH6_DATA}, {"C", RL_GRAPH6_DATA},
+        {"CQ?", RL_GRAPH6_DATA}, {"CQ\n", RL_GRAPH6_DATA}, {"@?", RL_GRAPH6_DATA},
+        {"C>", RL_GRAPH6_DATA}, {"C\177", RL_GRAPH6_DATA}, {"B@\n", RL_GRAPH6_DATA},
+        /* Three vertices, two, five. */
+        {"B@", RL_GRAPH6_PADDING}, {"B~", RL_GRAPH6_PADDING}, {"A`", RL_GRAPH6_PADDING},
+        {"D?A", RL_GRAPH6_PADDING},
+    };
+    rl_layout l = first();
+    rl_layout before = l;
+    for (size_t i = 0; i < sizeof due / sizeof *due; i++) {
+        const uint8_t *bytes = (const uint8_t *)due[i].graph6;
+        HOLDS(rl_import_graph6(&l, bytes, strlen(due[i].graph6)) == due[i].refusal);
+        HOLDS(same(&l, &before));
+    }
 }
 
 static void changes(void)
@@ -146,6 +195,27 @@ static void reads(void)
     HOLDS(rl_order(&empty, buffer, 0) == RL_ACCEPTED);
 }
 
+/* A call that writes a layout, into a buffer of any length: what it writes is due,
+ * and the bytes beyond it, or all if they are too few, keep what they hold. */
+static void writes_into(rl_written (*write)(const rl_layout *, uint8_t *, size_t),
+                        const rl_layout *l, const uint8_t *due, size_t length)
+{
+    uint8_t buffer[RL_WRITTEN_CHART_BYTES];
+    memset(buffer, 77, sizeof buffer);
+    rl_written written = write(l, buffer, length - 1);
+    HOLDS(written.refusal == RL_WRITE_BUFFER_TOO_SHORT && written.length == 0);
+    written = write(l, buffer, 0);
+    HOLDS(written.refusal == RL_WRITE_BUFFER_TOO_SHORT && written.length == 0);
+    HOLDS(holds_only(buffer, sizeof buffer, 77));
+    for (size_t more = 0; more < 2; more++) {
+        memset(buffer, 77, sizeof buffer);
+        written = write(l, buffer, length + more);
+        HOLDS(written.refusal == RL_ACCEPTED && written.length == length);
+        HOLDS(memcmp(buffer, due, length) == 0);
+        HOLDS(holds_only(buffer + length, sizeof buffer - length, 77));
+    }
+}
+
 /* A chart written by rl_write_chart: its bytes, whatever the carried count, and
  * the layout that reading them over another one gives. */
 static void writes(void)
@@ -157,46 +227,51 @@ static void writes(void)
     static const uint8_t sorted[] = {
         0x44, 0, 1, 4, 0x4C, 0, 8, 0, 1, 0, 2, 1, 3, 2, 3, 0x52, 0, 4, 2, 0, 3, 1,
     };
-    static const size_t length = sizeof sorted;
     rl_layout l = rl_empty();
     HOLDS(rl_read_chart(&l, listed, sizeof listed) == RL_ACCEPTED && l.count == 1);
     rl_layout carried = l;
     carried.count = 77;
     rl_layout before = carried;
-
-    uint8_t buffer[RL_WRITTEN_CHART_BYTES];
-    memset(buffer, 77, sizeof buffer);
-    rl_written written = rl_write_chart(&carried, buffer, length - 1);
-    HOLDS(written.refusal == RL_WRITE_BUFFER_TOO_SHORT && written.length == 0);
-    written = rl_write_chart(&carried, buffer, 0);
-    HOLDS(written.refusal == RL_WRITE_BUFFER_TOO_SHORT && written.length == 0);
-    HOLDS(holds_only(buffer, sizeof buffer, 77));
-    for (size_t more = 0; more < 2; more++) {
-        memset(buffer, 77, sizeof buffer);
-        written = rl_write_chart(&carried, buffer, length + more);
-        HOLDS(written.refusal == RL_ACCEPTED && written.length == length);
-        HOLDS(memcmp(buffer, sorted, length) == 0);
-        HOLDS(holds_only(buffer + length, sizeof buffer - length, 77));
-    }
+    writes_into(rl_write_chart, &carried, sorted, sizeof sorted);
     HOLDS(same(&carried, &before));
     rl_layout again = first();
-    HOLDS(rl_read_chart(&again, buffer, length) == RL_ACCEPTED && same(&again, &l));
+    HOLDS(rl_read_chart(&again, sorted, sizeof sorted) == RL_ACCEPTED && same(&again, &l));
 
+    static const uint8_t none[] = {0x44, 0, 1, 0, 0x4C, 0, 0, 0x52, 0, 0};
     rl_layout empty = rl_empty();
-    written = rl_write_chart(&empty, buffer, sizeof buffer);
-    HOLDS(written.refusal == RL_ACCEPTED && written.length == 10);
-    HOLDS(rl_read_chart(&again, buffer, 10) == RL_ACCEPTED && same(&again, &empty));
+    writes_into(rl_write_chart, &empty, none, sizeof none);
+    HOLDS(rl_read_chart(&again, none, sizeof none) == RL_ACCEPTED && same(&again, &empty));
 }
 
-/* All 64 vertices and all edges: the longest chart that is written. */
-static void writes_the_longest(void)
+/* A graph6, whatever the order and the carried count. */
+static void exports(void)
+{
+    rl_layout l = first();
+    HOLDS(rl_move_after(&l, 3, 0) == RL_ACCEPTED && l.count == 0);
+    l.count = 77;
+    rl_layout before = l;
+    writes_into(rl_export_graph6, &l, graph6, sizeof graph6);
+    HOLDS(same(&l, &before));
+    rl_layout empty = rl_empty();
+    writes_into(rl_export_graph6, &empty, (const uint8_t *)"?", 1);
+}
+
+/* From 1 to 64 vertices and all edges, in falling order. */
+static rl_layout complete(size_t n)
 {
     rl_layout l = rl_empty();
-    l.n = RL_PLACES;
-    for (size_t v = 0; v < RL_PLACES; v++) {
-        l.order[v] = (uint8_t)(RL_PLACES - 1 - v);
-        l.adjacency[v] = ~((uint64_t)1 << v);
+    l.n = n;
+    for (size_t v = 0; v < n; v++) {
+        l.order[v] = (uint8_t)(n - 1 - v);
+        l.adjacency[v] = UINT64_MAX >> (RL_PLACES - n) & ~((uint64_t)1 << v);
     }
+    return l;
+}
+
+/* The longest chart that is written. */
+static void writes_the_longest(void)
+{
+    rl_layout l = complete(RL_PLACES);
     uint8_t buffer[RL_WRITTEN_CHART_BYTES];
     HOLDS(rl_write_chart(&l, buffer, sizeof buffer - 1).refusal == RL_WRITE_BUFFER_TOO_SHORT);
     HOLDS(rl_write_chart(&l, buffer, sizeof buffer).length == sizeof buffer);
@@ -204,6 +279,35 @@ static void writes_the_longest(void)
     HOLDS(rl_read_chart(&again, buffer, sizeof buffer) == RL_ACCEPTED && again.count == 635376);
     again.count = l.count;
     HOLDS(same(&again, &l));
+}
+
+/* The largest graph whose size is one byte, those that have four, and with all
+ * edges the longest graph6. */
+static void exports_the_largest(void)
+{
+    static const struct {
+        size_t n;
+        const char *size;
+        size_t length;
+        uint32_t crossings;
+    } due[] = {
+        {62, "}", 317, 557845}, {63, "~??~", 330, 595665}, {64, "~?@?", RL_GRAPH6_BYTES, 635376},
+    };
+    for (size_t i = 0; i < sizeof due / sizeof *due; i++) {
+        rl_layout l = complete(due[i].n);
+        uint8_t buffer[RL_GRAPH6_BYTES];
+        rl_written written = rl_export_graph6(&l, buffer, due[i].length - 1);
+        HOLDS(written.refusal == RL_WRITE_BUFFER_TOO_SHORT);
+        written = rl_export_graph6(&l, buffer, due[i].length);
+        HOLDS(written.refusal == RL_ACCEPTED && written.length == due[i].length);
+        HOLDS(memcmp(buffer, due[i].size, strlen(due[i].size)) == 0);
+        rl_layout again = first();
+        HOLDS(rl_import_graph6(&again, buffer, due[i].length) == RL_ACCEPTED);
+        l.count = due[i].crossings;
+        for (size_t v = 0; v < l.n; v++)
+            l.order[v] = (uint8_t)v;
+        HOLDS(same(&again, &l));
+    }
 }
 
 /* Fields of any content: refused, and left. */
@@ -236,6 +340,9 @@ static void invalid(void)
     rl_written written = rl_write_chart(&l, buffer, sizeof buffer);
     HOLDS(written.refusal == RL_INVALID_LAYOUT && written.length == 0);
     HOLDS(rl_write_chart(&l, buffer, 0).refusal == RL_INVALID_LAYOUT);
+    written = rl_export_graph6(&l, buffer, sizeof buffer);
+    HOLDS(written.refusal == RL_INVALID_LAYOUT && written.length == 0);
+    HOLDS(rl_export_graph6(&l, buffer, 0).refusal == RL_INVALID_LAYOUT);
     HOLDS(holds_only(buffer, sizeof buffer, 77));
     rl_crossing crossing = rl_first_crossing(&l);
     HOLDS(crossing.refusal == RL_INVALID_LAYOUT && !crossing.found);
@@ -256,7 +363,8 @@ static void listing(void)
     HOLDS(rl_list_chart(chart, 0, out, sizeof out) == 10 && memcmp(out, "refused 3\n", 10) == 0);
 }
 
-static void lists(void)
+/* A list from a chart or graph6 of the first layout. */
+static void list_from(uint8_t origin, const uint8_t *start, size_t start_length)
 {
     static const uint64_t calls[] = {
         RL_CALL_ADD_VERTEX, 0, 0, RL_CALL_ADD_EDGE, 4, 1, RL_CALL_ADD_EDGE, 4, 4,
@@ -269,10 +377,10 @@ static void lists(void)
     uint64_t answers[TABLE + 1];
     for (size_t i = 0; i <= TABLE; i++)
         answers[i] = 77;
-    rl_played played = rl_play(true, chart, sizeof chart, calls, length, answers, TABLE - 1);
+    rl_played played = rl_play(origin, start, start_length, calls, length, answers, TABLE - 1);
     HOLDS(played.refusal == RL_BUFFER_TOO_SHORT && played.calls == 0 && played.layout.n == 4);
     HOLDS(answers[0] == 77);
-    played = rl_play(true, chart, sizeof chart, calls, length, answers, TABLE + 1);
+    played = rl_play(origin, start, start_length, calls, length, answers, TABLE + 1);
     HOLDS(played.refusal == RL_ACCEPTED && played.calls == CALLS && answers[TABLE] == 77);
 
     rl_layout l = first();
@@ -292,11 +400,25 @@ static void lists(void)
     };
     HOLDS(memcmp(answers, due, sizeof due) == 0);
     HOLDS(joined == RL_ACCEPTED && refused == RL_SAME_VERTEX && same(&l, &played.layout));
+}
 
-    played = rl_play(true, chart, 1, calls, length, answers, TABLE);
+static void lists(void)
+{
+    list_from(RL_FROM_CHART, chart, sizeof chart);
+    list_from(RL_FROM_GRAPH6, graph6, sizeof graph6);
+
+    static const uint64_t calls[] = {RL_CALL_ADD_VERTEX, 0, 0};
+    uint64_t answers[RL_ANSWER_NUMBERS] = {77};
+    rl_played played = rl_play(RL_FROM_CHART, chart, 1, calls, 3, answers, RL_ANSWER_NUMBERS);
     HOLDS(played.refusal == RL_CHART_FIELDS && played.calls == 0 && played.layout.n == 0);
-    played = rl_play(false, chart, 0, calls, 0, answers, 0);
-    HOLDS(played.refusal == RL_ACCEPTED && played.calls == 0 && played.layout.n == 0);
+    played = rl_play(RL_FROM_GRAPH6, graph6, 1, calls, 3, answers, RL_ANSWER_NUMBERS);
+    HOLDS(played.refusal == RL_GRAPH6_DATA && played.calls == 0 && played.layout.n == 0);
+    HOLDS(answers[0] == 77);
+    static const uint8_t from_empty[] = {RL_FROM_EMPTY, 3, UINT8_MAX};
+    for (size_t i = 0; i < sizeof from_empty; i++) {
+        played = rl_play(from_empty[i], chart, sizeof chart, calls, 0, answers, 0);
+        HOLDS(played.refusal == RL_ACCEPTED && played.calls == 0 && played.layout.n == 0);
+    }
 }
 
 static void texts(void)
@@ -309,11 +431,15 @@ static void texts(void)
 int main(void)
 {
     starts();
+    imports();
+    refused_imports();
     changes();
     optima();
     reads();
     writes();
+    exports();
     writes_the_longest();
+    exports_the_largest();
     invalid();
     listing();
     lists();

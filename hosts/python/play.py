@@ -10,12 +10,12 @@ from typing import Callable, Dict, Iterator, List, Optional
 import rostulanda
 from rostulanda import PLACES, Layout
 
-#: Bytes in a record; a chart is padded to a multiple of it.
+#: Bytes in a record; a chart or graph6 is padded to a multiple of it.
 RECORD = 32
 
-#: The longest buffers that a list can lend for an order and for a chart.
+#: The longest buffers that a list can lend: for an order, and for a chart or graph6.
 LONGEST_ORDER = 255
-LONGEST_CHART = 8192
+LONGEST_WRITTEN = 8192
 
 
 class CallsEnd(Exception):
@@ -58,9 +58,10 @@ def order(layout: Layout, length: int, fill: int) -> str:
     return f"{told} buffer{numbers(list(buffer))}"
 
 
-def write_chart(layout: Layout, length: int, fill: int) -> str:
-    buffer = filled(length, LONGEST_CHART, fill)
-    told = answered("write", " 0", lambda: f" {layout.write_chart(buffer)}")
+def written(name: str, write: Callable[[bytearray], int], length: int, fill: int) -> str:
+    """A call that writes a chart or graph6."""
+    buffer = filled(length, LONGEST_WRITTEN, fill)
+    told = answered(name, " 0", lambda: f" {write(buffer)}")
     return f"{told} buffer{numbers(list(buffer))}"
 
 
@@ -77,7 +78,8 @@ OPS: Dict[int, Callable[[Layout, int, int], str]] = {
     24: lambda l, a, b: answered("count", " 0", lambda: f" {l.count()}"),
     25: order,
     26: lambda l, a, b: answered("pair", " refused", lambda: first_crossing(l)),
-    27: write_chart,
+    27: lambda l, a, b: written("write", l.write_chart, a, b),
+    29: lambda l, a, b: written("export", l.export_graph6, a, b),
 }
 
 
@@ -119,10 +121,16 @@ class Player:
             self.layout = Layout()
             return "empty 0"
         if op == 1:
-            chart = self.take(a)
-            self.layout = Layout()
-            return answered("chart", "", lambda: self.layout.read_chart(chart))
+            return self.start("chart", Layout.read_chart, a)
+        if op == 28:
+            return self.start("import", Layout.import_graph6, a)
         raise CallsEnd
+
+    def start(self, name: str, read: Callable[[Layout, bytes], None], length: int) -> str:
+        """Starts from a chart or graph6, and from the empty layout if that is refused."""
+        given = self.take(length)
+        self.layout = Layout()
+        return answered(name, "", lambda: read(self.layout, given))
 
     def lines(self) -> Iterator[str]:
         """All answer lines."""

@@ -30,6 +30,9 @@ PLACES = 64
 #: The most bytes that a written chart has.
 WRITTEN_CHART_BYTES = 4106
 
+#: The most bytes that a graph6 has.
+GRAPH6_BYTES = 340
+
 #: The least buffer that a listing needs.
 LISTING_BYTES = 1024
 
@@ -62,6 +65,9 @@ class Refusal(enum.IntEnum):
     LIMIT_OUT_OF_RANGE = 17
     BUFFER_TOO_SHORT = 18
     WRITE_BUFFER_TOO_SHORT = 19
+    GRAPH6_SIZE = 20
+    GRAPH6_DATA = 21
+    GRAPH6_PADDING = 22
 
 
 #: The question that each refusal answers "no".
@@ -83,6 +89,9 @@ QUESTIONS: Dict[int, str] = {
     Refusal.LIMIT_OUT_OF_RANGE: "is the limit from 1 to 1000?",
     Refusal.BUFFER_TOO_SHORT: "is the lent buffer long enough?",
     Refusal.WRITE_BUFFER_TOO_SHORT: "has the buffer as many bytes as are written?",
+    Refusal.GRAPH6_SIZE: "does the graph6 start with a size from 0 to 64, in its shortest form?",
+    Refusal.GRAPH6_DATA: "has the graph6 as many bytes as its size asks for, each from 63 to 126?",
+    Refusal.GRAPH6_PADDING: "are the padding bits of the graph6 all 0?",
 }
 
 
@@ -165,6 +174,7 @@ class _Played(ctypes.Structure):
 _FUNCTIONS: Dict[str, Tuple[Any, List[Any]]] = {
     "rl_empty": (Fields, []),
     "rl_read_chart": (c_uint8, [ctypes.POINTER(Fields), c_char_p, c_size_t]),
+    "rl_import_graph6": (c_uint8, [ctypes.POINTER(Fields), c_char_p, c_size_t]),
     "rl_add_vertex": (_Vertex, [ctypes.POINTER(Fields)]),
     "rl_add_edge": (c_uint8, [ctypes.POINTER(Fields), c_size_t, c_size_t]),
     "rl_remove_edge": (c_uint8, [ctypes.POINTER(Fields), c_size_t, c_size_t]),
@@ -177,12 +187,13 @@ _FUNCTIONS: Dict[str, Tuple[Any, List[Any]]] = {
     "rl_order": (c_uint8, [ctypes.POINTER(Fields), ctypes.POINTER(c_uint8), c_size_t]),
     "rl_first_crossing": (_Crossing, [ctypes.POINTER(Fields)]),
     "rl_write_chart": (_Written, [ctypes.POINTER(Fields), ctypes.POINTER(c_uint8), c_size_t]),
+    "rl_export_graph6": (_Written, [ctypes.POINTER(Fields), ctypes.POINTER(c_uint8), c_size_t]),
     "rl_is_valid": (c_bool, [ctypes.POINTER(Fields)]),
     "rl_list_chart": (c_size_t, [c_char_p, c_size_t, ctypes.POINTER(c_uint8), c_size_t]),
     "rl_play": (
         _Played,
         [
-            c_bool,
+            c_uint8,
             c_char_p,
             c_size_t,
             ctypes.POINTER(c_uint64),
@@ -234,9 +245,9 @@ def _vertex(value: int) -> int:
     return _number(value, 2**64 - 1)
 
 
-def _bytes(chart: bytes) -> bytes:
+def _bytes(held: bytes) -> bytes:
     """The bytes of anything that holds bytes, and of nothing else."""
-    return memoryview(chart).tobytes()
+    return memoryview(held).tobytes()
 
 
 # ---- what calls answer -------------------------------------------------------
@@ -331,6 +342,16 @@ class Layout:
         return layout
 
     @classmethod
+    def from_graph6(cls, graph6: bytes) -> "Layout":
+        """The layout of a graph in graph6, one without header or line end (document 02, Note 4).
+
+        Its order is 0, 1, 2 and so on, its count the true crossings.
+        """
+        layout = cls()
+        layout.import_graph6(graph6)
+        return layout
+
+    @classmethod
     def from_edges(
         cls, edges: Iterable[Edge], n: Optional[int] = None, order: Optional[Sequence[int]] = None
     ) -> "Layout":
@@ -383,8 +404,16 @@ class Layout:
 
     def read_chart(self, chart: bytes) -> None:
         """Reads a chart into this layout; a refused one leaves it as it was."""
-        held = _bytes(chart)
-        _accept(_library.rl_read_chart(self.fields, held, len(held)))
+        self._read(_library.rl_read_chart, chart)
+
+    def import_graph6(self, graph6: bytes) -> None:
+        """Imports a graph6 into this layout; a refused one leaves it as it was."""
+        self._read(_library.rl_import_graph6, graph6)
+
+    def _read(self, call: Callable[..., int], given: bytes) -> None:
+        """Makes a call that reads a layout from bytes."""
+        held = _bytes(given)
+        _accept(call(self.fields, held, len(held)))
 
     def add_vertex(self) -> int:
         """Adds a vertex without edges at the end of the order (document 01: add).
@@ -447,8 +476,8 @@ class Layout:
     def count(self) -> int:
         """The carried count.
 
-        Of a layout that came from Layout(), a chart or edges, and was changed by
-        calls alone, it is the number of crossings.
+        Of a layout that came from Layout(), a chart, a graph6 or edges, and was
+        changed by calls alone, it is the number of crossings.
         """
         answer = _library.rl_count(self.fields)
         _accept(answer.refusal)
@@ -494,16 +523,32 @@ class Layout:
         The carried count is not in it: read again, it gives this layout with its
         true crossings.
         """
-        buffer = bytearray(WRITTEN_CHART_BYTES)
-        length = self.write_chart(buffer)
-        return bytes(buffer[:length])
+        return _written(self.write_chart, WRITTEN_CHART_BYTES)
 
     def write_chart(self, buffer: bytearray) -> int:
         """Writes the chart to the start of the buffer; the bytes beyond keep what they hold.
 
         Gives its length, at most WRITTEN_CHART_BYTES.
         """
-        answer = self._write(_library.rl_write_chart, buffer)
+        return self._write_length(_library.rl_write_chart, buffer)
+
+    def graph6(self) -> bytes:
+        """The graph6 of this layout, without header or line end.
+
+        Neither the order nor the carried count is in it.
+        """
+        return _written(self.export_graph6, GRAPH6_BYTES)
+
+    def export_graph6(self, buffer: bytearray) -> int:
+        """Writes the graph6 to the start of the buffer; the bytes beyond keep what they hold.
+
+        Gives its length, at most GRAPH6_BYTES.
+        """
+        return self._write_length(_library.rl_export_graph6, buffer)
+
+    def _write_length(self, call: Callable[..., _Written], buffer: bytearray) -> int:
+        """How many bytes a call writes to the start of a lent buffer."""
+        answer = self._write(call, buffer)
         _accept(answer.refusal)
         return answer.length
 
@@ -524,6 +569,13 @@ class Layout:
         run = self.converge(limit)
         order = self.order()
         return Row(len(order), len(self.edges()), before, self.count(), run.rounds, run.converged, order)
+
+
+def _written(write: Callable[[bytearray], int], most: int) -> bytes:
+    """What is written to a buffer of the most bytes that it can have."""
+    buffer = bytearray(most)
+    length = write(buffer)
+    return bytes(buffer[:length])
 
 
 def _pair(edge: Any) -> Tuple[Any, Any]:
@@ -620,21 +672,34 @@ class Played(NamedTuple):
     answers: List[Answer]
 
 
-def play(calls: Iterable[Sequence[Any]], chart: Optional[bytes] = None) -> Played:
-    """Plays a list of calls from a chart, or from the empty layout.
+def _start(chart: Optional[bytes], graph6: Optional[bytes]) -> Tuple[int, bytes]:
+    """Where a list starts: the number of rl_origin, and the bytes."""
+    if chart is not None and graph6 is not None:
+        raise ValueError("a list starts from a chart or from a graph6, not from both")
+    if chart is not None:
+        return 1, _bytes(chart)
+    if graph6 is not None:
+        return 2, _bytes(graph6)
+    return 0, b""
+
+
+def play(
+    calls: Iterable[Sequence[Any]], chart: Optional[bytes] = None, graph6: Optional[bytes] = None
+) -> Played:
+    """Plays a list of calls from a chart, from a graph6, or from the empty layout.
 
     A call is its name and what it names: ("add_vertex",), ("add_edge", 0, 1),
     ("converge", 50). Refused calls may stand anywhere among them; only a
-    refused chart raises Refused.
+    refused chart or graph6 raises Refused.
     """
     numbers: List[int] = []
     for name, *named in calls:
         first, second = (list(map(_vertex, named)) + [0, 0])[:2]
         numbers += [CALLS[name], first, second]
-    held = b"" if chart is None else _bytes(chart)
+    origin, held = _start(chart, graph6)
     listed = (c_uint64 * len(numbers))(*numbers)
     table = (c_uint64 * (len(numbers) // 3 * ANSWER_NUMBERS))()
-    played = _library.rl_play(chart is not None, held, len(held), listed, len(listed), table, len(table))
+    played = _library.rl_play(origin, held, len(held), listed, len(listed), table, len(table))
     _accept(played.refusal)
     result = Layout()
     result.fields = played.layout

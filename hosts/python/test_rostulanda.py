@@ -12,9 +12,13 @@ try:
     import networkx
 except ImportError:
     networkx = None
-    print("networkx is not installed: that test was not run")
+    print("networkx is not installed: the tests of its graphs were not run")
 
 CHART = pathlib.Path(__file__).resolve().parents[2].joinpath("charts", "first.chart").read_bytes()
+
+
+#: The same in graph6: 0-2 is the second pair, 1-3 the fifth.
+GRAPH6 = bytes([4 + 63, 0b010010 + 63])
 
 
 def crossings(order, edges):
@@ -143,28 +147,29 @@ class LayoutTest(unittest.TestCase):
         carried.read_chart(chart)
         self.assertEqual(carried, layout)
 
-    def test_a_chart_goes_into_a_lent_buffer(self):
+    def test_a_chart_or_graph6_goes_into_a_lent_buffer(self):
         layout = Layout.from_chart(CHART)
-        for beyond in (b"", bytes([77])):
-            buffer = bytearray([77] * len(CHART + beyond))
-            self.assertEqual(layout.write_chart(buffer), len(CHART))
-            self.assertEqual(buffer, CHART + beyond)
-        for length in (0, len(CHART) - 1):
-            short = bytearray([77] * length)
-            self.refuses(Refusal.WRITE_BUFFER_TOO_SHORT, layout.write_chart, short)
-            self.assertEqual(short, bytes([77] * length))
-        with self.assertRaises(TypeError):
-            layout.write_chart(memoryview(layout.fields.order))
+        for write, due in ((layout.write_chart, CHART), (layout.export_graph6, GRAPH6)):
+            for beyond in (b"", bytes([77])):
+                buffer = bytearray([77] * len(due + beyond))
+                self.assertEqual(write(buffer), len(due))
+                self.assertEqual(buffer, due + beyond)
+            for length in (0, len(due) - 1):
+                short = bytearray([77] * length)
+                self.refuses(Refusal.WRITE_BUFFER_TOO_SHORT, write, short)
+                self.assertEqual(short, bytes([77] * length))
+            with self.assertRaises(TypeError):
+                write(memoryview(layout.fields.order))
 
     def test_a_refused_call_lets_go_of_its_buffer(self):
         layout = Layout.from_chart(CHART)
-        for write in (layout.write_order, layout.write_chart):
-            short = bytearray(3)
+        for write in (layout.write_order, layout.write_chart, layout.export_graph6):
+            short = bytearray(1)
             try:
                 write(short)
             except Refused:
                 short.append(77)
-            self.assertEqual(len(short), 4)
+            self.assertEqual(len(short), 2)
 
     def test_an_invalid_layout_is_refused_and_left(self):
         layout = Layout.from_chart(CHART)
@@ -179,11 +184,13 @@ class LayoutTest(unittest.TestCase):
             layout.order,
             layout.first_crossing,
             layout.chart,
+            layout.graph6,
             layout.row,
         ):
             self.refuses(Refusal.INVALID_LAYOUT, call)
         self.refuses(Refusal.INVALID_LAYOUT, layout.sift, 0)
         self.refuses(Refusal.INVALID_LAYOUT, layout.write_chart, bytearray())
+        self.refuses(Refusal.INVALID_LAYOUT, layout.export_graph6, bytearray())
         self.assertEqual(layout, before)
 
     def test_a_copy_is_another_layout(self):
@@ -192,6 +199,34 @@ class LayoutTest(unittest.TestCase):
         twin.sift(0)
         self.assertEqual(layout, Layout.from_chart(CHART))
         self.assertNotEqual(layout, twin)
+
+
+    def test_a_graph6_is_exported_as_it_is_imported(self):
+        self.assertEqual(Layout.from_graph6(GRAPH6), Layout.from_chart(CHART))
+        self.assertEqual(Layout.from_graph6(b"?"), Layout())
+        for graph6 in (b"?", b"@", b"A?", b"A_", GRAPH6, b"D?{"):
+            self.assertEqual(Layout.from_graph6(graph6).graph6(), graph6)
+
+    def test_a_graph6_has_neither_order_nor_count(self):
+        layout = Layout.from_edges([(0, 2), (1, 3)], order=[2, 1, 0, 3])
+        layout.fields.count = 77
+        self.assertEqual(layout.graph6(), GRAPH6)
+        layout.import_graph6(GRAPH6)
+        self.assertEqual(layout, Layout.from_chart(CHART))
+
+    def test_a_refused_graph6_leaves_the_layout(self):
+        layout = Layout.from_chart(CHART)
+        for refusal, refused in (
+            (Refusal.GRAPH6_SIZE, (b"", b">>graph6<<CQ", b"~??", b"~??CQ", b"~?@@")),
+            (Refusal.GRAPH6_DATA, (b"C", b"CQ\n", b"C\0", b"~?@?")),
+            (Refusal.GRAPH6_PADDING, (b"B@",)),
+        ):
+            for graph6 in refused:
+                self.refuses(refusal, layout.import_graph6, graph6)
+                self.refuses(refusal, Layout.from_graph6, graph6)
+        with self.assertRaises(TypeError):
+            layout.import_graph6("CQ")
+        self.assertEqual(layout, Layout.from_chart(CHART))
 
 
 class FromEdgesTest(unittest.TestCase):
@@ -237,6 +272,9 @@ class FromEdgesTest(unittest.TestCase):
         chart = layout.chart()
         self.assertEqual(len(chart), rostulanda.WRITTEN_CHART_BYTES)
         self.assertEqual(Layout.from_chart(chart), layout)
+        graph6 = layout.graph6()
+        self.assertEqual(len(graph6), rostulanda.GRAPH6_BYTES)
+        self.assertEqual(Layout.from_graph6(graph6), layout)
 
 
 class GraphTest(unittest.TestCase):
@@ -275,6 +313,19 @@ class GraphTest(unittest.TestCase):
             self.assertEqual(row.after, crossings(row.order, undirected.edges()))
             self.assertTrue(row.converged)
 
+    @unittest.skipIf(networkx is None, "networkx is not installed")
+    def test_a_graph6_is_that_of_networkx(self):
+        chance = random.Random(5)
+        for n, density in itertools.product(range(rostulanda.PLACES + 1), (0, 0.3, 1)):
+            graph = networkx.gnp_random_graph(n, density, seed=n)
+            graph6 = networkx.to_graph6_bytes(graph, header=False).rstrip(b"\n")
+            self.assertEqual(Layout.from_graph6(graph6), Layout.from_edges(graph.edges(), n=n))
+            order = chance.sample(range(n), n)
+            exported = Layout.from_edges(graph.edges(), n=n, order=order).graph6()
+            self.assertEqual(exported, graph6)
+            again = networkx.from_graph6_bytes(exported)
+            self.assertTrue(networkx.utils.graphs_equal(again, graph))
+
 
 class ChartAndListTest(unittest.TestCase):
     def test_a_row_is_what_ringlist_prints(self):
@@ -297,6 +348,7 @@ class ChartAndListTest(unittest.TestCase):
             ("converge", 50),
         ]
         played = rostulanda.play(calls, CHART)
+        self.assertEqual(rostulanda.play(calls, graph6=GRAPH6), played)
         layout = Layout.from_chart(CHART)
         for (name, *named), answer in zip(calls, played.answers):
             try:
@@ -311,8 +363,13 @@ class ChartAndListTest(unittest.TestCase):
     def test_starts_of_lists(self):
         self.assertEqual(rostulanda.play([]), (Layout(), []))
         self.assertEqual(rostulanda.play([], CHART).layout, Layout.from_chart(CHART))
-        with self.assertRaises(Refused):
-            rostulanda.play([("add_vertex",)], b"\x01")
+        self.assertEqual(rostulanda.play([], graph6=GRAPH6).layout, Layout.from_graph6(GRAPH6))
+        for start, refusal in (("chart", Refusal.CHART_FIELDS), ("graph6", Refusal.GRAPH6_SIZE)):
+            with self.assertRaises(Refused) as caught:
+                rostulanda.play([("add_vertex",)], **{start: b"\x01"})
+            self.assertEqual(caught.exception.code, refusal)
+        with self.assertRaises(ValueError):
+            rostulanda.play([], CHART, GRAPH6)
 
 
 if __name__ == "__main__":

@@ -5,13 +5,16 @@
 //! read: just what the library asks for. So the functions that take no slice
 //! are safe to call.
 
-use crate::{Edge, Fields};
+use crate::{Edge, Fields, Start};
 
 /// The most vertices, and the places of an order.
 pub const PLACES: usize = 64;
 
 /// The most bytes that a written chart has.
 pub const WRITTEN_CHART_BYTES: usize = 4106;
+
+/// The most bytes that a graph6 has.
+pub const GRAPH6_BYTES: usize = 340;
 
 /// The numbers of each answer of a list of calls: the refusal code, and four
 /// more.
@@ -95,8 +98,10 @@ unsafe extern "C" {
     pub safe fn rl_is_valid(l: &Fields) -> bool;
 
     unsafe fn rl_read_chart(l: &mut Fields, chart: *const u8, length: usize) -> u8;
+    unsafe fn rl_import_graph6(l: &mut Fields, graph6: *const u8, length: usize) -> u8;
     unsafe fn rl_order(l: &Fields, buffer: *mut u8, length: usize) -> u8;
     unsafe fn rl_write_chart(l: &Fields, buffer: *mut u8, length: usize) -> Written;
+    unsafe fn rl_export_graph6(l: &Fields, buffer: *mut u8, length: usize) -> Written;
     unsafe fn rl_list_chart(
         chart: *const u8,
         length: usize,
@@ -104,9 +109,9 @@ unsafe extern "C" {
         out_length: usize,
     ) -> usize;
     unsafe fn rl_play(
-        from_chart: bool,
-        chart: *const u8,
-        chart_length: usize,
+        origin: u8,
+        start: *const u8,
+        start_length: usize,
         calls: *const u64,
         calls_length: usize,
         answers: *mut u64,
@@ -119,6 +124,11 @@ pub fn read_chart(l: &mut Fields, chart: &[u8]) -> u8 {
     unsafe { rl_read_chart(l, chart.as_ptr(), chart.len()) }
 }
 
+pub fn import_graph6(l: &mut Fields, graph6: &[u8]) -> u8 {
+    // SAFETY: pointer and length are those of a slice.
+    unsafe { rl_import_graph6(l, graph6.as_ptr(), graph6.len()) }
+}
+
 pub fn order(l: &Fields, buffer: &mut [u8]) -> u8 {
     // SAFETY: pointer and length are those of a slice.
     unsafe { rl_order(l, buffer.as_mut_ptr(), buffer.len()) }
@@ -129,17 +139,27 @@ pub fn write_chart(l: &Fields, buffer: &mut [u8]) -> Written {
     unsafe { rl_write_chart(l, buffer.as_mut_ptr(), buffer.len()) }
 }
 
+pub fn export_graph6(l: &Fields, buffer: &mut [u8]) -> Written {
+    // SAFETY: pointer and length are those of a slice.
+    unsafe { rl_export_graph6(l, buffer.as_mut_ptr(), buffer.len()) }
+}
+
 pub fn list_chart(chart: &[u8], out: &mut [u8]) -> usize {
     // SAFETY: pointers and lengths are those of slices.
     unsafe { rl_list_chart(chart.as_ptr(), chart.len(), out.as_mut_ptr(), out.len()) }
 }
 
-pub fn play(chart: Option<&[u8]>, calls: &[u64], answers: &mut [u64]) -> Played {
-    let bytes = chart.unwrap_or_default();
+pub fn play(start: Start, calls: &[u64], answers: &mut [u64]) -> Played {
+    // The numbers of rl_origin.
+    let (origin, bytes): (u8, &[u8]) = match start {
+        Start::Empty => (0, &[]),
+        Start::Chart(chart) => (1, chart),
+        Start::Graph6(graph6) => (2, graph6),
+    };
     // SAFETY: pointers and lengths are those of slices.
     unsafe {
         rl_play(
-            chart.is_some(),
+            origin,
             bytes.as_ptr(),
             bytes.len(),
             calls.as_ptr(),

@@ -1,6 +1,6 @@
 //! A layout, held by the host and lent to each call.
 
-use crate::ffi::{self, PLACES, WRITTEN_CHART_BYTES};
+use crate::ffi::{self, GRAPH6_BYTES, PLACES, WRITTEN_CHART_BYTES};
 use crate::refusal::{accepted, Refusal};
 use crate::row::Row;
 
@@ -92,6 +92,14 @@ impl Layout {
         Ok(layout)
     }
 
+    /// The layout of a graph in graph6, one without header or line end: the
+    /// order 0, 1, 2 and so on, and its true crossings (document 02, Note 4).
+    pub fn from_graph6(graph6: &[u8]) -> Result<Layout, Refusal> {
+        let mut layout = Layout::empty();
+        layout.import_graph6(graph6)?;
+        Ok(layout)
+    }
+
     /// Vertices 0 to n − 1 in rising number, with these edges, each given once.
     pub fn from_edges(n: usize, edges: &[(usize, usize)]) -> Result<Layout, Refusal> {
         let mut layout = Layout::empty();
@@ -112,6 +120,11 @@ impl Layout {
     /// Reads a chart into this layout.
     pub fn read_chart(&mut self, chart: &[u8]) -> Result<(), Refusal> {
         accepted(ffi::read_chart(&mut self.fields, chart), ())
+    }
+
+    /// Imports a graph6 into this layout.
+    pub fn import_graph6(&mut self, graph6: &[u8]) -> Result<(), Refusal> {
+        accepted(ffi::import_graph6(&mut self.fields, graph6), ())
     }
 
     /// Adds a vertex without edges at the end of the order (document 01: add),
@@ -180,8 +193,8 @@ impl Layout {
         accepted(answer.refusal, convergence)
     }
 
-    /// The carried count. Of a layout that came from [`Layout::empty`] or a
-    /// chart and was changed by calls alone, it is the number of crossings.
+    /// The carried count. Of a layout that came from [`Layout::empty`], a chart
+    /// or a graph6 and was changed by calls alone, it is the number of crossings.
     pub fn count(&self) -> Result<u32, Refusal> {
         let answer = ffi::rl_count(&self.fields);
         accepted(answer.refusal, answer.count)
@@ -213,16 +226,26 @@ impl Layout {
     /// higher end. The carried count is not in it: read again, it gives this
     /// layout with its true crossings.
     pub fn chart(&self) -> Result<Vec<u8>, Refusal> {
-        let mut buffer = vec![0; WRITTEN_CHART_BYTES];
-        let length = self.write_chart(&mut buffer)?;
-        buffer.truncate(length);
-        Ok(buffer)
+        written(WRITTEN_CHART_BYTES, |buffer| self.write_chart(buffer))
     }
 
     /// Writes the chart to the start of the buffer, and gives its length, at
     /// most [`WRITTEN_CHART_BYTES`]; the bytes beyond keep what they hold.
     pub fn write_chart(&self, buffer: &mut [u8]) -> Result<usize, Refusal> {
         let answer = ffi::write_chart(&self.fields, buffer);
+        accepted(answer.refusal, answer.length)
+    }
+
+    /// The graph6 of this layout, without header or line end. Neither the order
+    /// nor the carried count is in it.
+    pub fn graph6(&self) -> Result<Vec<u8>, Refusal> {
+        written(GRAPH6_BYTES, |buffer| self.export_graph6(buffer))
+    }
+
+    /// Writes the graph6 to the start of the buffer, and gives its length, at
+    /// most [`GRAPH6_BYTES`]; the bytes beyond keep what they hold.
+    pub fn export_graph6(&self, buffer: &mut [u8]) -> Result<usize, Refusal> {
+        let answer = ffi::export_graph6(&self.fields, buffer);
         accepted(answer.refusal, answer.length)
     }
 
@@ -267,10 +290,21 @@ impl Layout {
     }
 }
 
+/// What is written to a buffer of the most bytes that it can have.
+fn written(
+    most: usize,
+    write: impl FnOnce(&mut [u8]) -> Result<usize, Refusal>,
+) -> Result<Vec<u8>, Refusal> {
+    let mut buffer = vec![0; most];
+    let length = write(&mut buffer)?;
+    buffer.truncate(length);
+    Ok(buffer)
+}
+
 #[cfg(test)]
 mod tests {
     use super::*;
-    use crate::FIRST_CHART;
+    use crate::{FIRST_CHART, FIRST_GRAPH6};
 
     fn first() -> Layout {
         Layout::from_chart(FIRST_CHART).unwrap()
@@ -413,20 +447,82 @@ mod tests {
         assert_eq!(Layout::from_chart(&chart), Ok(layout));
     }
 
-    #[test]
-    fn a_chart_goes_into_a_lent_buffer() {
-        let length = FIRST_CHART.len();
-        let mut buffer = [77; 20];
+    /// A call writes what is due to the start of a buffer that is long enough,
+    /// and nothing to a shorter one.
+    fn goes_into_a_buffer(write: fn(&Layout, &mut [u8]) -> Result<usize, Refusal>, due: &[u8]) {
+        let length = due.len();
         for short in [0, length - 1] {
-            let refused = first().write_chart(&mut buffer[..short]);
+            let mut buffer = vec![77; short];
+            let refused = write(&first(), &mut buffer);
             assert_eq!(refused, Err(Refusal::WriteBufferTooShort));
-            assert_eq!(buffer, [77; 20]);
+            assert_eq!(buffer, vec![77; short]);
         }
-        for long in [length, length + 1] {
-            let mut buffer = [77; 20];
-            assert_eq!(first().write_chart(&mut buffer[..long]), Ok(length));
-            assert_eq!(buffer[..length], *FIRST_CHART);
-            assert_eq!(buffer[length..], [77; 2]);
+        for more in [0, 1] {
+            let mut buffer = vec![77; length + more];
+            assert_eq!(write(&first(), &mut buffer), Ok(length));
+            assert_eq!(buffer[..length], *due);
+            assert_eq!(buffer[length..], vec![77; more]);
+        }
+    }
+
+    #[test]
+    fn a_chart_or_graph6_goes_into_a_lent_buffer() {
+        goes_into_a_buffer(Layout::write_chart, FIRST_CHART);
+        goes_into_a_buffer(Layout::export_graph6, FIRST_GRAPH6);
+    }
+
+    #[test]
+    fn a_graph6_is_exported_as_it_is_imported() {
+        assert_eq!(Layout::from_graph6(FIRST_GRAPH6), Ok(first()));
+        assert_eq!(Layout::from_graph6(b"?"), Ok(Layout::empty()));
+        for graph6 in [b"?".as_slice(), b"@", b"A?", b"A_", FIRST_GRAPH6, b"D?{"] {
+            let again = Layout::from_graph6(graph6).and_then(|layout| layout.graph6());
+            assert_eq!(again.as_deref(), Ok(graph6));
+        }
+    }
+
+    #[test]
+    fn a_graph6_has_neither_order_nor_count() {
+        let mut layout = first();
+        layout.move_after(3, 0).unwrap();
+        layout.fields_mut().count = 77;
+        assert_eq!(layout.graph6().as_deref(), Ok(FIRST_GRAPH6));
+        assert_eq!(layout.order(), Ok(vec![0, 3, 1, 2]));
+        layout.import_graph6(FIRST_GRAPH6).unwrap();
+        assert_eq!(layout, first());
+    }
+
+    #[test]
+    fn the_largest_graph6() {
+        for (n, size, length) in [
+            (62, b"}".as_slice(), 317),
+            (63, b"~??~", 330),
+            (PLACES, b"~?@?", GRAPH6_BYTES),
+        ] {
+            let layout = complete(n);
+            let graph6 = layout.graph6().unwrap();
+            assert_eq!(graph6.len(), length);
+            assert!(graph6.starts_with(size));
+            assert_eq!(Layout::from_graph6(&graph6), Ok(layout));
+        }
+    }
+
+    #[test]
+    fn a_refused_graph6_leaves_the_layout() {
+        let mut layout = first();
+        for (graph6, refusal) in [
+            (b"".as_slice(), Refusal::Graph6Size),
+            (b">>graph6<<CQ", Refusal::Graph6Size),
+            (b"~??", Refusal::Graph6Size),
+            (b"~??CQ", Refusal::Graph6Size),
+            (b"~?@@", Refusal::Graph6Size),
+            (b"C", Refusal::Graph6Data),
+            (b"CQ\n", Refusal::Graph6Data),
+            (b"~?@?", Refusal::Graph6Data),
+            (b"B@", Refusal::Graph6Padding),
+        ] {
+            assert_eq!(layout.import_graph6(graph6), Err(refusal));
+            assert_eq!(layout, first());
         }
     }
 
@@ -451,6 +547,8 @@ mod tests {
         assert_eq!(layout.first_crossing().map(drop), refused);
         assert_eq!(layout.chart().map(drop), refused);
         assert_eq!(layout.write_chart(&mut []).map(drop), refused);
+        assert_eq!(layout.graph6().map(drop), refused);
+        assert_eq!(layout.export_graph6(&mut []).map(drop), refused);
         assert_eq!(layout.edges().len(), 64 * 63 / 2);
         assert_eq!(layout, before);
     }

@@ -27,12 +27,16 @@ mod list;
 mod refusal;
 mod row;
 
-pub use ffi::{PLACES, WRITTEN_CHART_BYTES};
+pub use ffi::{GRAPH6_BYTES, PLACES, WRITTEN_CHART_BYTES};
 pub use layout::{Convergence, Edge, Fields, Layout, Round, Sifted};
-pub use list::{play, Answer, Call, Played};
+pub use list::{play, Answer, Call, Played, Start};
 pub use refusal::Refusal;
 pub use row::{list_chart, Row};
 
 /// Four vertices, 0-2 and 1-3: one crossing.
 #[cfg(test)]
 const FIRST_CHART: &[u8] = include_bytes!("../../../charts/first.chart");
+
+/// The same in graph6: 0-2 is the second pair, 1-3 the fifth.
+#[cfg(test)]
+const FIRST_GRAPH6: &[u8] = &[4 + 63, 0b010010 + 63];

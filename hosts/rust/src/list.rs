@@ -4,6 +4,17 @@ use crate::ffi::{self, ANSWER_NUMBERS};
 use crate::layout::Layout;
 use crate::refusal::{accepted, Refusal};
 
+/// What a list of calls starts from.
+#[derive(Clone, Copy, Debug, PartialEq, Eq)]
+pub enum Start<'a> {
+    /// The layout without vertices.
+    Empty,
+    /// The layout that [`Layout::from_chart`] gives.
+    Chart(&'a [u8]),
+    /// The layout that [`Layout::from_graph6`] gives.
+    Graph6(&'a [u8]),
+}
+
 /// A call that changes a layout, with what it names: any numbers at all.
 #[derive(Clone, Copy, Debug, PartialEq, Eq)]
 pub enum Call {
@@ -45,12 +56,12 @@ pub struct Played {
     pub answers: Vec<Answer>,
 }
 
-/// Plays a list of calls from a chart, or from the empty layout. Refused calls
-/// may stand anywhere among them; only a refused chart refuses the list.
-pub fn play(chart: Option<&[u8]>, calls: &[Call]) -> Result<Played, Refusal> {
+/// Plays a list of calls. Refused calls may stand anywhere among them; only a
+/// refused start refuses the list.
+pub fn play(start: Start, calls: &[Call]) -> Result<Played, Refusal> {
     let numbers: Vec<u64> = calls.iter().flat_map(|call| call.numbers()).collect();
     let mut table = vec![[0; ANSWER_NUMBERS]; calls.len()];
-    let played = ffi::play(chart, &numbers, table.as_flattened_mut());
+    let played = ffi::play(start, &numbers, table.as_flattened_mut());
     table.truncate(played.calls);
     // A refusal code is a byte.
     let answer = |[refusal, numbers @ ..]: [u64; ANSWER_NUMBERS]| accepted(refusal as u8, numbers);
@@ -62,7 +73,7 @@ pub fn play(chart: Option<&[u8]>, calls: &[Call]) -> Result<Played, Refusal> {
 #[cfg(test)]
 mod tests {
     use super::*;
-    use crate::FIRST_CHART;
+    use crate::{FIRST_CHART, FIRST_GRAPH6};
 
     #[test]
     fn a_list_is_its_calls_one_after_another() {
@@ -77,8 +88,6 @@ mod tests {
             Call::RemoveEdge(4, 1),
             Call::Converge(50),
         ];
-        let played = play(Some(FIRST_CHART), &calls).unwrap();
-
         let mut layout = Layout::from_chart(FIRST_CHART).unwrap();
         let mut answers: Vec<Answer> = Vec::new();
         answers.push(layout.add_vertex().map(|v| [v as u64, 0, 0, 0]));
@@ -95,21 +104,29 @@ mod tests {
         answers.push(layout.remove_edge(4, 1).map(|()| [0; 4]));
         let run = layout.converge(50);
         answers.push(run.map(|c| numbers([c.reduction, c.rounds, c.converged.into(), c.optima])));
-        assert_eq!(played, Played { layout, answers });
-        assert_eq!(played.answers[2], Err(Refusal::SameVertex));
+        assert_eq!(answers[2], Err(Refusal::SameVertex));
+        let due = Ok(Played { layout, answers });
+        assert_eq!(play(Start::Chart(FIRST_CHART), &calls), due);
+        assert_eq!(play(Start::Graph6(FIRST_GRAPH6), &calls), due);
     }
 
     #[test]
     fn an_empty_list_gives_the_start() {
-        let played = play(None, &[]).unwrap();
-        assert_eq!((played.layout, played.answers), (Layout::empty(), vec![]));
-        let start = play(Some(FIRST_CHART), &[]).map(|played| played.layout);
-        assert_eq!(start, Layout::from_chart(FIRST_CHART));
+        let first = Layout::from_chart(FIRST_CHART).unwrap();
+        for (start, layout) in [
+            (Start::Empty, Layout::empty()),
+            (Start::Chart(FIRST_CHART), first.clone()),
+            (Start::Graph6(FIRST_GRAPH6), first),
+        ] {
+            let answers = vec![];
+            assert_eq!(play(start, &[]), Ok(Played { layout, answers }));
+        }
     }
 
     #[test]
-    fn a_refused_chart_refuses_the_list() {
-        let played = play(Some(&[1]), &[Call::AddVertex]);
-        assert_eq!(played, Err(Refusal::ChartFields));
+    fn a_refused_start_refuses_the_list() {
+        let played = |start| play(start, &[Call::AddVertex]);
+        assert_eq!(played(Start::Chart(&[1])), Err(Refusal::ChartFields));
+        assert_eq!(played(Start::Graph6(&[1])), Err(Refusal::Graph6Size));
     }
 }

@@ -64,6 +64,9 @@ refusals! {
     LimitOutOfRange 17 "is the limit from 1 to 1000?"
     BufferTooShort 18 "is the lent buffer long enough?"
     WriteBufferTooShort 19 "has the buffer as many bytes as are written?"
+    Graph6Size 20 "does the graph6 start with a size from 0 to 64, in its shortest form?"
+    Graph6Data 21 "has the graph6 as many bytes as its size asks for, each from 63 to 126?"
+    Graph6Padding 22 "are the padding bits of the graph6 all 0?"
 }
 
 /// The value, unless the code says that the call was refused.

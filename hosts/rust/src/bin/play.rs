@@ -5,15 +5,20 @@ use std::io::{self, Read, Write};
 
 use rostulanda::{Layout, Refusal, PLACES};
 
-/// Bytes in a record; a chart is padded to a multiple of it.
+/// Bytes in a record; a chart or graph6 is padded to a multiple of it.
 const RECORD: usize = 32;
 
-/// The longest buffers that a list can lend for an order and for a chart.
+/// The longest buffers that a list can lend: for an order, and for a chart or
+/// graph6.
 const LONGEST_ORDER: u64 = 255;
-const LONGEST_CHART: u64 = 8192;
+const LONGEST_WRITTEN: u64 = 8192;
 
 /// A record: the op and its three numbers.
 type Record = [u64; 4];
+
+/// A call that reads a layout from bytes, and one that writes it to them.
+type Reading = fn(&mut Layout, &[u8]) -> Result<(), Refusal>;
+type Writing = fn(&Layout, &mut [u8]) -> Result<usize, Refusal>;
 
 fn main() -> io::Result<()> {
     let mut list = Vec::new();
@@ -53,13 +58,13 @@ fn take_record(list: &mut &[u8]) -> Option<Record> {
     Some(record)
 }
 
-/// The next chart, if all of it and of its padding is there.
-fn take_chart<'a>(list: &mut &'a [u8], length: u64) -> Option<&'a [u8]> {
+/// The next chart or graph6, if all of it and of its padding is there.
+fn take_bytes<'a>(list: &mut &'a [u8], length: u64) -> Option<&'a [u8]> {
     let length = usize::try_from(length).ok()?;
     let padded = length.checked_next_multiple_of(RECORD)?;
-    let (chart, rest) = list.split_at_checked(padded)?;
+    let (bytes, rest) = list.split_at_checked(padded)?;
     *list = rest;
-    Some(&chart[..length])
+    Some(&bytes[..length])
 }
 
 /// Sets one field, if that is what the record asks for.
@@ -88,11 +93,7 @@ fn play_record(layout: &mut Layout, record: Record, list: &mut &[u8]) -> Option<
             *layout = Layout::empty();
             told("empty", "", Ok(String::new()))
         }
-        1 => {
-            let chart = take_chart(list, a)?;
-            *layout = Layout::empty();
-            told("chart", "", layout.read_chart(chart).map(none))
-        }
+        1 => start(layout, "chart", Layout::read_chart, list, a)?,
         16 => told("add", " 0", layout.add_vertex().map(|v| format!(" {v}"))),
         17 => told("link", "", layout.add_edge(v, w).map(none)),
         18 => told("unlink", "", layout.remove_edge(v, w).map(none)),
@@ -110,18 +111,43 @@ fn play_record(layout: &mut Layout, record: Record, list: &mut &[u8]) -> Option<
         }
         24 => told("count", " 0", layout.count().map(|c| format!(" {c}"))),
         25 => {
-            let mut buffer = vec![b as u8; a.min(LONGEST_ORDER) as usize];
+            let mut buffer = filled(record, LONGEST_ORDER);
             let written = layout.write_order(&mut buffer).map(none);
             told("order", "", written) + &buffer_text(&buffer)
         }
         26 => told("pair", " refused", crossing_text(layout)),
-        27 => {
-            let mut buffer = vec![b as u8; a.min(LONGEST_CHART) as usize];
-            let written = layout.write_chart(&mut buffer);
-            told("write", " 0", written.map(|l| format!(" {l}"))) + &buffer_text(&buffer)
-        }
+        27 => write(layout, "write", Layout::write_chart, record),
+        28 => start(layout, "import", Layout::import_graph6, list, a)?,
+        29 => write(layout, "export", Layout::export_graph6, record),
         _ => return None,
     })
+}
+
+/// Starts from a chart or graph6, and from the empty layout if that is refused.
+/// None if it is cut short.
+fn start(
+    layout: &mut Layout,
+    name: &str,
+    read: Reading,
+    list: &mut &[u8],
+    length: u64,
+) -> Option<String> {
+    let bytes = take_bytes(list, length)?;
+    *layout = Layout::empty();
+    let accepted = read(layout, bytes).map(|()| String::new());
+    Some(told(name, "", accepted))
+}
+
+/// Writes a chart or graph6.
+fn write(layout: &Layout, name: &str, write: Writing, record: Record) -> String {
+    let mut buffer = filled(record, LONGEST_WRITTEN);
+    let written = write(layout, &mut buffer);
+    told(name, " 0", written.map(|l| format!(" {l}"))) + &buffer_text(&buffer)
+}
+
+/// The buffer that a record lends.
+fn filled([_, a, b, _]: Record, longest: u64) -> Vec<u8> {
+    vec![b as u8; a.min(longest) as usize]
 }
 
 fn sift_text(layout: &mut Layout, u: usize) -> Result<String, Refusal> {
