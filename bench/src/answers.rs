@@ -5,13 +5,14 @@
 use std::fmt::{Debug, Display};
 
 use baseline::WithoutOptima;
-use layouts::{chart, fan, most_edges, Random};
-use rostulanda::ffi::ANSWER_NUMBERS;
+use layouts::{chart, fan, graph6, most_edges, Random};
+use rostulanda::ffi::{Written, ANSWER_NUMBERS};
+use rostulanda::{Fields, Start};
 use second::calls::{self, Answer};
 use second::layout::Layout;
 
 use crate::agreement::{agree, Outcome};
-use crate::proved::{self, fields, Told};
+use crate::proved::{self, fields, Left, Told};
 use crate::{expected, lists};
 
 /// Compares all answers, and prints how many agree.
@@ -25,6 +26,7 @@ pub fn print() -> Outcome {
     comparison.no_crossing()?;
     comparison.lists()?;
     comparison.charts()?;
+    comparison.graph6s()?;
     comparison.listings()?;
     println!("bench: {} answers agree", comparison.answers);
     Ok(())
@@ -40,9 +42,37 @@ const LONG: usize = 70_000;
 const LISTS: u64 = 10;
 const LENGTH: usize = 100;
 
-/// Charts with changed bytes, and how many are listed into each buffer.
+/// Charts and graph6 with changed bytes, and how many charts are listed into each
+/// buffer.
 const CHARTS: usize = 2000;
+const GRAPH6S: usize = 2000;
 const LISTINGS: usize = 20;
+
+/// A call that writes a layout, and what reads it back over another one, on both
+/// sides.
+struct Writing {
+    name: &'static str,
+    proved: fn(&Fields, &mut [u8]) -> Left<Written>,
+    second: fn(Layout, &mut [u8]) -> Answer<usize>,
+    proved_back: fn(&Fields, &mut [u8], &Fields) -> Left<u8>,
+    second_back: fn(Layout, &mut [u8], Layout) -> Answer<()>,
+}
+
+const WRITE: Writing = Writing {
+    name: "write",
+    proved: proved::write_chart,
+    second: calls::write_chart,
+    proved_back: proved::write_and_read,
+    second_back: expected::write_and_read,
+};
+
+const EXPORT: Writing = Writing {
+    name: "export",
+    proved: proved::export_graph6,
+    second: calls::write_graph6,
+    proved_back: proved::export_and_import,
+    second_back: expected::export_and_import,
+};
 
 struct Comparison {
     random: Random,
@@ -175,25 +205,33 @@ impl Comparison {
         Ok(())
     }
 
-    /// The chart, in buffers as long as it is, shorter and longer, and read back
-    /// over another layout.
+    /// The chart and the graph6.
     fn written(&mut self, l: Layout) -> Outcome {
+        let n = l.n.min(64) as usize;
         // Three headers, n, the ends of the edges, the order.
         let ends: u32 = l.adjacency.iter().map(|word| word.count_ones()).sum();
-        let exact = 10 + ends as usize + l.n.min(64) as usize;
+        self.written_by(WRITE, l, 10 + ends as usize + n)?;
+        // The size, and six pairs in a byte.
+        let size = if n < 63 { 1 } else { 4 };
+        self.written_by(EXPORT, l, size + most_edges(n as u8).div_ceil(6))
+    }
+
+    /// What a call writes, in buffers as long as it is, shorter and longer, and
+    /// read back over another layout.
+    fn written_by(&mut self, writing: Writing, l: Layout, exact: usize) -> Outcome {
         let shorter = self.random.below(exact);
         let lent = &fields(&l);
         for length in [0, shorter, exact - 1, exact, exact + 1, LONG] {
-            let proved = |buffer: &mut [u8]| proved::write_chart(lent, buffer).told();
-            let second = |buffer: &mut [u8]| calls::write_chart(l, buffer);
-            self.with_buffer("write", length, proved, second)?;
+            let proved = |buffer: &mut [u8]| (writing.proved)(lent, buffer).told();
+            let second = |buffer: &mut [u8]| (writing.second)(l, buffer);
+            self.with_buffer(writing.name, length, proved, second)?;
         }
         let there = fan();
         self.with_buffer(
-            "write and read",
+            format!("{} and read", writing.name),
             exact,
-            |buffer| proved::write_and_read(lent, buffer, &fields(&there)).told(),
-            |buffer| expected::write_and_read(l, buffer, there),
+            |buffer| (writing.proved_back)(lent, buffer, &fields(&there)).told(),
+            |buffer| (writing.second_back)(l, buffer, there),
         )
     }
 
@@ -251,45 +289,56 @@ impl Comparison {
         self.any(fan())
     }
 
-    /// Lists of calls from the empty layout and from charts: as they are, with
-    /// numbers left out, with one that is no call, and with answers that don't
-    /// fit.
+    /// Lists of calls from the empty layout, from charts and from graph6: as they
+    /// are, with numbers left out, with one that is no call, and with answers that
+    /// don't fit.
     fn lists(&mut self) -> Outcome {
         for seed in 1..=LISTS {
             let list = lists::mixed(seed, LENGTH);
             let numbers = list.as_flattened();
             let all = ANSWER_NUMBERS * LENGTH;
-            let chart = self.chart(SMALL as u8);
+            let (chart, graph6) = (self.chart(SMALL as u8), self.graph6(SMALL as u8));
             let mut ended = numbers.to_vec();
             ended[3 * self.random.below(LENGTH)] = [0, 15, 24, u64::MAX][seed as usize % 4];
-            self.list(None, numbers, all)?;
-            self.list(Some(&chart), numbers, all + 7)?;
-            self.list(Some(&chart), numbers, all - 1)?;
-            self.list(Some(&chart), &numbers[..3 * LENGTH - 1], all - 1)?;
-            self.list(None, &numbers[..3 * LENGTH - 2], all - ANSWER_NUMBERS)?;
-            self.list(None, &ended, all)?;
-            self.list(Some(&chart[1..]), numbers, all)?;
-            self.list(Some(&chart), &[], 0)?;
+            self.list(Start::Empty, numbers, all)?;
+            let cut = &numbers[..3 * LENGTH - 2];
+            self.list(Start::Empty, cut, all - ANSWER_NUMBERS)?;
+            self.list(Start::Empty, &ended, all)?;
+            self.list(Start::Chart(&chart[1..]), numbers, all)?;
+            self.list(Start::Graph6(&graph6[1..]), numbers, all)?;
+            for start in [Start::Chart(&chart), Start::Graph6(&graph6)] {
+                self.list(start, numbers, all + 7)?;
+                self.list(start, numbers, all - 1)?;
+                self.list(start, &numbers[..3 * LENGTH - 1], all - 1)?;
+                self.list(start, &[], 0)?;
+            }
         }
         Ok(())
     }
 
-    /// A list of calls, from a chart or from the empty layout, with room for so
-    /// many numbers.
-    fn list(&mut self, chart: Option<&[u8]>, numbers: &[u64], room: usize) -> Outcome {
+    /// A list of calls, with room for so many numbers.
+    fn list(&mut self, start: Start, numbers: &[u64], room: usize) -> Outcome {
         self.with_buffer(
-            format!("list {numbers:?} from {chart:?}"),
+            format!("list {numbers:?} from {start:?}"),
             room,
-            |table| proved::play(chart, numbers, table).told(),
-            |table| expected::play(chart, numbers, table),
+            |table| proved::play(start, numbers, table).told(),
+            |table| expected::play(start, numbers, table),
         )
     }
 
-    /// A chart of up to so many vertices.
-    fn chart(&mut self, most: u8) -> Vec<u8> {
+    /// A layout of up to so many vertices.
+    fn layout(&mut self, most: u8) -> Layout {
         let n = self.random.below(usize::from(most) + 1) as u8;
         let edges = self.random.below(most_edges(n) + 1);
-        chart(&self.random.layout(n, edges))
+        self.random.layout(n, edges)
+    }
+
+    fn chart(&mut self, most: u8) -> Vec<u8> {
+        chart(&self.layout(most))
+    }
+
+    fn graph6(&mut self, most: u8) -> Vec<u8> {
+        graph6(&self.layout(most))
     }
 
     /// Charts as they are, and with bytes changed, left out and added, read over
@@ -302,6 +351,25 @@ impl Comparison {
             let answer = proved::read_chart(&fields(&there), &bytes).told();
             let second = expected::read_chart(there, &bytes);
             self.proved(format!("chart {bytes:?}"), answer, second)?;
+        }
+        Ok(())
+    }
+
+    /// Graph6 of any layout and of the longest, as they are, and with bytes
+    /// changed, left out and added, imported over a layout, which stays if the
+    /// graph6 is refused.
+    fn graph6s(&mut self) -> Outcome {
+        let there = self.random.layout(7, 10);
+        for number in 0..GRAPH6S {
+            let mut bytes = match number % 4 {
+                0 => graph6(&self.random.layout(63, 1000)),
+                1 => graph6(&self.random.layout(64, 1000)),
+                _ => self.graph6(64),
+            };
+            self.change_graph6(&mut bytes);
+            let answer = proved::import_graph6(&fields(&there), &bytes).told();
+            let second = expected::import_graph6(there, &bytes);
+            self.proved(format!("graph6 {bytes:?}"), answer, second)?;
         }
         Ok(())
     }
@@ -328,6 +396,21 @@ impl Comparison {
         )
     }
 
+    fn change_graph6(&mut self, bytes: &mut Vec<u8>) {
+        let place = self.random.below(bytes.len());
+        let any = self.random.below(256) as u8;
+        match self.random.below(8) {
+            0 => {}
+            1 => bytes[place] = any,
+            2 => bytes[place.min(3)] = 63 + any % 64,
+            3 => bytes.truncate(place),
+            4 => bytes.push(any),
+            5 => set_last_bit(bytes),
+            6 => drop(bytes.splice(..1, [126, 63, 63, bytes[0]])),
+            _ => drop(bytes.splice(..0, *b">>graph6<<")),
+        }
+    }
+
     fn change(&mut self, bytes: &mut Vec<u8>) {
         let place = self.random.below(bytes.len());
         let any = self.random.below(256) as u8;
@@ -350,4 +433,10 @@ fn halve_an_edge(bytes: &mut Vec<u8>) {
         bytes[5..7].copy_from_slice(&(length - 1).to_be_bytes());
         bytes.remove(7);
     }
+}
+
+/// Sets the lowest bit of a graph6's last byte, most often one of the padding.
+fn set_last_bit(bytes: &mut [u8]) {
+    let last = bytes.len() - 1;
+    bytes[last] = 63 + ((bytes[last] - 63) | 1);
 }

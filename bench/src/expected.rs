@@ -1,11 +1,12 @@
-//! What the second program has in another form than the library: a chart read
-//! over a layout, also one that was just written, a listing in a lent buffer, a
-//! list of calls.
+//! What the second program has in another form than the library: a chart or
+//! graph6 read over a layout, also one that was just written, a listing in a lent
+//! buffer, a list of calls.
 
 use rostulanda::ffi::ANSWER_NUMBERS;
+use rostulanda::Start;
 use second::calls::{self, Answer};
 use second::layout::Layout;
-use second::{chart, list};
+use second::{chart, graph6, list};
 
 use crate::lists::{is_call, Call, ADD, LAY, LINK, MOVE, ROUND, SETTLE, SIFT, UNLINK};
 
@@ -26,7 +27,16 @@ pub const LISTING_BYTES: usize = 1024;
 
 /// The layout of a chart, or the one that is there if the chart is refused.
 pub fn read_chart(l: Layout, bytes: &[u8]) -> Answer<()> {
-    let (refusal, layout) = match chart::read(bytes) {
+    read_over(l, chart::read(bytes))
+}
+
+/// The layout of a graph6, or the one that is there if the graph6 is refused.
+pub fn import_graph6(l: Layout, bytes: &[u8]) -> Answer<()> {
+    read_over(l, graph6::read(bytes))
+}
+
+fn read_over(l: Layout, read: Result<Layout, u8>) -> Answer<()> {
+    let (refusal, layout) = match read {
         Ok(layout) => (0, layout),
         Err(refusal) => (refusal, l),
     };
@@ -41,6 +51,12 @@ pub fn read_chart(l: Layout, bytes: &[u8]) -> Answer<()> {
 pub fn write_and_read(l: Layout, buffer: &mut [u8], other: Layout) -> Answer<()> {
     let length = calls::write_chart(l, buffer).value;
     read_chart(other, &buffer[..length])
+}
+
+/// Exports a graph6, and imports it over another layout.
+pub fn export_and_import(l: Layout, buffer: &mut [u8], other: Layout) -> Answer<()> {
+    let length = calls::write_graph6(l, buffer).value;
+    import_graph6(other, &buffer[..length])
 }
 
 /// Whether a layout is valid.
@@ -63,10 +79,14 @@ pub fn list_chart(bytes: &[u8], out: &mut [u8]) -> usize {
     listing.len()
 }
 
-/// Plays the calls up to the first number that is none, from a chart or from the
-/// empty layout, and writes a row of numbers for each.
-pub fn play(chart: Option<&[u8]>, numbers: &[u64], answers: &mut [u64]) -> Played {
-    let start = chart.map_or(Ok(Layout::EMPTY), chart::read);
+/// Plays the calls up to the first number that is none, and writes a row of
+/// numbers for each.
+pub fn play(start: Start, numbers: &[u64], answers: &mut [u64]) -> Played {
+    let start = match start {
+        Start::Empty => Ok(Layout::EMPTY),
+        Start::Chart(bytes) => chart::read(bytes),
+        Start::Graph6(bytes) => graph6::read(bytes),
+    };
     let list = numbers.as_chunks().0;
     let length = list.iter().take_while(|call| is_call(call)).count();
     let refused = |refusal, layout| Played {

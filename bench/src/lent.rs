@@ -3,7 +3,7 @@
 
 use layouts::{chart, layout, pairs};
 use rostulanda::ffi::{self, ANSWER_NUMBERS};
-use rostulanda::Fields;
+use rostulanda::{Fields, Start};
 use second::layout::Layout;
 
 use crate::agreement::{agree, Outcome};
@@ -54,7 +54,7 @@ fn compare(does: &mut dyn FnMut(&Row), name: &str, l: &Layout, calls: &[Call]) -
 /// Whether the calls answer as the second program does, in place and by value.
 fn answers_agree(name: &str, l: &Fields, chart: &[u8], calls: &[Call]) -> Outcome {
     let mut table = vec![0; ANSWER_NUMBERS * calls.len()];
-    let second = expected::play(Some(chart), calls.as_flattened(), &mut table);
+    let second = expected::play(Start::Chart(chart), calls.as_flattened(), &mut table);
     let answers = table.chunks(ANSWER_NUMBERS);
     let refusals = answers.map(|answer| answer[0] as u8).collect();
     let left = (fields(&second.layout), refusals);
@@ -78,6 +78,6 @@ fn in_place(l: &Fields, calls: &[Call]) -> (Fields, Vec<u8>) {
 /// Plays the calls as a list, from a chart. Each goes by value.
 fn within_a_list(chart: &[u8], calls: &[Call]) -> (ffi::Played, Vec<u64>) {
     let mut table = vec![0; ANSWER_NUMBERS * calls.len()];
-    let played = proved::play(Some(chart), calls.as_flattened(), &mut table);
+    let played = proved::play(Start::Chart(chart), calls.as_flattened(), &mut table);
     (played, table)
 }

@@ -87,6 +87,10 @@ pub fn read_chart(l: &Fields, chart: &[u8]) -> Left<u8> {
     lend(l, |l| ffi::read_chart(l, chart))
 }
 
+pub fn import_graph6(l: &Fields, graph6: &[u8]) -> Left<u8> {
+    lend(l, |l| ffi::import_graph6(l, graph6))
+}
+
 pub fn add_vertex(l: &Fields) -> Left<ffi::Vertex> {
     lend(l, |l| ffi::rl_add_vertex(l))
 }
@@ -135,6 +139,16 @@ pub fn write_chart(l: &Fields, buffer: &mut [u8]) -> Left<ffi::Written> {
 pub fn write_and_read(l: &Fields, buffer: &mut [u8], other: &Fields) -> Left<u8> {
     let length = write_chart(l, buffer).report.length;
     read_chart(other, &buffer[..length])
+}
+
+pub fn export_graph6(l: &Fields, buffer: &mut [u8]) -> Left<ffi::Written> {
+    lend(l, |l| ffi::export_graph6(l, buffer))
+}
+
+/// Exports a graph6, and imports it over another layout.
+pub fn export_and_import(l: &Fields, buffer: &mut [u8], other: &Fields) -> Left<u8> {
+    let length = export_graph6(l, buffer).report.length;
+    import_graph6(other, &buffer[..length])
 }
 
 pub fn first_crossing(l: &Fields) -> Left<ffi::Crossing> {

@@ -3,9 +3,9 @@
 use std::hint::black_box;
 
 use baseline::WithoutOptima;
-use layouts::{chart, fan, layout, pairs, with_isolated};
+use layouts::{chart, fan, graph6, layout, pairs, with_isolated};
 use rostulanda::ffi::ANSWER_NUMBERS;
-use rostulanda::{PLACES, WRITTEN_CHART_BYTES};
+use rostulanda::{Fields, Start, GRAPH6_BYTES, PLACES, WRITTEN_CHART_BYTES};
 use second::calls;
 use second::layout::Layout;
 
@@ -48,6 +48,7 @@ pub fn for_each(mut does: impl FnMut(&Row)) -> Outcome {
     no_pair(rows)?;
     charts(rows)?;
     written_charts(rows)?;
+    graph6s(rows)?;
     appending(rows)?;
     sifting(rows)?;
     playing(rows)?;
@@ -86,6 +87,38 @@ impl Rows<'_> {
         (self.does)(&Row { name, sides });
         Ok(())
     }
+
+    /// Bytes read over the empty layout.
+    fn reading<P: Told>(
+        &mut self,
+        name: &str,
+        bytes: &[u8],
+        proved: impl Fn(&Fields, &[u8]) -> P,
+        second: impl Fn(Layout, &[u8]) -> P::As,
+    ) -> Outcome {
+        let empty = fields(&Layout::EMPTY);
+        self.two(
+            name,
+            || proved(&empty, bytes),
+            || second(Layout::EMPTY, bytes),
+        )
+    }
+
+    /// A layout written to a buffer of so many bytes.
+    fn writing<const BYTES: usize, P: Told>(
+        &mut self,
+        name: &str,
+        l: Layout,
+        proved: impl Fn(&Fields, &mut [u8]) -> P,
+        second: impl Fn(Layout, &mut [u8]) -> P::As,
+    ) -> Outcome {
+        let lent = fields(&l);
+        self.two(
+            name,
+            || into_buffer::<BYTES, _>(|buffer| proved(&lent, buffer)),
+            || into_buffer(|buffer| second(l, buffer)),
+        )
+    }
 }
 
 /// Each time the call is made, from inputs and for an answer that the compiler
@@ -121,11 +154,7 @@ fn accepted(rows: &mut Rows, edges: usize) -> Outcome {
         || calls::move_after(l, c, d),
     )?;
     rows.two(&name("count"), || proved::count(&lent), || calls::count(l))?;
-    rows.two(
-        &name("order"),
-        || into_buffer::<PLACES, _>(|buffer| proved::order(&lent, buffer)),
-        || into_buffer(|buffer| calls::order(l, buffer)),
-    )?;
+    rows.writing::<PLACES, _>(&name("order"), l, proved::order, calls::order)?;
     rows.two(
         &name("pair"),
         || proved::first_crossing(&lent),
@@ -151,22 +180,21 @@ fn no_pair(rows: &mut Rows) -> Outcome {
     )
 }
 
-/// Charts read over the empty layout.
+/// Charts read.
 fn charts(rows: &mut Rows) -> Outcome {
-    let empty = fields(&Layout::EMPTY);
     for edges in [1000, 2016] {
-        let bytes = chart(&layout(64, edges));
-        rows.two(
+        rows.reading(
             &format!("reading a chart, 64 vertices, {edges} edges"),
-            || proved::read_chart(&empty, &bytes),
-            || expected::read_chart(Layout::EMPTY, &bytes),
+            &chart(&layout(64, edges)),
+            proved::read_chart,
+            expected::read_chart,
         )?;
     }
-    let bytes = [chart(&layout(64, 2016)), vec![0x52, 0, 1, 0]].concat();
-    rows.two(
+    rows.reading(
         "reading a chart refused 3, a fourth field",
-        || proved::read_chart(&empty, &bytes),
-        || expected::read_chart(Layout::EMPTY, &bytes),
+        &[chart(&layout(64, 2016)), vec![0x52, 0, 1, 0]].concat(),
+        proved::read_chart,
+        expected::read_chart,
     )
 }
 
@@ -175,23 +203,47 @@ fn written_charts(rows: &mut Rows) -> Outcome {
     let empty = fields(&Layout::EMPTY);
     let layouts = [1000, 2016].map(|edges| (edges, layout(64, edges)));
     for (edges, l) in layouts {
-        let lent = fields(&l);
-        let proved = |buffer: &mut [u8]| proved::write_chart(&lent, buffer);
-        let second = |buffer: &mut [u8]| calls::write_chart(l, buffer);
-        rows.two(
+        rows.writing::<WRITTEN_CHART_BYTES, _>(
             &format!("writing a chart, 64 vertices, {edges} edges"),
-            || into_buffer::<WRITTEN_CHART_BYTES, _>(proved),
-            || into_buffer(second),
+            l,
+            proved::write_chart,
+            calls::write_chart,
         )?;
     }
     for (edges, l) in layouts {
-        let lent = fields(&l);
-        let proved = |buffer: &mut [u8]| proved::write_and_read(&lent, buffer, &empty);
-        let second = |buffer: &mut [u8]| expected::write_and_read(l, buffer, Layout::EMPTY);
-        rows.two(
+        rows.writing::<WRITTEN_CHART_BYTES, _>(
             &format!("writing a chart and reading it back, 64 vertices, {edges} edges"),
-            || into_buffer::<WRITTEN_CHART_BYTES, _>(proved),
-            || into_buffer(second),
+            l,
+            |l, buffer| proved::write_and_read(l, buffer, &empty),
+            |l, buffer| expected::write_and_read(l, buffer, Layout::EMPTY),
+        )?;
+    }
+    Ok(())
+}
+
+/// Graph6 imported and exported.
+fn graph6s(rows: &mut Rows) -> Outcome {
+    let layouts = [1000, 2016].map(|edges| (edges, layout(64, edges)));
+    for (edges, l) in layouts {
+        rows.reading(
+            &format!("importing a graph6, 64 vertices, {edges} edges"),
+            &graph6(&l),
+            proved::import_graph6,
+            expected::import_graph6,
+        )?;
+    }
+    rows.reading(
+        "importing a graph6 refused 21, a line end",
+        &[graph6(&layout(64, 2016)), b"\n".to_vec()].concat(),
+        proved::import_graph6,
+        expected::import_graph6,
+    )?;
+    for (edges, l) in layouts {
+        rows.writing::<GRAPH6_BYTES, _>(
+            &format!("exporting a graph6, 64 vertices, {edges} edges"),
+            l,
+            proved::export_graph6,
+            calls::write_graph6,
         )?;
     }
     Ok(())
@@ -247,8 +299,8 @@ fn playing(rows: &mut Rows) -> Outcome {
     let numbers = list.as_flattened();
     rows.two(
         "1000 mixed calls from the empty layout",
-        || into_table(|table| proved::play(None, numbers, table)),
-        || into_table(|table| expected::play(None, numbers, table)),
+        || into_table(|table| proved::play(Start::Empty, numbers, table)),
+        || into_table(|table| expected::play(Start::Empty, numbers, table)),
     )
 }
 

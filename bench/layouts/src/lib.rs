@@ -3,6 +3,7 @@
 pub use second::chart::bytes as chart;
 use second::circle::Circle;
 use second::crossings::crossings;
+pub use second::graph6::bytes as graph6;
 use second::layout::Layout;
 
 /// The layout of n vertices and so many edges that calls are measured on, always
