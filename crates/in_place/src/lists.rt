@@ -5,8 +5,8 @@ ghost use Rattle.model.specs.Layouts.{emptyLayout};
 ghost use Rattle.model.specs.Listing.{listedLength, listedBytes};
 ghost use Rattle.model.specs.Playing.{startOf, originOf, playedCalls, playOf, tableOf};
 ghost use Rattle.history.specs.Demand3.{Demand3};
+use encoding::origin_of;
 use model::Layout;
-use model::Origin;
 use model::Played;
 
 #[no_mangle]
@@ -35,14 +35,4 @@ pub extern "C" fn rl_play(origin: u8, bytes: &[u8], calls: &[u64], answers: &mut
 {
     let from = origin_of(origin);
     playing::play(from, bytes, calls, answers)
-}
-
-fn origin_of(number: u8) -> Origin
-    ensures { λ r. ⌜ r ≡ originOf number ⌝ }
-{
-    match number {
-        1 => Origin::Chart,
-        2 => Origin::Graph6,
-        _ => Origin::Empty,
-    }
 }

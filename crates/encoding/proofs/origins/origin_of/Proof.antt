@@ -1,8 +1,8 @@
 use mathlib.Core.Path.{refl}
 use borrow.Author.Tests.{ne-eqb}
 use Rattle.model.specs.Playing.{originOf}
-use Rattle.in_place.proofs.lists.origin_of.Statement.{statement}
-use Rattle.in_place.proofs.lists.origin_of.Tie as tie
+use Rattle.encoding.proofs.origins.origin_of.Statement.{statement}
+use Rattle.encoding.proofs.origins.origin_of.Tie as tie
 
 returns : tie.Need-returns
 unfolding originOf
