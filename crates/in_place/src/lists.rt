@@ -5,7 +5,6 @@ ghost use Rattle.model.specs.Layouts.{emptyLayout};
 ghost use Rattle.model.specs.Listing.{listedLength, listedBytes};
 ghost use Rattle.model.specs.Playing.{startOf, originOf, playedCalls, playOf, tableOf};
 ghost use Rattle.history.specs.Demand3.{Demand3};
-use encoding::origin_of;
 use model::Layout;
 use model::Played;
 
@@ -33,6 +32,5 @@ pub extern "C" fn rl_play(origin: u8, bytes: &[u8], calls: &[u64], answers: &mut
     ensures claim { λ r. ⌜ Demand3 (startOf (originOf origin) (now (bytes .entry)) .layout)
         (playedCalls (originOf origin) (now (bytes .entry)) (now (calls .entry)) (length (now (answers .entry)))) ⌝ }
 {
-    let from = origin_of(origin);
-    playing::play(from, bytes, calls, answers)
+    playing::play_from(origin, bytes, calls, answers)
 }

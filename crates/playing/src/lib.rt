@@ -2,3 +2,4 @@
 mod playing;
 
 pub use playing::play;
+pub use playing::play_from;

@@ -4,12 +4,13 @@ ghost use mathlib.Core.List.{_++_};
 ghost use Prim.Native.Nat.{_+_, _*_, _≤_};
 ghost use lib.ListN.{length, drop};
 ghost use Rattle.model.specs.Histories.{played};
-ghost use Rattle.model.specs.Playing.{callsOf, answerWidth, answersOf, startOf, playedCalls, playOf, tableOf};
+ghost use Rattle.model.specs.Playing.{callsOf, answerWidth, answersOf, startOf, originOf, playedCalls, playOf, tableOf};
 ghost use Rattle.laws.specs.Buffers.Writing.{written};
 ghost use Rattle.encoding.specs.CallLists.{callThere};
 ghost use Rattle.history.specs.Demand3.{Demand3};
 use encoding::call_at;
 use encoding::count_calls;
+use encoding::origin_of;
 use encoding::put_answer;
 use model::ANSWER_WIDTH;
 use model::Decoded;
@@ -50,6 +51,17 @@ pub fn play(origin: Origin, bytes: &[u8], calls: &[u64], answers: &mut [u64]) ->
         layout: play_all(layout, calls, count, answers),
         calls: count,
     }
+}
+
+// The same with the origin as a number.
+pub fn play_from(origin: u8, bytes: &[u8], calls: &[u64], answers: &mut [u64]) -> Played
+    ensures returned { λ r. ⌜ r ≡ playOf (originOf origin) (now (bytes .entry)) (now (calls .entry)) (length (now (answers .entry))) ⌝ }
+    ensures table { λ r. ⌜ now (answers .exit) ≡ tableOf (originOf origin) (now (bytes .entry)) (now (calls .entry)) (now (answers .entry)) ⌝ }
+    ensures claim { λ r. ⌜ Demand3 (startOf (originOf origin) (now (bytes .entry)) .layout)
+        (playedCalls (originOf origin) (now (bytes .entry)) (now (calls .entry)) (length (now (answers .entry)))) ⌝ }
+{
+    let from = origin_of(origin);
+    play(from, bytes, calls, answers)
 }
 
 fn start_of(origin: Origin, bytes: &[u8]) -> LayoutRead

@@ -1,7 +1,7 @@
 use borrow.Author.Needs.{needs}
-use Rattle.in_place.proofs.lists.rl_play.Statement.{statement}
-use Rattle.in_place.proofs.lists.rl_play.Tie as tie
-use Rattle.in_place.specs.PlayedFrom.{played-from}
+use Rattle.playing.proofs.playing.play_from.Statement.{statement}
+use Rattle.playing.proofs.playing.play_from.Tie as tie
+use Rattle.playing.specs.PlayedFrom.{played-from}
 
 origin-of-requires : tie.Need-origin-of-requires
 origin-of-requires c κs = search needs
@@ -19,5 +19,5 @@ returns c =
     let s = chosen .before .before .before .before .args in
     played-from (s .bytes .now) (s .calls .now) (s .answers .now) (chosen .origin-of .ensures) (called .play .ensures)
 
-pub rl-play-spec : {M : Type 1} → statement M
-rl-play-spec = tie.close (tie.spec origin-of-requires play-requires same-length returns)
+pub play-from-spec : {M : Type 1} → statement M
+play-from-spec = tie.close (tie.spec origin-of-requires play-requires same-length returns)
