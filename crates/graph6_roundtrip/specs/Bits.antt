@@ -3,23 +3,23 @@ use Prim.Native.Nat.{ℕ, zero, suc, _+_, _*_, _-_, _/_, _%_, _^_, _≤_, _<_}
 use native.Mathlib.Nat.{div-add-mod, le-of-suc-le-suc, le-add-right, add-sub-of-le}
 use native.Mathlib.Decide.{decLt}
 use native.Mathlib.Omega.{arith}
-use mathlib.Core.Path.{_≡_, refl, sym, ap, ap₂, _∙_}
-use mathlib.Core.Bool.{Bool, true, _&&_}
+use mathlib.Core.Path.{_≡_, refl, sym, ap, _∙_}
+use mathlib.Core.Bool.{true}
 use mathlib.Core.List.{List}
 use lib.ListN.{length, getD, take, drop, length-take, List·getD-eq-default}
 use lib.Seq.{getD-take, getD-drop}
-use lib.Dec.{eqb, leb}
-use borrow.Author.Tests.{leb-true, le-leb, eqb-true}
+use lib.Dec.{eqb}
+use borrow.Author.Tests.{eqb-true}
 use Rattle.model.specs.Lists.{every}
 use Rattle.model.specs.Crossings.{bit}
 use Rattle.model.specs.Graph6.{unpacked, holdsSix}
-use Rattle.laws.specs.Sums.Indicators.{both-left, both-right}
 use Rattle.laws.specs.Sums.Ranges.{sum, sum-ext}
 use Rattle.laws.specs.Sums.Lists.{All, all-mono, all-at, all-places}
 use Rattle.laws.specs.Sums.Every.{every-all, all-every}
 use Rattle.laws.specs.Sums.Bits.{bit-lt, bits-ext}
 use Rattle.laws.specs.Graph6.Packing.{packedIn, packedIn-length, packedIn-at, packedIn-ext, unpacked-length, unpacked-bit, unpacked-at, bit-most}
 use Rattle.laws.specs.Graph6.Packing.{six-most}
+use Rattle.six_bits.specs.Bits.{six-within, within-six}
 
 -- ---- six bits, and the number that they make
 
@@ -103,14 +103,10 @@ abbrev pub Six : ℕ → Type 0
 Six b = (63 ≤ b) × (b ≤ 126)
 
 pub all-six : (bytes : List ℕ) → every holdsSix bytes ≡ true → All Six bytes
-unfolding holdsSix
-all-six bytes e =
-    all-mono (all-every holdsSix bytes e)
-    (λ b t. (leb-true 63 b (both-left (leb 63 b) (leb b 126) t), leb-true b 126 (both-right (leb 63 b) (leb b 126) t)))
+all-six bytes e = all-mono (all-every holdsSix bytes e) (λ b h. six-within h)
 
 pub six-all : {bytes : List ℕ} → All Six bytes → every holdsSix bytes ≡ true
-unfolding holdsSix
-six-all six = every-all (all-mono six (λ b r. ap₂ (λ (x y : Bool). x && y) (le-leb 63 b (r .0)) (le-leb b 126 (r .1))))
+six-all s = every-all (all-mono s (λ b h. within-six (h .0) (h .1)))
 
 pub packed-unpacked : {bytes : List ℕ} → All Six bytes → packedIn (length bytes) (unpacked bytes) ≡ bytes
 packed-unpacked {bytes} six =
