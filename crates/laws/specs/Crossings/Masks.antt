@@ -3,8 +3,9 @@ use Prim.Native.Nat.{ℕ, zero, suc, _+_, _*_, _-_, _/_, _%_, _^_, _≤_, _<_}
 use native.Mathlib.Nat.{mul-add, lt-of-lt-of-le, pow-suc, le-of-suc-le-suc, not-suc-le-zero}
 use native.Mathlib.Omega.{arith}
 use mathlib.Core.Path.{_≡_, refl, sym, ap, ap₂, _∙_}
-use mathlib.Core.List.{List}
+use mathlib.Core.List.{List, [], _∷_, _++_}
 use lib.ListN.{getD, take, drop}
+use lib.Seq.{take-suc}
 use lib.Dec.{eqb, ltb}
 use lib.Arith.{dbl-pred, digits-div, digits-mod}
 use lib.Pow.{pow-pos, ones-lt}
@@ -15,7 +16,7 @@ use Rattle.model.specs.Edits.{withBit, withoutBit}
 use Rattle.laws.specs.Sums.Indicators.{order, one-eq, one-ne}
 use Rattle.laws.specs.Sums.Ranges.{sum, sum-ext, sum-zero, sum-add, sum-at-right, sum-below, sum-above}
 use Rattle.laws.specs.Sums.Lists.{All, none, also, all-take, all-drop, all-places, sumOver-take, sumOver-drop}
-use Rattle.laws.specs.Orders.Permutations.{at, Permutation, at-lt, occurrences-nil, before-next, from-next, alone-before, alone-after, none-beyond}
+use Rattle.laws.specs.Orders.Permutations.{at, Permutation, at-lt, occurrences-nil, occurrences-last, from-next, alone-before, alone-after, none-beyond}
 use Rattle.laws.specs.Sums.Pairs.{pairSum, pairSum-ext, Symmetric}
 use Rattle.laws.specs.Sums.Bits.{bit-lt, bit-first, bit-next, bit-beyond, maskedOnes, set-same, set-other, clear-same, clear-other}
 use Rattle.laws.specs.Crossings.Counting.{placed, crossingSum-counted}
@@ -67,6 +68,14 @@ sum-occurrences n f (also {x} {xs} p ps) =
     ∙ sum-add n (λ v. f v * one (eqb v x)) (λ v. f v * occurrences v xs)
     ∙ ap₂ (λ (a b : ℕ). a + b) (sum-at-right n x f p) (sum-occurrences n f ps)
 
+-- one more vertex in a set
+pub holds-set : (m v : ℕ) (xs : List ℕ) → Holds m xs → occurrences v xs ≡ 0 → Holds (withBit m v) (xs ++ (v ∷ []))
+holds-set m v xs h e y l =
+    elim (ℕ-discrete y v) [
+      | yes d ↦ rw d (set-same m v ∙ sym (occurrences-last v v xs ∙ omega (arith, e, one-eq v v refl)))
+      | no d ↦ set-other m v y d ∙ h y l ∙ sym (occurrences-last y v xs ∙ omega (arith, one-ne y v d))
+    ]
+
 full-next : (n : ℕ) → 2 ^ suc n - 1 ≡ (2 ^ n - 1) * 2 + 1
 full-next n = ap (λ (x : ℕ). x - 1) (pow-suc 2 n) ∙ dbl-pred (pow-pos n)
 
@@ -105,17 +114,8 @@ module _ (n : ℕ) (order o : List ℕ) (small : n ≤ 64) (perm : Permutation n
   unfolding maskBefore
   holds-before zero h v l = bit-beyond 0 0 v (omega arith) (omega arith) ∙ sym (occurrences-nil v)
   holds-before (suc j) h v l =
-      ap (λ (x : ℕ). bit (withBit (maskBefore order j) x) v) (same-vertex j h)
-      ∙ elim (ℕ-discrete v (at o j)) [
-        | yes e ↦
-            ap (bit (withBit (maskBefore order j) (at o j))) e
-            ∙ set-same (maskBefore order j) (at o j)
-            ∙ omega (arith, before-next perm j h v, ap (λ (x : ℕ). occurrences x (take j o)) e, alone-before perm j h, one-eq v (at o j) e)
-        | no d ↦
-            set-other (maskBefore order j) (at o j) v d
-            ∙ holds-before j (omega arith) v l
-            ∙ omega (arith, before-next perm j h v, one-ne v (at o j) d)
-      ]
+      rw (same-vertex j h, take-suc o j 0 (omega (arith, perm .size)))
+      (holds-set (maskBefore order j) (at o j) (take j o) (holds-before j (omega arith)) (alone-before perm j h) v l)
 
   pub holds-from : (k : ℕ) → k ≤ n → Holds (maskFrom n order k) (drop k o)
   unfolding maskFrom

@@ -6,13 +6,13 @@ use mathlib.Core.Path.{_≡_, refl, sym, ap, _∙_}
 use mathlib.Core.Bool.{Bool, true, false, cond, _||_}
 use mathlib.Core.List.{List, [], _∷_, _++_}
 use lib.ListN.{length, getD, take, drop}
-use lib.Seq.{take-suc, drop-cons}
+use lib.Seq.{drop-cons}
 use lib.Dec.{eqb, ltb}
 use borrow.Author.Tests.{eq-eqb, eqb-true, lt-ltb}
 use Rattle.model.specs.Lists.{one, upto, any, sumOver, member, occurrences, place}
 use Rattle.laws.specs.Sums.Indicators.{less, same, more, order, one-eq, one-ne, one-lt, one-ge, one-le, one-sym}
 use Rattle.laws.specs.Sums.Ranges.{sum, sum-ext, sum-zero, sum-scale, sum-const, sum-swap, sum-at, sum-at-right, all-one}
-use Rattle.laws.specs.Sums.Lists.{sumOver-append, sumOver-split, sumOver-places, sumOver-upto, length-upto}
+use Rattle.laws.specs.Sums.Lists.{sumOver-append, sumOver-last, sumOver-split, sumOver-places, sumOver-upto, length-upto}
 
 -- the vertex at a place
 abbrev pub at : List ℕ → ℕ → ℕ
@@ -40,6 +40,10 @@ occurrences-cons v x xs = refl
 pub occurrences-append : (v : ℕ) (xs ys : List ℕ) → occurrences v (xs ++ ys) ≡ occurrences v xs + occurrences v ys
 unfolding occurrences
 occurrences-append v xs ys = sumOver-append (λ x. one (eqb v x)) xs ys
+
+pub occurrences-last : (v x : ℕ) (xs : List ℕ) → occurrences v (xs ++ (x ∷ [])) ≡ occurrences v xs + one (eqb v x)
+unfolding occurrences
+occurrences-last v x xs = sumOver-last x (λ y. one (eqb v y)) xs
 
 pub occurrences-split : (v : ℕ) (o : List ℕ) (j : ℕ) → j < length o
     → occurrences v o ≡ occurrences v (take j o) + (one (eqb v (at o j)) + occurrences v (drop (suc j) o))
@@ -178,11 +182,6 @@ module _ {n : ℕ} {o : List ℕ} (perm : Permutation n o) where
 
       gather : (i : ℕ) → i < n → sum n (λ v. f v * one (eqb v (at o i))) ≡ f (at o i)
       gather i h = sum-at-right n (at o i) f (at-lt i h)
-
-  pub before-next : (j : ℕ) → j < n → (v : ℕ) → occurrences v (take (suc j) o) ≡ occurrences v (take j o) + one (eqb v (at o j))
-  before-next j h v =
-      ap (occurrences v) (take-suc o j 0 (omega (arith, perm .size)))
-      ∙ rw (occurrences-append v (take j o) (at o j ∷ []), occurrences-cons v (at o j) [], occurrences-nil v) (omega arith)
 
   pub from-next : (j : ℕ) → j < n → (v : ℕ) → occurrences v (drop j o) ≡ one (eqb v (at o j)) + occurrences v (drop (suc j) o)
   from-next j h v = ap (occurrences v) (drop-cons o j 0 (omega (arith, perm .size))) ∙ occurrences-cons v (at o j) (drop (suc j) o)

@@ -39,7 +39,7 @@ module _ {n : ℕ} {o : List ℕ} (perm : Permutation n o) (u : ℕ) (h : u < n)
       sumOver-split f o (place o u) (rw (perm .size) (place-below perm u h))
       ∙ rw (at-of-place perm u h, sumOver-append f (drop (suc (place o u)) o) (take (place o u) o)) (omega arith)
 
-  clockwise-occurrences : (v : ℕ) → occurrences v o ≡ one (eqb v u) + occurrences v (clockwiseFrom u o)
+  pub clockwise-occurrences : (v : ℕ) → occurrences v o ≡ one (eqb v u) + occurrences v (clockwiseFrom u o)
   unfolding occurrences
   clockwise-occurrences v = clockwise-sum (λ x. one (eqb v x))
 

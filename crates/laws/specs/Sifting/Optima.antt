@@ -21,9 +21,9 @@ use Rattle.laws.specs.Sums.Lists.{All, all-mono, all-upto, length-upto, 
 use Rattle.laws.specs.Orders.Permutations.{at, Permutation, sum-vertices}
 use Rattle.laws.specs.Layouts.Validity.{sound}
 use Rattle.laws.specs.Layouts.Reordering.{move-crossings}
-use Rattle.laws.specs.Crossings.Turning.{last-stays}
 use Rattle.laws.specs.Sifting.LocalSearch.{least-stays, none-less, sift-best, sift-most, sift-some}
 use Rattle.laws.specs.Sifting.Candidates.{clockwise-sum, clockwise-others, clockwise-length, sifted-improved, sifted-order, sift-moved}
+use Rattle.laws.specs.Sifting.Walk.{last-stays}
 use Rattle.laws.specs.Sifting.Rounds.{candidateLayouts, vertices, Valid, ProperSift, to-moves, sifts-vertices, sifts-optima, sifts-proper}
 use Rattle.laws.specs.Sifting.Rounds.{proper-sift, round-reduced}
 
@@ -89,7 +89,7 @@ module _ {x : Sift Layout} (p : ProperSift x) where
       sift-some vertices crossingsOf Valid candidateLayouts p (behind 0) last (omega (arith, candidates-length, others-length))
       (ap crossingsOf (List·getD-map behind others last 0)
       ∙ move-crossings (x .before) (p .valid-before) (x .vertex) (p .vertex-below) (at others last) (other .0) (other .1)
-      ∙ last-stays in-order (x .vertex) (p .vertex-below) two (x .before .adjacency))
+      ∙ last-stays in-order (x .before .adjacency) (sound (x .before) (p .valid-before) .symmetry) (x .vertex) (p .vertex-below) two)
 
 -- ---- sifted again, a vertex has as many best places: it can be moved to the same ones
 
