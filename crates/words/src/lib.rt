@@ -4,6 +4,7 @@ ghost use mathlib.Core.Path.{_≡_};
 ghost use Prim.Native.Nat.{_-_, _^_, min};
 ghost use mathlib.Core.Bool.{cond};
 ghost use lib.Dec.{eqb, ltb};
+ghost use lib.Bits.{bitAnd};
 ghost use Rattle.model.specs.Crossings.{bit};
 ghost use Rattle.model.specs.Edits.{withBit, withoutBit};
 ghost use Rattle.laws.specs.Sums.Bits.{maskedOnes};
@@ -12,6 +13,13 @@ pub fn is_set(word: u64, i: usize) -> bool
     ensures { λ r. ⌜ r ≡ eqb (bit word i) 1 ⌝ }
 {
     if i < 64 { (word >> i) % 2 == 1 } else { false }
+}
+
+// The bit at a place: 0 or 1.
+pub fn bit_at(word: u64, i: usize) -> u32
+    ensures { λ r. ⌜ r ≡ bit word i ⌝ }
+{
+    if i < 64 { ((word >> i) % 2) as u32 } else { 0 }
 }
 
 pub fn set(word: u64, i: usize) -> u64
@@ -28,6 +36,13 @@ pub fn clear(word: u64, i: usize) -> u64
     } else {
         word
     }
+}
+
+// The bits that are set in both words.
+pub fn common(a: u64, b: u64) -> u64
+    ensures { λ r. ⌜ r ≡ bitAnd a b ⌝ }
+{
+    a & b
 }
 
 // How many bits are set in both the word and the mask.

@@ -1,0 +1,2 @@
+-- Ranks: the ranks of vertices, in six words.
+pub mod Ranks
