@@ -1,3 +1,2 @@
--- The loops of sifting: the walk through the candidates, rounds and settling.
-pub mod Walk
+-- The loops of sifting: rounds and settling.
 pub mod Loops

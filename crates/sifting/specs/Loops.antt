@@ -13,7 +13,6 @@ use Rattle.model.specs.declared.Layout.{Layout}
 use Rattle.model.specs.declared.Rounded.{Rounded}
 use Rattle.model.specs.declared.Converged.{Converged}
 use Rattle.model.specs.Lists.{one, upto, All}
-use Rattle.model.specs.Crossings.{crossings}
 use Rattle.model.specs.Layouts.{vertexOrder, valid, crossingsOf, carried, changed, reordered}
 use Rattle.model.specs.Sifting.{leastCrossings, siftedOrder, sifted, reduction, moves, noSifts, afterSift, siftAll, siftRound, afterRound, stopped}
 use Rattle.model.specs.Sifting.{optimaOf, siftAnswer, roundsUpTo}

@@ -5,6 +5,7 @@ ghost use lib.Dec.{T};
 ghost use Rattle.model.specs.Layouts.{valid};
 ghost use Rattle.model.specs.Sifting.{settleOf, roundsUpTo};
 use super::rounds::sift_all;
+use super::sifts::crossings_of;
 use model::Converged;
 use model::Layout;
 use validity::limit_refusal;
@@ -31,12 +32,14 @@ fn run_rounds(l: Layout, limit: u32) -> Converged
     requires { ⌜ T (valid l) × (limit ≤ 1000) ⌝ }
     ensures { λ r. ⌜ r ≡ roundsUpTo limit l ⌝ }
 {
+    let before = crossings_of(l);
     let mut state = l;
     let mut reduction: u32 = 0;
     let mut rounds: u32 = 0;
     let mut optima: u32 = 0;
     while rounds < limit {
-        let round = sift_all(state);
+        let crossings = before - reduction;
+        let round = sift_all(state, crossings);
         state = round.layout;
         reduction += round.reduction;
         let told = round.optima;

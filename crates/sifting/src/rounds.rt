@@ -8,6 +8,7 @@ ghost use Rattle.laws.specs.Sifting.Optima.{mostOptima};
 ghost use Rattle.model.specs.Layouts.{valid, crossingsOf};
 ghost use Rattle.model.specs.Sifting.{siftRound, roundOf};
 ghost use Rattle.sifting.specs.Loops.{siftNext};
+use super::sifts::crossings_of;
 use super::sifts::sift_vertex;
 use model::Layout;
 use model::Rounded;
@@ -25,12 +26,13 @@ pub fn sifting_round(l: Layout) -> Rounded
             optima: 0,
         };
     }
-    sift_all(l)
+    sift_all(l, crossings_of(l))
 }
 
-// A round whose check has passed.
-pub(crate) fn sift_all(l: Layout) -> Rounded
-    requires { ⌜ T (valid l) ⌝ }
+// A round whose check has passed, of a layout whose crossings are known: each sift takes its
+// reduction from them.
+pub(crate) fn sift_all(l: Layout, before: u32) -> Rounded
+    requires { ⌜ T (valid l) × (before ≡ crossingsOf l) ⌝ }
     ensures { λ r. ⌜ r ≡ siftRound l ⌝ }
 {
     let n = l.n;
@@ -43,20 +45,21 @@ pub(crate) fn sift_all(l: Layout) -> Rounded
     };
     let mut u = 0;
     while u < n {
-        state = sift_next(state, u);
+        let crossings = before - state.reduction;
+        state = sift_next(state, u, crossings);
         u += 1;
     }
     state
 }
 
-// One more vertex sifted.
-fn sift_next(s: Rounded, u: usize) -> Rounded
-    requires { ⌜ T (valid (s .layout)) × (u < s .layout .n) × (crossingsOf (s .layout) + s .reduction ≤ mostCrossings) × (s .moved ≤ s .reduction)
-        × (s .optima ≤ mostOptima) ⌝ }
+// One more vertex sifted, where the layout has so many crossings.
+fn sift_next(s: Rounded, u: usize, crossings: u32) -> Rounded
+    requires { ⌜ T (valid (s .layout)) × (u < s .layout .n) × (crossings ≡ crossingsOf (s .layout)) × (crossings + s .reduction ≤ mostCrossings)
+        × (s .moved ≤ s .reduction) × (s .optima ≤ mostOptima) ⌝ }
     ensures { λ r. ⌜ r ≡ siftNext s u ⌝ }
 {
     let before = s.layout;
-    let step = sift_vertex(before, u);
+    let step = sift_vertex(before, u, crossings);
     let after = step.layout;
     let saved = step.reduction;
     let one = moved_by(saved);

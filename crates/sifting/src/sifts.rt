@@ -2,9 +2,10 @@
 ghost use mathlib.Core.Path.{_≡_};
 ghost use Prim.Native.Nat.{_<_};
 ghost use lib.Dec.{T};
-ghost use Rattle.model.specs.Layouts.{valid};
+ghost use Rattle.model.specs.Layouts.{valid, crossingsOf};
 ghost use Rattle.model.specs.Sifting.{siftAnswer, siftOf};
 use carrying::carried;
+use counting::count_crossings;
 use model::Layout;
 use model::Sifted;
 use validity::vertex_refusal;
@@ -22,20 +23,31 @@ pub fn sift(l: Layout, u: usize) -> Sifted
             optima: 0,
         };
     }
-    sift_vertex(l, u)
+    sift_vertex(l, u, crossings_of(l))
 }
 
-// A sift whose checks have passed.
-pub(crate) fn sift_vertex(l: Layout, u: usize) -> Sifted
-    requires { ⌜ T (valid l) × (u < l .n) ⌝ }
+// The crossings of a valid layout, counted from nothing: once for a sift, a round or a settling.
+pub(crate) fn crossings_of(l: Layout) -> u32
+    requires { ⌜ T (valid l) ⌝ }
+    ensures { λ r. ⌜ r ≡ crossingsOf l ⌝ }
+{
+    let order = l.order;
+    let adjacency = l.adjacency;
+    count_crossings(l.n, &order, &adjacency)
+}
+
+// A sift whose checks have passed, of a layout whose crossings are known.
+pub(crate) fn sift_vertex(l: Layout, u: usize, before: u32) -> Sifted
+    requires { ⌜ T (valid l) × (u < l .n) × (before ≡ crossingsOf l) ⌝ }
     ensures { λ r. ⌜ r ≡ siftAnswer l u ⌝ }
 {
     let n = l.n;
-    let before = l.order;
+    let places = l.order;
     let adjacency = l.adjacency;
-    let best = best_order(n, before, &adjacency, u);
+    let best = best_order(n, places, &adjacency, u, before);
     let order = best.order;
-    let count = carried(l.count, best.before, best.after);
+    let after = best.after;
+    let count = carried(l.count, before, after);
     let layout = Layout {
         n,
         order,
@@ -45,7 +57,7 @@ pub(crate) fn sift_vertex(l: Layout, u: usize) -> Sifted
     Sifted {
         refusal: 0,
         layout,
-        reduction: best.before - best.after,
+        reduction: before - after,
         optima: best.optima,
     }
 }

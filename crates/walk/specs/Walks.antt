@@ -1,131 +1,220 @@
--- The walk through the candidates of a sift, one after the other, over any bytes.
-use Prim.Native.Nat.{ℕ, zero, suc, _+_, _-_, _≤_, _<_, zero-le, suc-le-suc}
-use native.Mathlib.Nat.{le-antisymm, le-of-lt, add-zero}
+-- The walk: the vertex is exchanged with its next neighbour in the order, again and again. After each exchange the running number is the crossings of
+-- the present candidate, and what is kept is right for the candidates so far.
+use Prim.Native.Nat.{ℕ, zero, suc, _+_, _*_, _-_, _≤_, _<_}
+use native.Mathlib.Nat.{lt-of-lt-of-le}
 use native.Mathlib.Numerals.{add-one}
 use native.Mathlib.Omega.{arith}
-use mathlib.Core.Path.{_≡_, sym, ap, ap₂, _∙_}
-use mathlib.Core.Bool.{Bool, true, false, cond, _&&_}
-use mathlib.Core.List.{List, [], _∷_}
-use lib.ListN.{length, take}
-use lib.Dec.{eqb, ltb}
-use borrow.Author.Tests.{lt-ltb, le-ltb}
-use Rattle.model.specs.Lists.{one, place}
-use Rattle.laws.specs.Sums.Indicators.{one-eq, one-ne, one-le}
-use Rattle.laws.specs.Layouts.Recount.{counted}
-use Rattle.places.specs.MovedPlaces.{shifted}
-use Rattle.walk.specs.declared.Walk.{Walk}
+use mathlib.Core.Path.{_≡_, refl, sym, ap, ap₂, _∙_, subst}
+use mathlib.Core.List.{List, [], _∷_, _++_}
+use lib.ListN.{length, getD, take, drop}
+use lib.Seq.{split-at}
+use Rattle.model.specs.Lists.{sumOver, occurrences}
+use Rattle.model.specs.Crossings.{bit, linked, crossings}
+use Rattle.model.specs.Edits.{movedAfter}
+use Rattle.laws.specs.Sums.Indicators.{one-eq, one-le}
+use Rattle.laws.specs.Sums.Lists.{all-take, sumOver-last}
+use Rattle.laws.specs.Sums.Bits.{bit-lt, bit-none, maskedOnes, set-within}
+use Rattle.laws.specs.Orders.Permutations.{at, occurrences-nil, occurrences-split}
+use Rattle.laws.specs.Crossings.Edges.{weight}
+use Rattle.laws.specs.Crossings.Masks.{Holds, holds-set}
+use Rattle.laws.specs.Crossings.Bound.{mostCrossings}
+use Rattle.laws.specs.Crossings.Exchange.{lost, gained, lost-ranked, gained-ranked}
+use Rattle.laws.specs.Sifting.Walk.{other-at, other-once, walked, walked-next, walked-lost, walked-few, present-walked, candidate-walked}
+use Rattle.ranks.specs.Ranks.{rankSum}
+use Rattle.walk.specs.declared.Vertex.{Vertex}
+use Rattle.walk.specs.declared.Step.{Step}
+use Rattle.walk.specs.Exchanges.{Passed}
+use Rattle.walk.specs.Keeping.{KeptOf, nothing, next-few, next-first, kept-start, kept-next}
+use Rattle.walk.specs.Words.{otherAt, vertexWords, Seated, othersOf, Joined, small, perm, below, others-length, others-below, within}
+use Rattle.walk.specs.Rankings.{RanksOf}
+use Rattle.walk.specs.Words.{weighed, other-right, taken-next, degree-counted, neighbours-joined, others-counted, shared-counted}
 
--- the place of the vertex j behind the next one clockwise from place p
-unfoldable pub turned : ℕ → ℕ → ℕ → ℕ
-turned n p j = cond (ltb (p + 1 + j) n) (p + 1 + j) (p + 1 + j - n)
+-- ---- after j candidates
 
-module _ (n p j : ℕ) where
-  pub turned-on : p + 1 + j < n → p + 1 + j ≡ turned n p j
-  unfolding turned
-  turned-on h = rw (lt-ltb (p + 1 + j) n h)
+-- the crossings of candidate i, and of the present one once j were passed: the present order at first
+abbrev pub candidateCrossings : ℕ → List ℕ → List ℕ → ℕ → ℕ → ℕ
+candidateCrossings n places adj u i = crossings n (movedAfter u (at (othersOf n places u) i) (take n places)) adj
 
-  pub turned-round : n ≤ p + 1 + j → p + 1 + j - n ≡ turned n p j
-  unfolding turned
-  turned-round h = rw (le-ltb (p + 1 + j) n h)
+unfoldable pub presentCrossings : ℕ → List ℕ → List ℕ → ℕ → ℕ → ℕ
+presentCrossings n places adj u zero = crossings n (take n places) adj
+presentCrossings n places adj u (suc i) = candidateCrossings n places adj u i
 
--- the entries after the one at place p was moved behind the one at place q, if both are places
-unfoldable pub movedPlaces : List ℕ → ℕ → ℕ → List ℕ
-movedPlaces places p q = cond (ltb p 64 && ltb q 64) (shifted places p q) places
+pub record WalkedUpTo (n : ℕ) (places adj : List ℕ) (u : ℕ) (step : Step) (j : ℕ) : Type 0 where
+  pub inside : j < n
+  -- the running number is the crossings of the present candidate
+  pub present : step .crossings ≡ presentCrossings n places adj u j
+  -- what is kept is right for the candidates so far
+  pub kept-right : KeptOf (candidateCrossings n places adj u) j (step .kept)
+  pub passed-held : Holds (step .passed) (take j (othersOf n places u))
+  pub met-are : step .met ≡ sumOver (weight adj u) (take j (othersOf n places u))
 
--- candidate j of a sift of u
-unfoldable pub candidateArray : ℕ → List ℕ → ℕ → ℕ → List ℕ
-candidateArray n places u j = movedPlaces places (place (take n places) u) (turned n (place (take n places) u) j)
+-- small numbers, whatever the bytes are
+pub record SmallStep (step : Step) (j : ℕ) : Type 0 where
+  pub met-few : step .met ≤ j
+  pub optima-few : step .kept .optima ≤ j
+  pub first-few : step .kept .first ≤ j
 
--- a candidate with fewer crossings takes the place of the best so far, one with as many stands beside it
-abbrev pub taking : Walk → List ℕ → ℕ → Walk
-taking best candidate count = record { order = candidate; before = best .before; after = count; optima = 1 }
+abbrev pub firstStep : ℕ → Step
+firstStep before = record { crossings = before; passed = 0; met = 0; kept = record { least = nothing; first = 0; optima = 0 } }
 
-abbrev pub keeping : Walk → ℕ → Walk
-keeping best k = record { order = best .order; before = best .before; after = best .after; optima = k }
+pub small-start : (before : ℕ) → SmallStep (firstStep before) 0
+small-start before = record { met-few = omega arith; optima-few = omega arith; first-few = omega arith }
 
-unfoldable pub better : Walk → List ℕ → ℕ → Walk
-better best candidate count =
-    cond (ltb count (best .after)) (taking best candidate count) (keeping best (best .optima + one (eqb count (best .after))))
+pub small-next : {step r : Step} {vertex : Vertex} {ranks : List ℕ} {word v j : ℕ} → SmallStep step j → Passed step vertex ranks word v j r
+    → SmallStep r (j + 1)
+small-next {step} {r} {vertex} {ranks} {word} {v} {j} s p =
+    record {
+      met-few = rw (p .met-are) (omega (arith, s .met-few, bit-lt (vertex .neighbours) v));
+      optima-few = rw (p .kept-is) (next-few (step .kept) (r .crossings) j (s .optima-few));
+      first-few = rw (p .kept-is) (next-first (step .kept) (r .crossings) j (s .first-few));
+    }
 
-module _ (best : Walk) (candidate : List ℕ) {count counted : ℕ} (e : count ≡ counted) where
-  pub better-taken : count < best .after → taking best candidate count ≡ better best candidate counted
-  unfolding better
-  better-taken h = rw (← e, lt-ltb count (best .after) h)
+module _ {n : ℕ} {places adj : List ℕ} {u p : ℕ} (seat : Seated n places adj u p) where
+  abbrev W : ℕ → ℕ → ℕ
+  W = weight adj
 
-  pub better-left : best .after < count → best ≡ better best candidate counted
-  unfolding better
-  better-left h =
-      rw (← e, le-ltb count (best .after) (le-of-lt h), one-ne count (best .after) (λ k. omega arith))
-      (ap (keeping best) (sym (add-zero (best .optima))))
+  abbrev others : List ℕ
+  others = othersOf n places u
 
-  pub better-beside : count ≡ best .after → keeping best (best .optima + 1) ≡ better best candidate counted
-  unfolding better
-  better-beside k = rw (← e, le-ltb count (best .after) (omega arith), one-eq count (best .after) k)
+  pub walk-start : {before : ℕ} → before ≡ crossings n (take n places) adj → WalkedUpTo n places adj u (firstStep before) 0
+  unfolding presentCrossings sumOver
+  walk-start e =
+      record {
+        inside = omega (arith, below seat);
+        present = e;
+        kept-right = kept-start;
+        passed-held = λ v l. bit-none v ∙ sym (occurrences-nil v);
+        met-are = refl;
+      }
 
--- the present order and the first j candidates
-unfoldable pub walkTo : ℕ → List ℕ → List ℕ → ℕ → ℕ → Walk
-walkTo n places adj u zero = record { order = places; before = counted n places adj; after = counted n places adj; optima = 0 }
-walkTo n places adj u (suc j) =
-    better (walkTo n places adj u j) (candidateArray n places u j) (counted n (candidateArray n places u j) adj)
+  -- by the exchanges
+  present-exchanged : (j : ℕ) → j < n → presentCrossings n places adj u j ≡ walked W u others j
+  unfolding presentCrossings
+  present-exchanged zero l = present-walked (perm seat) adj (seat .walker .drawn .symmetry) u (below seat)
+  present-exchanged (suc i) l = candidate-walked (perm seat) adj (seat .walker .drawn .symmetry) u (below seat) i l
 
--- at most one beside it for each candidate
-walk-few : (n : ℕ) (places adj : List ℕ) (u j : ℕ) → walkTo n places adj u j .optima ≤ j
-unfolding walkTo better one
-walk-few n places adj u zero = zero-le
-walk-few n places adj u (suc j) =
-    by-tests (ltb count (best .after)) (eqb count (best .after)) (walk-few n places adj u j)
-  where
-    best : Walk
-    best = walkTo n places adj u j
+  few : (i : ℕ) → i < n → walked W u others i ≤ mostCrossings
+  few i h = walked-few 1 (λ x y. one-le (linked adj x y)) u others i (omega (arith, others-length seat, small seat)) (omega (arith, others-length seat))
 
-    count : ℕ
-    count = counted n (candidateArray n places u j) adj
+  pub present-few : crossings n (take n places) adj ≤ mostCrossings
+  unfolding presentCrossings
+  present-few = rw (present-exchanged 0 (omega (arith, below seat))) (few 0 (omega (arith, below seat)))
 
-    by-tests : (b c : Bool) → best .optima ≤ j
-        → cond b (taking best (candidateArray n places u j) count) (keeping best (best .optima + one c)) .optima ≤ suc j
-    by-tests true c h = suc-le-suc zero-le
-    by-tests false c h = omega (arith, one-le c)
+  -- the vertices passed, and those still to pass behind the next one
+  abbrev passed : ℕ → List ℕ
+  passed j = take j others
+
+  abbrev rest : ℕ → List ℕ
+  rest j = drop (suc j) others
+
+  module _ {vertex : Vertex} {ranks : List ℕ} (e : vertex ≡ vertexWords n adj u) (ranked : RanksOf n places adj u ranks)
+      {step r : Step} {v j : ℕ} (s : WalkedUpTo n places adj u step j) (l : j + 1 < n) (there : v ≡ otherAt n p places j)
+      (told : Passed step vertex ranks (getD adj v 0) v j r) where
+    here : v ≡ at others j
+    here = there ∙ other-right seat j l
+
+    inside : v < n
+    inside = rw here (other-at (perm seat) u (below seat) j (omega arith) .0)
+
+    joined : bit (vertex .neighbours) v ≡ W u v
+    joined = ap (bit (vertex .neighbours)) here ∙ neighbours-joined seat e .joined j (omega arith) ∙ ap (W u) (sym here)
+
+    parts : passed j ++ (v ∷ rest j) ≡ others
+    parts = ap (λ (x : ℕ). passed j ++ (x ∷ rest j)) here ∙ sym (split-at others j 0 (omega (arith, others-length seat)))
+
+    -- the sums that the words give
+    met-next : r .met ≡ sumOver (W u) (passed j) + W u v
+    met-next = told .met-are ∙ ap₂ _+_ (s .met-are) joined
+
+    passed-weight : maskedOnes (getD adj v 0) (step .passed) ≡ sumOver (W v) (passed j)
+    passed-weight = weighed seat v (step .passed) (s .passed-held) (all-take j (within seat))
+
+    lost-told : rankSum ranks (getD adj v 0) + vertex .degree * maskedOnes (getD adj v 0) (step .passed)
+        ≡ lost W u v (rest j ++ passed j) + (step .met + bit (vertex .neighbours) v) * maskedOnes (getD adj v 0) (vertex .others)
+    lost-told =
+        ap₂ _+_ (ranked .sums v) (ap₂ _*_ (degree-counted seat e) passed-weight)
+        ∙ rw parts at (lost-ranked (W u) (W v) (passed j) v (rest j) (seat .walker .drawn .symmetry .diagonal v inside))
+        ∙ sym (ap (λ (x : ℕ). lost W u v (rest j ++ passed j) + x) (ap₂ _*_ (ap₂ _+_ (s .met-are) joined) (others-counted seat e v)))
+
+    gained-told : vertex .degree * maskedOnes (getD adj v 0) (vertex .others)
+        ≡ gained W u v (rest j ++ passed j) + lost W u v (rest j ++ passed j)
+        + (maskedOnes (getD adj v 0) (vertex .neighbours) + bit (vertex .neighbours) v * maskedOnes (getD adj v 0) (vertex .others))
+    gained-told =
+        ap₂ _*_ (degree-counted seat e) (others-counted seat e v)
+        ∙ rw parts at (gained-ranked (W u) (W v) (passed j) v (rest j) (seat .walker .drawn .symmetry .diagonal v inside))
+        ∙ sym
+        (ap (λ (x : ℕ). gained W u v (rest j ++ passed j) + lost W u v (rest j ++ passed j) + x)
+        (ap₂ _+_ (shared-counted seat e v) (ap₂ _*_ joined (others-counted seat e v))))
+
+    crossings-next : r .crossings ≡ walked W u others (suc j)
+    crossings-next =
+        let more : j < length others = omega (arith, others-length seat) in
+        let now : step .crossings ≡ walked W u others j = s .present ∙ present-exchanged j (s .inside) in
+        let next : walked W u others (suc j) + lost W u v (rest j ++ passed j) ≡ walked W u others j + gained W u v (rest j ++ passed j) =
+        rw (← here) at (walked-next (seat .walker .drawn .symmetry) (below seat) (others-below seat) j more) in
+        let lost-now : lost W u v (rest j ++ passed j) ≤ walked W u others j =
+        rw (← here) at (walked-lost (seat .walker .drawn .symmetry) (below seat) (others-below seat) j more) in
+        let exact : r .crossings + lost W u v (rest j ++ passed j) ≡ step .crossings + gained W u v (rest j ++ passed j) =
+        told .crossings-are .exact (lost W u v (rest j ++ passed j)) (gained W u v (rest j ++ passed j)) lost-told gained-told
+        (omega (arith, now, lost-now)) (omega (arith, now, next, lost-now, few j (s .inside), few (suc j) (omega arith))) in
+        omega (arith, exact, now, next)
+
+    pub walk-next : WalkedUpTo n places adj u r (j + 1)
+    unfolding presentCrossings
+    walk-next =
+        let more : suc j < n = omega arith in
+        let now = crossings-next ∙ sym (present-exchanged (suc j) more) in
+        let bounded : r .crossings < nothing = omega (arith, crossings-next, few (suc j) more) in
+        let once = other-once (perm seat) u (below seat) j more in
+        let new : occurrences v (passed j) ≡ 0 =
+        omega (
+          arith,
+          ap (λ (x : ℕ). occurrences x others) here ∙ once,
+          occurrences-split v others j (omega (arith, others-length seat)),
+          one-eq v (at others j) here,
+        ) in
+        rw (add-one j)
+        (record {
+          inside = more;
+          present = now;
+          kept-right = rw (told .kept-is) (kept-next (s .kept-right) now bounded);
+          passed-held =
+              rw (taken-next seat j l there)
+              (subst (λ (m : ℕ). Holds m (passed j ++ (v ∷ []))) (sym (set-within (step .passed) v (lt-of-lt-of-le inside (small seat)) (told .passed-is)))
+              (holds-set (step .passed) v (passed j) (s .passed-held) new));
+          met-are = met-next ∙ sym (ap (sumOver (W u)) (taken-next seat j l there) ∙ sumOver-last v (W u) (passed j));
+        })
 
 -- ---- the loop
 
--- the best of the present order and the first j candidates
-pub record TriedUpTo (n : ℕ) (places adj : List ℕ) (u : ℕ) (best : Walk) (j : ℕ) : Type 0 where
-  pub inside : j ≤ n - 1
-  pub found : best ≡ walkTo n places adj u j
+-- small numbers whatever the bytes are, and all right where u is seated and the crossings are given
+pub record WalkUpTo (n p : ℕ) (places adj : List ℕ) (u before : ℕ) (step : Step) (j : ℕ) : Type 0 where
+  pub inside : j ≤ n
+  pub small-step : SmallStep step j
+  pub right : Seated n places adj u p → before ≡ crossings n (take n places) adj → WalkedUpTo n places adj u step j
 
-module _ {n : ℕ} {places adj : List ℕ} {u : ℕ} where
-  pub tried-start : {count : ℕ} → count ≡ counted n places adj
-      → TriedUpTo n places adj u (record { order = places; before = count; after = count; optima = 0 }) 0
-  unfolding walkTo
-  tried-start e = record { inside = omega arith; found = ap (λ (x : ℕ). record { order = places; before = x; after = x; optima = 0 }) e }
+module _ {n p : ℕ} {places adj : List ℕ} {u before : ℕ} where
+  pub walking-start : WalkUpTo n p places adj u before (firstStep before) 0
+  walking-start = record { inside = omega arith; small-step = small-start before; right = λ seat e. walk-start seat e }
 
-  pub tried-few : {best : Walk} {j : ℕ} → TriedUpTo n places adj u best j → best .optima ≤ j
-  tried-few {best} {j} b = rw (b .found) (walk-few n places adj u j)
+  module _ {step : Step} {j : ℕ} (s : WalkUpTo n p places adj u before step j) where
+    pub walking-next : {vertex : Vertex} {ranks : List ℕ} {v : ℕ} {next : Step} → vertex ≡ vertexWords n adj u
+        → (Seated n places adj u p → Joined n places adj u (vertex .neighbours) → RanksOf n places adj u ranks)
+        → j + 1 < n → v ≡ otherAt n p places j → Passed step vertex ranks (getD adj v 0) v j next → WalkUpTo n p places adj u before next (j + 1)
+    walking-next e ranked l there told =
+        record {
+          inside = omega arith;
+          small-step = small-next (s .small-step) told;
+          right = λ seat d. walk-next seat e (ranked seat (neighbours-joined seat e)) (s .right seat d) l there told;
+        }
 
-  pub tried-next : {best next : Walk} {j p q : ℕ} {xs : List ℕ} → TriedUpTo n places adj u best j → j + 1 < n
-      → p ≡ place (take n places) u → q ≡ turned n p j → xs ≡ movedPlaces places p q → next ≡ better best xs (counted n xs adj)
-      → TriedUpTo n places adj u next (j + 1)
-  unfolding walkTo candidateArray
-  tried-next {best} {next} {j} {p} {q} {xs} b h here there x e =
-      rw (add-one j)
-      (record {
-        inside = omega arith;
-        found =
-            e
-            ∙ ap (λ (w : Walk). better w xs (counted n xs adj)) (b .found)
-            ∙ ap (λ (ys : List ℕ). better (walkTo n places adj u j) ys (counted n ys adj))
-            (x ∙ ap₂ (movedPlaces places) here (there ∙ ap (λ (k : ℕ). turned n k j) here));
-      })
-
-  pub tried-end : {best : Walk} {j : ℕ} → TriedUpTo n places adj u best j → n ≤ j + 1 → best ≡ walkTo n places adj u (n - 1)
-  tried-end {best} {j} b h = b .found ∙ ap (walkTo n places adj u) (le-antisymm (b .inside) (omega arith))
-
--- a vertex that has no place stands behind the last
-pub place-most : (xs : List ℕ) (v : ℕ) → place xs v ≤ length xs
-unfolding place
-place-most [] v = omega arith
-place-most (x ∷ xs) v = by-test (eqb v x) (place-most xs v)
-  where
-    by-test : (b : Bool) → place xs v ≤ length xs → cond b 0 (suc (place xs v)) ≤ suc (length xs)
-    by-test true h = omega arith
-    by-test false h = suc-le-suc h
+    pub walking-end : n ≤ j + 1 → n ≤ 64
+        → (step .kept .first ≤ 64)
+        × (Seated n places adj u p → before ≡ crossings n (take n places) adj → KeptOf (candidateCrossings n places adj u) (n - 1) (step .kept))
+    walking-end l h = (
+      omega (arith, s .inside, s .small-step .first-few),
+      λ seat d.
+          let walked = s .right seat d in
+          let all : j ≡ n - 1 = omega (arith, walked .inside) in
+          subst (λ (k : ℕ). KeptOf (candidateCrossings n places adj u) k (step .kept)) all (walked .kept-right),
+    )

@@ -60,12 +60,6 @@ module _ {A : Type 0} (f : A → ℕ) (k : ℕ) where
   count-most [] = zero-le
   count-most (x ∷ xs) = omega (arith, one-le (eqb (f x) k), count-most xs)
 
-  -- none of those that are all above it
-  pub count-above : {xs : List A} → All (λ x. k < f x) xs → countWith f k xs ≡ 0
-  unfolding countWith sumOver
-  count-above none = refl
-  count-above (also {x} h hs) = rw (one-ne (f x) k (λ e. omega arith), count-above hs)
-
   -- some where one is found, or stands at a place
   pub count-any : (xs : List A) → T (any (λ x. eqb (f x) k) xs) → 1 ≤ countWith f k xs
   unfolding countWith sumOver any one

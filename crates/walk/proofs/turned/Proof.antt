@@ -1,5 +1,5 @@
 use borrow.Author.Needs.{needs}
-use Rattle.walk.specs.Walks.{turned-on, turned-round}
+use Rattle.walk.specs.Words.{turned-on, turned-round}
 use Rattle.walk.proofs.turned.Statement.{statement}
 use Rattle.walk.proofs.turned.Tie as tie
 

@@ -5,28 +5,40 @@ use Rattle.sifting.proofs.convergence.run_rounds.Statement.{statement}
 use Rattle.sifting.proofs.convergence.run_rounds.Tie as tie
 
 abbrev Inv-loop : tie.InvT-loop
-Inv-loop limit state₀ reduction₀ rounds₀ optima₀ state reduction rounds optima = SettlingUpTo state₀ limit state reduction rounds optima
+Inv-loop limit before state₀ reduction₀ rounds₀ optima₀ state reduction rounds optima = SettlingUpTo state₀ limit state reduction rounds optima
 
 abbrev μ-loop : tie.MeasureT-loop
-μ-loop limit state₀ reduction₀ rounds₀ optima₀ state reduction rounds optima = limit - rounds
+μ-loop limit before state₀ reduction₀ rounds₀ optima₀ state reduction rounds optima = limit - rounds
 
 loop-holds : tie.Need-loop-holds Inv-loop μ-loop
-loop-holds c = settling-start (c .args .l) (c .args .limit) (c .pre .0)
+loop-holds c =
+    let start = c .before in
+    settling-start (start .args .l) (start .args .limit) (start .pre .0)
+
+crossings-of-requires : tie.Need-crossings-of-requires Inv-loop μ-loop
+crossings-of-requires c κs = c .pre .0
+
+sub-crossings : tie.Need-sub-crossings Inv-loop μ-loop
+sub-crossings c =
+    let turn = c .before in
+    omega (arith, turn .loop .inv .exact, turn .before .crossings-of .ensures)
 
 sift-all-requires : tie.Need-sift-all-requires Inv-loop μ-loop
-sift-all-requires c κs = c .before .loop .inv .is-valid
+sift-all-requires c κs =
+    let turn = c .before in
+    (turn .loop .inv .is-valid, omega (arith, turn .loop .inv .exact, turn .before .crossings-of .ensures))
 
 add-reduction : tie.Need-add-reduction Inv-loop μ-loop
 add-reduction c =
     let round = c .before .before in
     let turn = round .before .before in
-    omega (arith, settling-bounds (turn .loop .inv) (turn .before .pre .0) (round .before .loop-test .taken) (round .sift-all .ensures) .0)
+    omega (arith, settling-bounds (turn .loop .inv) (turn .before .before .pre .0) (round .before .loop-test .taken) (round .sift-all .ensures) .0)
 
 add-optima : tie.Need-add-optima Inv-loop μ-loop
 add-optima c =
     let round = c .before .before in
     let turn = round .before .before in
-    let start = turn .before .pre in
+    let start = turn .before .before .pre in
     omega (arith, settling-bounds (turn .loop .inv) (start .0) (round .before .loop-test .taken) (round .sift-all .ensures) .1, start .1)
 
 add-rounds : tie.Need-add-rounds Inv-loop μ-loop
@@ -51,4 +63,19 @@ returns-2 : tie.Need-returns-2 Inv-loop μ-loop
 returns-2 c = settling-limit (c .before .loop .inv) (c .loop-test .left)
 
 pub run-rounds-spec : {M : Type 1} → statement M
-run-rounds-spec = tie.close (tie.spec Inv-loop μ-loop loop-holds sift-all-requires add-reduction add-optima add-rounds returns loop-less loop-again returns-2)
+run-rounds-spec =
+    tie.close
+    (tie.spec
+    Inv-loop
+    μ-loop
+    crossings-of-requires
+    loop-holds
+    sub-crossings
+    sift-all-requires
+    add-reduction
+    add-optima
+    add-rounds
+    returns
+    loop-less
+    loop-again
+    returns-2)

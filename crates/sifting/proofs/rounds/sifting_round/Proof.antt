@@ -1,6 +1,7 @@
 use borrow.Author.Needs.{needs}
 use mathlib.Core.Path.{sym, subst}
 use lib.Dec.{T}
+use Rattle.model.specs.Layouts.{valid}
 use Rattle.model.specs.Checks.{checked, byRefusal, refusal, isValid}
 use Rattle.model.specs.Sifting.{roundOf}
 use Rattle.laws.specs.Sums.Indicators.{test-held, test-failed}
@@ -14,12 +15,20 @@ returns : tie.Need-returns
 unfolding roundOf checked byRefusal refusal isValid
 returns c = rw (test-failed (c .before .is-valid .ensures) (c .if1 .taken))
 
+accepted : (c : tie.Else1) → T (valid (c .before .before .args .l))
+accepted c = subst T (sym (test-held (c .before .is-valid .ensures) (c .if1 .left))) tt
+
+crossings-of-requires : tie.Need-crossings-of-requires
+crossings-of-requires c κs = accepted c
+
 sift-all-requires : tie.Need-sift-all-requires
-sift-all-requires c κs = subst T (sym (test-held (c .before .is-valid .ensures) (c .if1 .left))) tt
+sift-all-requires c κs = (accepted (c .before), c .crossings-of .ensures)
 
 returns-2 : tie.Need-returns-2
 unfolding roundOf checked byRefusal refusal isValid
-returns-2 c = rw (test-held (c .before .before .is-valid .ensures) (c .before .if1 .left)) (c .sift-all .ensures)
+returns-2 c =
+    let passed = c .before .before in
+    rw (test-held (passed .before .is-valid .ensures) (passed .if1 .left)) (c .sift-all .ensures)
 
 pub sifting-round-spec : {M : Type 1} → statement M
-sifting-round-spec = tie.close (tie.spec is-valid-requires returns sift-all-requires returns-2)
+sifting-round-spec = tie.close (tie.spec is-valid-requires returns crossings-of-requires sift-all-requires returns-2)

@@ -25,13 +25,19 @@ returns c =
     let u = c .before .before .args .u in
     sym (when-refused (siftChecks l u) (siftAnswer l u) (siftRefused l) (c .before .vertex-refusal .ensures) (c .if1 .taken))
 
+crossings-of-requires : tie.Need-crossings-of-requires
+crossings-of-requires c κs = checks c .0
+
 sift-vertex-requires : tie.Need-sift-vertex-requires
-sift-vertex-requires c κs = checks c
+sift-vertex-requires c κs =
+    let passed = checks (c .before) in
+    (passed .0, passed .1, c .crossings-of .ensures)
 
 returns-2 : tie.Need-returns-2
 returns-2 c =
-    let s = c .before .before .before .args in
-    c .sift-vertex .ensures ∙ sym (sift-accepted (s .l) (s .u) (checks (c .before) .0) (checks (c .before) .1))
+    let accepted = c .before .before in
+    let s = accepted .before .before .args in
+    c .sift-vertex .ensures ∙ sym (sift-accepted (s .l) (s .u) (checks accepted .0) (checks accepted .1))
 
 pub sift-spec : {M : Type 1} → statement M
-sift-spec = tie.close (tie.spec vertex-refusal-requires returns sift-vertex-requires returns-2)
+sift-spec = tie.close (tie.spec vertex-refusal-requires returns crossings-of-requires sift-vertex-requires returns-2)

@@ -5,7 +5,7 @@ use mathlib.Core.Path.{_≡_}
 use Rattle.model.specs.Layouts.{vertexOrder, crossingsOf}
 use Rattle.model.specs.Sifting.{sifted, reduction, optimaOf}
 use Rattle.laws.specs.Layouts.Recount.{drawn}
-use Rattle.sifting.specs.Walk.{Found, walk-found}
+use Rattle.walk.specs.Finding.{Found}
 use Rattle.sifting.specs.Loops.{sifted-carried, sifted-saves, sift-answered}
 use Rattle.sifting.proofs.sifts.sift_vertex.Statement.{statement}
 use Rattle.sifting.proofs.sifts.sift_vertex.Tie as tie
@@ -15,20 +15,21 @@ start c = c .before .before .before .before
 
 -- what the walk finds
 found : (c : tie.After-best-order) → let s = start c .args in Found (s .l .n) (s .l .order) (s .l .adjacency) (s .u) (c .best-order .result)
+unfolding crossingsOf vertexOrder
 found c =
     let s = start c in
-    walk-found (record { size = search needs; drawn = drawn (s .args .l) (s .pre .0); vertex = s .pre .1 }) (c .best-order .ensures)
+    c .best-order .ensures (record { size = search needs; drawn = drawn (s .args .l) (s .pre .0); vertex = s .pre .1 }) (s .pre .2)
 
 -- and what it saves
 saves : (c : tie.After-best-order)
     → let s = start c .args in
-    let best = c .best-order .result in
-    (best .after ≤ best .before) × (best .before - best .after ≡ reduction (s .l) (sifted (s .l) (s .u)))
-unfolding crossingsOf vertexOrder
+    let after = c .best-order .result .after in
+    (after ≤ s .before) × (s .before - after ≡ reduction (s .l) (sifted (s .l) (s .u)))
+unfolding vertexOrder
 saves c =
     let s = start c .args in
     let ready = start c .pre in
-    sifted-saves (s .l) (ready .0) (s .u) (ready .1) (found c .before) (found c .after)
+    sifted-saves (s .l) (ready .0) (s .u) (ready .1) (ready .2) (found c .after)
 
 best-order-requires : tie.Need-best-order-requires
 best-order-requires c κs = search needs
@@ -36,20 +37,20 @@ best-order-requires c κs = search needs
 carried-requires : tie.Need-carried-requires
 carried-requires c κs = search needs
 
-sub-t12 : tie.Need-sub-t12
-sub-t12 c = omega (arith, saves (c .before .before .before) .0)
+sub-t14 : tie.Need-sub-t14
+sub-t14 c = omega (arith, saves (c .before .before) .0)
 
 returns : tie.Need-returns
 unfolding crossingsOf vertexOrder optimaOf
 returns c =
-    let walked = c .before .before .before in
+    let walked = c .before .before in
     let s = start walked .args in
     let ready = start walked .pre in
     let best = found walked in
     sift-answered (s .l) (s .u)
-    (sifted-carried (s .l) (ready .0) (s .u) (ready .1) (best .before) (best .after) (best .order) (c .before .carried .ensures))
+    (sifted-carried (s .l) (ready .0) (s .u) (ready .1) (ready .2) (best .after) (best .order) (c .carried .ensures))
     (saves walked .1)
     (best .optima-are)
 
 pub sift-vertex-spec : {M : Type 1} → statement M
-sift-vertex-spec = tie.close (tie.spec best-order-requires carried-requires sub-t12 returns)
+sift-vertex-spec = tie.close (tie.spec best-order-requires carried-requires sub-t14 returns)
