@@ -5,12 +5,11 @@ use native.Mathlib.Omega.{arith}
 use mathlib.Core.Path.{_≡_, refl, sym, ap, ap₂, _∙_}
 use mathlib.Core.Bool.{Bool, true, false, cond, _&&_}
 use mathlib.Core.List.{List, [], _∷_, _++_, map}
-use lib.ListN.{length, getD, take, drop, set, length-append, length-drop, length-map, length-set, List·getD-append}
-use lib.Seq.{getD-take, getD-drop, getD-append-add, ext-getD, take-at, getD-set-same, getD-set-other}
+use lib.ListN.{length, getD, take, drop, length-append, length-drop, length-map, List·getD-append}
+use lib.Seq.{getD-take, getD-drop, getD-append-add, ext-getD, take-at}
 use lib.Dec.{T, eqb, ltb, leb}
 use borrow.Author.Tests.{lt-ltb, le-ltb, eq-eqb, ne-eqb}
 use Rattle.laws.specs.Layouts.Refusals.{Pair}
-use borrow.Author.Count.{below-more}
 use Rattle.model.specs.declared.Layout.{Layout}
 use Rattle.model.specs.Lists.{upto, place}
 use Rattle.model.specs.Layouts.{vertexOrder, valid, reordered}
@@ -130,35 +129,6 @@ place-missing v (x ∷ xs) zero n h = absurd (not-suc-le-zero h)
 place-missing v (x ∷ xs) (suc i) n h =
     rw (ne-eqb v x (λ d. n .1 0 (omega arith) (sym d)))
     (ap suc (place-missing v xs i (le-of-suc-le-suc (n .0), λ k l. n .1 (suc k) (suc-le-suc l)) (le-of-suc-le-suc h)))
-
--- ---- the shifted entries, written one by one
-
-pub record ShiftedUpTo (xs : List ℕ) (p q : ℕ) (ys : List ℕ) (i : ℕ) : Type 0 where
-  pub inside : i ≤ 64
-  pub size : length ys ≡ 64
-  pub written : (k : ℕ) → k < i → getD ys k 0 ≡ getD xs (movedFrom p q k) 0
-
-module _ {xs : List ℕ} {p q : ℕ} where
-  pub shifted-start : length xs ≡ 64 → ShiftedUpTo xs p q xs 0
-  shifted-start s = record { inside = omega arith; size = s; written = λ k l. absurd (not-suc-le-zero l) }
-
-  pub shifted-next : {ys : List ℕ} {i x : ℕ} → ShiftedUpTo xs p q ys i → i < 64 → x ≡ getD xs (movedFrom p q i) 0 → ShiftedUpTo xs p q (set ys i x) (i + 1)
-  shifted-next {ys} {i} {x} s h e =
-      record {
-        inside = omega arith;
-        size = length-set ys i x ∙ s .size;
-        written =
-            below-more (λ k. getD (set ys i x) k 0 ≡ getD xs (movedFrom p q k) 0) i
-            (λ k l. getD-set-other ys i k x 0 (λ d. omega arith) ∙ s .written k l)
-            (getD-set-same ys i x 0 (omega (arith, s .size)) ∙ e);
-      }
-
-  pub shifted-end : {ys : List ℕ} {i : ℕ} → ShiftedUpTo xs p q ys i → 64 ≤ i → ys ≡ shifted xs p q
-  unfolding shifted
-  shifted-end {ys} {i} s h =
-      ext-getD 0 ys (map (λ k. getD xs (movedFrom p q k) 0) (upto 64))
-      (s .size ∙ sym (length-map (upto 64) (λ k. getD xs (movedFrom p q k) 0) ∙ length-upto 64))
-      (λ k l. s .written k (omega (arith, s .size)) ∙ sym (map-upto-at (λ k. getD xs (movedFrom p q k) 0) 64 k (omega (arith, s .size))))
 
 -- the array that moving by places gives
 pub moved-array : {l : Layout} {a b : ℕ} → Pair l a b → length (l .order) ≡ 64 → {p q : ℕ} {places : List ℕ}
