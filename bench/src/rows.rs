@@ -268,29 +268,32 @@ fn appending(rows: &mut Rows) -> Outcome {
     Ok(())
 }
 
-/// Sifting 64 vertices with 1,000 edges.
+/// Sifting 64 vertices, few edges to all of them.
 fn sifting(rows: &mut Rows) -> Outcome {
-    let l = layout(64, 1000);
-    let lent = fields(&l);
-    let name = |call| format!("{call}, 64 vertices, 1000 edges");
-    rows.three(
-        &name("sift"),
-        || proved::sift(&lent, 5),
-        || baseline::sift(l, 5),
-        || calls::sift(l, 5),
-    )?;
-    rows.three(
-        &name("round"),
-        || proved::sifting_round(&lent),
-        || baseline::sifting_round(l),
-        || calls::sifting_round(l),
-    )?;
-    rows.three(
-        &name("settle with limit 50"),
-        || proved::converge(&lent, 50),
-        || baseline::converge(l, 50),
-        || calls::converge(l, 50),
-    )
+    for edges in [200, 1000, 2016] {
+        let l = layout(64, edges);
+        let lent = fields(&l);
+        let name = |call| format!("{call}, 64 vertices, {edges} edges");
+        rows.three(
+            &name("sift"),
+            || proved::sift(&lent, 5),
+            || baseline::sift(l, 5),
+            || calls::sift(l, 5),
+        )?;
+        rows.three(
+            &name("round"),
+            || proved::sifting_round(&lent),
+            || baseline::sifting_round(l),
+            || calls::sifting_round(l),
+        )?;
+        rows.three(
+            &name("settle with limit 50"),
+            || proved::converge(&lent, 50),
+            || baseline::converge(l, 50),
+            || calls::converge(l, 50),
+        )?;
+    }
+    Ok(())
 }
 
 /// A list of calls, each on what the one before it left.
