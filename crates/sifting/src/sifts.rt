@@ -47,6 +47,7 @@ pub(crate) fn sift_vertex(l: Layout, u: usize, before: u32) -> Sifted
     let best = best_order(n, places, &adjacency, u, before);
     let order = best.order;
     let after = best.after;
+    let reduction = before - after;
     let count = carried(l.count, before, after);
     let layout = Layout {
         n,
@@ -57,7 +58,7 @@ pub(crate) fn sift_vertex(l: Layout, u: usize, before: u32) -> Sifted
     Sifted {
         refusal: 0,
         layout,
-        reduction: before - after,
+        reduction,
         optima: best.optima,
     }
 }

@@ -128,7 +128,7 @@ module _ {n : ℕ} {places adj : List ℕ} {u p : ℕ} (seat : Seated n places a
           optima-are = told;
         }
 
-    -- the last candidate has the crossings of the present order, so that there is none to stay where it has fewer
+    -- the last candidate has the crossings of the present order, so that the least are no more than these
     module _ (some : 0 < n - 1) where
       at-most : kept .least ≤ before
       at-most =

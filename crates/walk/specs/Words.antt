@@ -1,7 +1,7 @@
--- What the words of a walk hold: the vertex that is sifted, the others clockwise from it, and their ranks.
+-- What the words of a walk hold: the vertex that is sifted, its neighbours, and the others clockwise from it.
 use Prim.Native.Nat.{ℕ, suc, _+_, _*_, _-_, _%_, _^_, _≤_, _<_, min, suc-le-suc}
 use native.Mathlib.Nat.{mod-eq-of-lt, lt-of-lt-of-le, min-eq-left, mul-one}
-use native.Mathlib.Decide.{ℕ-discrete, decLt}
+use native.Mathlib.Decide.{ℕ-discrete}
 use native.Mathlib.Omega.{arith}
 use mathlib.Core.Path.{_≡_, sym, ap, _∙_}
 use mathlib.Core.Bool.{Bool, true, false, cond}
@@ -10,21 +10,20 @@ use lib.ListN.{length, getD, take}
 use lib.Seq.{getD-take, take-suc}
 use lib.Bits.{bitAnd}
 use lib.Dec.{eqb, ltb}
-use lib.Pow.{ones-lt}
 use borrow.Author.Tests.{lt-ltb, le-ltb}
 use Rattle.model.specs.Lists.{sumOver, occurrences, place}
 use Rattle.model.specs.Crossings.{bit}
 use Rattle.model.specs.Edits.{withoutBit}
 use Rattle.model.specs.Sifting.{clockwiseFrom}
-use Rattle.laws.specs.Sums.Indicators.{less, same, more, order}
+use Rattle.laws.specs.Sums.Indicators.{less, same, more, order, one-ne}
 use Rattle.laws.specs.Sums.Ranges.{sum-ext}
 use Rattle.laws.specs.Sums.Lists.{All, all-mono, sumOver-ext}
-use Rattle.laws.specs.Sums.Bits.{bit-beyond, bit-and, maskedOnes, clear-same, clear-other}
-use Rattle.laws.specs.Orders.Permutations.{at, Permutation, place-at, place-below, none-beyond}
+use Rattle.laws.specs.Sums.Bits.{bit-and, maskedOnes, clear-same, clear-other}
+use Rattle.laws.specs.Orders.Permutations.{at, Permutation, place-at, place-below}
 use Rattle.laws.specs.Crossings.Edges.{weight}
-use Rattle.laws.specs.Crossings.Masks.{Holds, sum-occurrences, masked-sum, weight-bit, bit-full}
+use Rattle.laws.specs.Crossings.Masks.{Holds, sum-occurrences, masked-sum, weight-bit, holds-all}
 use Rattle.laws.specs.Layouts.Recount.{Drawn}
-use Rattle.laws.specs.Sifting.Candidates.{clockwise-occurrences, clockwise-not, clockwise-once, clockwise-others}
+use Rattle.laws.specs.Sifting.Candidates.{clockwise-occurrences, clockwise-not, clockwise-others}
 use Rattle.laws.specs.Sifting.Candidates.{clockwise-length, clockwise-behind, clockwise-before}
 use Rattle.laws.specs.Sifting.Walk.{other-at, other-once}
 use Rattle.walk.specs.declared.Vertex.{Vertex}
@@ -196,13 +195,7 @@ module _ {n : ℕ} {places adj : List ℕ} {u p : ℕ} (seat : Seated n places a
       (elim (ℕ-discrete v u) [
         | yes d ↦ rw d (clear-same (2 ^ n - 1) u ∙ sym (clockwise-not perm u below))
         | no d ↦
-            clear-other (2 ^ n - 1) u v d
-            ∙ elim (decLt v n) [
-              | yes b ↦ bit-full n v b ∙ sym (clockwise-once perm u below v b (λ e. d (sym e)))
-              | no b ↦
-                  bit-beyond n (2 ^ n - 1) v (ones-lt n) (omega arith)
-                  ∙ omega (arith, clockwise-occurrences perm u below v, none-beyond perm v (omega arith))
-            ]
+            clear-other (2 ^ n - 1) u v d ∙ holds-all perm v l ∙ omega (arith, clockwise-occurrences perm u below v, one-ne v u d)
       ])
 
   -- a set of the others counts their weights

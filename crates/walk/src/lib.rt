@@ -146,14 +146,12 @@ fn ranked(ranking: Ranking, neighbours: u64, v: usize) -> Ranking
     requires { ⌜ ranking .met ≤ 64 ⌝ }
     ensures { λ r. ⌜ r ≡ rankedNext ranking neighbours v ⌝ }
 {
-    let met = ranking.met;
+    let rank = ranking.met;
     let before = ranking.ranks;
-    let ranks = with_rank(before, v, met);
+    let ranks = with_rank(before, v, rank);
     let joined = words::bit_at(neighbours, v);
-    Ranking {
-        ranks,
-        met: met + joined,
-    }
+    let met = rank + joined;
+    Ranking { ranks, met }
 }
 
 // One more vertex v passed, whose adjacency word is given.

@@ -108,6 +108,14 @@ bit-full (suc n) (suc v) h =
 
 -- ---- an order that holds each vertex once
 
+-- all of its vertices are in the set of the n lowest
+pub holds-all : {n : ℕ} {o : List ℕ} → Permutation n o → Holds (2 ^ n - 1) o
+holds-all {n} perm v l =
+    elim (decLt v n) [
+      | yes b ↦ bit-full n v b ∙ sym (perm .once v b)
+      | no b ↦ bit-beyond n (2 ^ n - 1) v (ones-lt n) (omega arith) ∙ sym (none-beyond perm v (omega arith))
+    ]
+
 module _ (n : ℕ) (order o : List ℕ) (small : n ≤ 64) (perm : Permutation n o) (same-vertex : (j : ℕ) → j < n → vertexAt order j ≡ at o j) where
   -- the masks hold what stands before a place, and what stands from it on
   pub holds-before : (j : ℕ) → j ≤ n → Holds (maskBefore order j) (take j o)
@@ -119,14 +127,7 @@ module _ (n : ℕ) (order o : List ℕ) (small : n ≤ 64) (perm : Permutation n
 
   pub holds-from : (k : ℕ) → k ≤ n → Holds (maskFrom n order k) (drop k o)
   unfolding maskFrom
-  holds-from zero h v l =
-      elim (order? v) [
-        | yes b ↦ bit-full n v b ∙ sym (perm .once v b)
-        | no b ↦ bit-beyond n (2 ^ n - 1) v (ones-lt n) (omega arith) ∙ sym (none-beyond perm v (omega arith))
-      ]
-    where
-      order? : (v : ℕ) → Dec (v < n)
-      order? v = decLt v n
+  holds-from zero h v l = holds-all perm v l
   holds-from (suc k) h v l =
       ap (λ (x : ℕ). bit (withoutBit (maskFrom n order k) x) v) (same-vertex k h)
       ∙ elim (ℕ-discrete v (at o k)) [

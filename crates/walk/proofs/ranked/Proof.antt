@@ -11,8 +11,8 @@ with-rank-requires c κs = search needs
 bit-at-requires : tie.Need-bit-at-requires
 bit-at-requires c κs = search needs
 
-add-t8 : tie.Need-add-t8
-add-t8 c =
+add-met : tie.Need-add-met
+add-met c =
     let s = c .before .before .before in
     record { fits = omega (arith, s .pre, c .bit-at .ensures, bit-lt (s .args .neighbours) (s .args .v)) }
 
@@ -20,4 +20,4 @@ returns : tie.Need-returns
 returns c = ranked-made _ _ _ (c .before .with-rank .ensures) (c .bit-at .ensures)
 
 pub ranked-spec : {M : Type 1} → statement M
-ranked-spec = tie.close (tie.spec with-rank-requires bit-at-requires add-t8 returns)
+ranked-spec = tie.close (tie.spec with-rank-requires bit-at-requires add-met returns)

@@ -37,8 +37,8 @@ best-order-requires c κs = search needs
 carried-requires : tie.Need-carried-requires
 carried-requires c κs = search needs
 
-sub-t14 : tie.Need-sub-t14
-sub-t14 c = omega (arith, saves (c .before .before) .0)
+sub-reduction : tie.Need-sub-reduction
+sub-reduction c = omega (arith, saves (c .before) .0)
 
 returns : tie.Need-returns
 unfolding crossingsOf vertexOrder optimaOf
@@ -53,4 +53,4 @@ returns c =
     (best .optima-are)
 
 pub sift-vertex-spec : {M : Type 1} → statement M
-sift-vertex-spec = tie.close (tie.spec best-order-requires carried-requires sub-t14 returns)
+sift-vertex-spec = tie.close (tie.spec best-order-requires sub-reduction carried-requires returns)
