@@ -10,7 +10,7 @@ use mir.Syntax.{Name, Ty, tyRef, named, mut, deref, field, place, copy, rvOpd, s
 use mir.Val.{Val, vptr}
 use base.Logic.{SProp, ent, emp, via, fst∗}
 use base.Fml.{GName, fat, flft, fobs, fbor}
-use prog.Wp.{Heap, Calls, Loops, WpFn, Tables}
+use prog.Wp.{Heap, Calls, Loops, WpFn}
 use ghost.Atoms.{Atoms}
 use contract.Monad.{fact}
 use contract.Lifetimes.{Lfts, Shares, toks}

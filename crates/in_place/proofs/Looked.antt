@@ -10,7 +10,7 @@ use mir.Syntax.{Name, Ty, tyRef, named, imm, valueLocal, local, deref, place, co
 use mir.Val.{Val, vptr}
 use base.Logic.{SProp, ent, emp, via, fst∗}
 use base.Fml.{Fml, GName, Lft, Share, fat, froom, flft, fres, fshr-bor}
-use prog.Wp.{Heap, Env, Calls, Loops, WpFn, Tables, spotOf}
+use prog.Wp.{Heap, Env, Calls, Loops, WpFn, spotOf}
 use ghost.Atoms.{Atoms}
 use contract.Monad.{fact}
 use contract.Lifetimes.{Lfts, Shares, toks}

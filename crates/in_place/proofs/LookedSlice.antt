@@ -11,7 +11,7 @@ use mir.Syntax.{Name, w8, tyInt, tyRef, named, erased, mut, valueLocal, local, d
 use mir.Val.{Val, vptr, hasTy, WT}
 use base.Logic.{SProp, ent, sep, emp, via, fst∗, id⊢}
 use base.Fml.{Fml, GName, Lft, Share, ftrue, flft, fres}
-use prog.Wp.{Heap, Calls, Loops, WpFn, Tables}
+use prog.Wp.{Heap, Calls, Loops, WpFn}
 use ghost.Atoms.{Atoms, sem}
 use contract.Monad.{fact}
 use types.Kit.{Given, Item, ‵, raw, _⊛_, ⋆, some, later, mean, _$_, _∵_, !, qed, by, move, keep, drop, use1, use2, split, join, pick}

@@ -12,7 +12,7 @@ use borrow.Author.Tests.{eq-eqb, ltb-true, ltb-false}
 use Rattle.model.specs.Lists.{one, upto, any, firstWith, sumOver, All, none, also}
 use Rattle.model.specs.Sifting.{least, countWith}
 use Rattle.model.specs.Histories.{Follow, ended, next, Sift, Round, butLast}
-use Rattle.laws.specs.Sums.Indicators.{less, same, more, order, one-le, one-eq, one-ne}
+use Rattle.laws.specs.Sums.Indicators.{less, same, more, order, one-le, one-eq}
 use Rattle.laws.specs.Sums.Ranges.{term-le}
 use Rattle.laws.specs.Sums.Lists.{all-mono, all-map, all-below, sumOver-places}
 use Rattle.laws.specs.Sums.Any.{first-found}

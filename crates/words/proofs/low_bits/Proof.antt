@@ -1,5 +1,5 @@
 use borrow.Author.Needs.{needs}
-use Prim.Native.Nat.{_-_, _^_}
+use Prim.Native.Nat.{_-_}
 use native.Mathlib.Nat.{min-eq-left, min-eq-right, le-of-lt}
 use lib.Pow.{pow-pos}
 use Rattle.laws.specs.Sums.Bits.{shifted-one}

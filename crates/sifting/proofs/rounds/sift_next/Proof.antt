@@ -16,13 +16,17 @@ use Rattle.sifting.specs.Loops.{siftNext, moves-saving}
 use Rattle.sifting.proofs.rounds.sift_next.Statement.{statement}
 use Rattle.sifting.proofs.rounds.sift_next.Tie as tie
 
+-- the moments: the vertex was sifted, and the start
+abbrev sift : tie.After-moved-by → tie.After-sift-vertex
+sift c = c .before .before
+
 abbrev start : tie.After-moved-by → tie.Start
-start c = c .before .before .before .before
+start c = sift c .before .before
 
 -- the reduction of the sift, and whether it moved the vertex
 saved : (c : tie.After-moved-by)
-    → let s = start c .args in c .before .before .sift-vertex .result .reduction ≡ reduction (s .s .layout) (sifted (s .s .layout) (s .u))
-saved c = ap (λ (r : Sifted). r .reduction) (c .before .before .sift-vertex .ensures)
+    → let s = start c .args in sift c .sift-vertex .result .reduction ≡ reduction (s .s .layout) (sifted (s .s .layout) (s .u))
+saved c = ap (λ (r : Sifted). r .reduction) (sift c .sift-vertex .ensures)
 
 moved : (c : tie.After-moved-by) → let s = start c .args in c .moved-by .result ≡ one (moves (s .s .layout) (s .u))
 moved c =
@@ -62,7 +66,7 @@ add-optima c =
     omega (
       arith,
       ready .4,
-      ap (λ (r : Sifted). r .optima) (sifting .before .before .sift-vertex .ensures),
+      ap (λ (r : Sifted). r .optima) (sift sifting .sift-vertex .ensures),
       sift-few (proper-sift (s .s .layout) (ready .0) (s .u) (ready .1)),
     )
 
@@ -73,7 +77,7 @@ returns c =
     let s = start sifting .args .s in
     ap₂ (λ (r : Sifted) (k : ℕ).
     record { refusal = 0; layout = r .layout; reduction = s .reduction + r .reduction; moved = s .moved + k; optima = s .optima + r .optima })
-    (sifting .before .before .sift-vertex .ensures) (moved sifting)
+    (sift sifting .sift-vertex .ensures) (moved sifting)
 
 pub sift-next-spec : {M : Type 1} → statement M
 sift-next-spec = tie.close (tie.spec sift-vertex-requires moved-by-requires add-reduction add-moved add-optima returns)
