@@ -145,7 +145,7 @@ unfolding least
 least-over f d k e [] h l = h
 least-over f d k e (x ∷ xs) h l = le-min (l 0 (omega arith)) (least-over f d k e xs h (λ i b. l (suc i) (suc-le-suc b)))
 
--- cs are the candidates and o the present order, which has as many crossings as the last of them
+-- cs are the candidates; d stands for those beyond the last
 module _ {A : Type 0} (f : A → ℕ) (cs : List A) (d : A) {kept : Kept} (s : KeptOf (λ i. f (getD cs i d)) (length cs) kept) where
   pub number-kept : kept .optima ≡ countWith f (kept .least) cs
   unfolding countWith
