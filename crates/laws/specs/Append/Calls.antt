@@ -12,12 +12,12 @@ use Rattle.model.specs.declared.Layout.{Layout}
 use Rattle.model.specs.declared.Appended.{Appended}
 use Rattle.model.specs.Lists.{sumOver}
 use Rattle.model.specs.Crossings.{crossings}
-use Rattle.model.specs.Layouts.{crossingsOf, valid, reordered}
+use Rattle.model.specs.Layouts.{vertexOrder, crossingsOf, valid, carried, changed, reordered}
 use Rattle.model.specs.Checks.{refusal, isValid, isVertex}
 use Rattle.model.specs.GreedyAppend.{unplaced, waiting, isolated, hasEdges, degreeIn, nextVertex, closing, open′, frontCrossings, backCrossings}
 use Rattle.model.specs.GreedyAppend.{Placing, alone, placeFront, placeBack, placeVertex, placeMore, placeAtBack, placeLinked, placeAll}
 use Rattle.model.specs.GreedyAppend.{formerPlaceAll, layChecks, layAnswer, layRefused, layOf}
-use Rattle.laws.specs.Sums.Lists.{All, none, also, all-mono, keep-split}
+use Rattle.laws.specs.Sums.Lists.{All, none, also, keep-split}
 use Rattle.laws.specs.Orders.Permutations.{Permutation}
 use Rattle.laws.specs.Sums.Pairs.{Symmetric}
 use Rattle.laws.specs.Crossings.Counting.{crossingSum, placed}
@@ -28,8 +28,8 @@ use Rattle.laws.specs.Layouts.Refusals.{checked-either, vertex-passed, a
 use Rattle.laws.specs.Layouts.Reordering.{reordered-crossings, reordered-valid, Keeps, same-keeps, changed-keeps}
 use Rattle.laws.specs.Append.Order.{Placed, placed-start, placed-back, placed-front, placed-all, placed-count, all-placed}
 use Rattle.laws.specs.Append.Order.{Waiting, all-waiting, next-waiting, waiting-less, waiting-rest, waiting-others}
-use Rattle.laws.specs.Append.Order.{unplacedBut, unplaced-front, unplaced-back, sumOver-but}
-use Rattle.laws.specs.Append.Crossings.{crossingsMet, Closing, met-start, met-back, met-front, met-finished}
+use Rattle.laws.specs.Append.Order.{unplacedBut, unplaced-front, unplaced-back}
+use Rattle.laws.specs.Append.Crossings.{crossingsMet, met-start, met-back, met-front, closing-edges, met-finished}
 
 -- the edges from b to the vertices us
 abbrev pub openTo : List ℕ → List ℕ → ℕ → ℕ
@@ -62,7 +62,7 @@ module _ (n : ℕ) (adj : List ℕ) where
     pub size : length (s .placed) ≡ m
     pub tallied : s .tally ≡ crossingsMet (weight adj) (openTo adj (unplaced n (s .placed))) (s .placed)
 
-  laid-start : (s : ℕ) → s < n → Laid 1 (alone s)
+  pub laid-start : (s : ℕ) → s < n → Laid 1 (alone s)
   unfolding alone
   laid-start s h = record { order = placed-start h; size = refl; tallied = sym (met-start (weight adj) (openTo adj (unplaced n (s ∷ []))) s) }
 
@@ -81,46 +81,37 @@ module _ {n : ℕ} {adj : List ℕ} {s : Placing} (laid : Laid n adj n s) where
 
 module _ {n : ℕ} (adj : List ℕ) (symmetry : Symmetric n (weight adj)) where
   module _ {m : ℕ} {s : Placing} (laid : Laid n adj m s) {p : ℕ → Bool} {v : ℕ} (w : Waiting n p (s .placed) v) where
-    -- the edges that v closes
-    closing-edges : All (Closing (weight adj) v (openTo adj (unplaced n (s .placed))) (openTo adj (unplacedBut n (s .placed) v))) (s .placed)
-    unfolding degreeIn
-    closing-edges =
-        all-mono (laid .order .below)
-        (λ b l.
-        record {
-          same = symmetry .swap v b (w .below) l;
-          opened =
-              sumOver-but n (s .placed) v (weight adj b) (w .below) (w .free)
-              ∙ ap (λ (x : ℕ). sumOver (weight adj b) (unplacedBut n (s .placed) v) + x) (symmetry .swap b v l (w .below));
-        })
-
     -- one vertex more, at either end
     laid-front : Laid n adj (suc m) (placeFront n adj s v)
-    unfolding placeFront frontCrossings closing open′
+    unfolding placeFront frontCrossings closing open′ degreeIn
     laid-front =
         record {
           order = placed-front (laid .order) (w .below) (w .free);
           size = ap suc (laid .size);
           tallied =
               ap (λ (t : ℕ). t + frontCrossings n adj (s .placed) v) (laid .tallied)
-              ∙ sym (met-front (weight adj) v (openTo adj (unplaced n (s .placed))) (openTo adj (unplacedBut n (s .placed) v)) closing-edges)
+              ∙ sym
+              (met-front (weight adj) v (openTo adj (unplaced n (s .placed))) (openTo adj (unplacedBut n (s .placed) v))
+              (closing-edges symmetry (w .below) (w .free) (laid .order .below)))
               ∙ ap (λ (us : List ℕ). crossingsMet (weight adj) (openTo adj us) (v ∷ s .placed)) (sym (unplaced-front n (s .placed) v));
         }
 
     laid-back : Laid n adj (suc m) (placeBack n adj s v)
-    unfolding placeBack backCrossings closing open′
+    unfolding placeBack backCrossings closing open′ degreeIn
     laid-back =
         record {
           order = placed-back (laid .order) (w .below) (w .free);
           size = length-append (s .placed) (v ∷ []) ∙ omega (arith, laid .size);
           tallied =
               ap (λ (t : ℕ). t + backCrossings n adj (s .placed) v) (laid .tallied)
-              ∙ sym (met-back (weight adj) v (openTo adj (unplaced n (s .placed))) (openTo adj (unplacedBut n (s .placed) v)) closing-edges)
+              ∙ sym
+              (met-back (weight adj) v (openTo adj (unplaced n (s .placed))) (openTo adj (unplacedBut n (s .placed) v))
+              (closing-edges symmetry (w .below) (w .free) (laid .order .below)))
               ∙ ap (λ (us : List ℕ). crossingsMet (weight adj) (openTo adj us) (s .placed ++ (v ∷ []))) (sym (unplaced-back n (s .placed) v));
         }
 
   -- k steps place k more of those that pass
-  laid-more : (p : ℕ → Bool) (k : ℕ) {m : ℕ} {s : Placing} → k ≤ length (waiting n p (s .placed)) → Laid n adj m s
+  pub laid-more : (p : ℕ → Bool) (k : ℕ) {m : ℕ} {s : Placing} → k ≤ length (waiting n p (s .placed)) → Laid n adj m s
       → Laid n adj (m + k) (placeMore n adj p k s) × (length (waiting n p (placeMore n adj p k s .placed)) + k ≡ length (waiting n p (s .placed)))
   unfolding placeMore
   laid-more p zero {m} {s} h laid = (subst (λ (j : ℕ). Laid n adj j s) (omega arith) laid, omega arith)
@@ -193,14 +184,24 @@ module _ (l : Layout) (s : ℕ) where
     pub lay-valid : T (valid (reordered l (laidOut .placed)))
     lay-valid = reordered-valid l (laidOut .placed) t lay-permutation
 
-    pub lay-crossings : laidOut .tally ≡ crossingsOf (reordered l (laidOut .placed))
-    lay-crossings =
-        let symmetry = sound l t .symmetry in
-        laid-tally (laid-all (l .adjacency) symmetry s h) symmetry ∙ sym (reordered-crossings l (laidOut .placed) (lay-permutation .size))
+    -- the tally is the crossings of the list, and so of the layout with this order
+    pub lay-met : laidOut .tally ≡ crossings (l .n) (laidOut .placed) (l .adjacency)
+    lay-met = let symmetry = sound l t .symmetry in laid-tally (laid-all (l .adjacency) symmetry s h) symmetry
 
-  -- the tally of an accepted lay is the crossings of its layout
-  pub lay-tally : layOf l s .refusal ≡ 0 → layOf l s .tally ≡ crossingsOf (layOf l s .layout)
-  lay-tally e = let passed = lay-passed e in rw (lay-accepted (passed .0) (passed .1)) (lay-crossings (passed .0) (passed .1))
+    pub lay-crossings : laidOut .tally ≡ crossingsOf (reordered l (laidOut .placed))
+    lay-crossings = lay-met ∙ sym (reordered-crossings l (laidOut .placed) (lay-permutation .size))
+
+  module _ (e : layOf l s .refusal ≡ 0) where
+    -- the tally of an accepted lay is the crossings of the layout that it returns, isolated vertices included (document 02, Note 6)
+    pub lay-tally : layOf l s .tally ≡ crossingsOf (layOf l s .layout)
+    lay-tally = let passed = lay-passed e in rw (lay-accepted (passed .0) (passed .1)) (lay-crossings (passed .0) (passed .1))
+
+    -- so the carried count changes by the tally less the crossings before
+    pub lay-count : layOf l s .layout .count ≡ carried (l .count) (crossingsOf l) (layOf l s .tally)
+    unfolding reordered changed crossingsOf vertexOrder
+    lay-count =
+        let passed = lay-passed e in
+        rw (lay-accepted (passed .0) (passed .1)) (ap (carried (l .count) (crossingsOf l)) (sym (lay-crossings (passed .0) (passed .1))))
 
   pub lay-keeps : Keeps l (layOf l s .layout)
   unfolding reordered

@@ -1,14 +1,17 @@
 -- Greedy append, exactly: what a vertex put at an end of the list adds to the crossings met so far. Over any weight of the edges.
-use Prim.Native.Nat.{ℕ, _+_, _*_}
+use Prim.Native.Nat.{ℕ, _+_, _*_, _<_}
 use native.Mathlib.Nat.{mul-zero, mul-comm}
 use native.Mathlib.Omega.{arith}
-use mathlib.Core.Path.{_≡_, refl, _∙_}
+use mathlib.Core.Path.{_≡_, refl, ap, _∙_}
 use mathlib.Core.List.{List, [], _∷_, _++_}
 use lib.ListN.{length}
-use Rattle.model.specs.Lists.{sumOver, sumPairs}
-use Rattle.laws.specs.Sums.Lists.{All, sumPairs-ext}
+use Rattle.model.specs.Lists.{sumOver, sumPairs, occurrences}
+use Rattle.model.specs.GreedyAppend.{unplaced}
+use Rattle.laws.specs.Sums.Lists.{All, all-mono, sumPairs-ext}
+use Rattle.laws.specs.Sums.Pairs.{Symmetric}
 use Rattle.laws.specs.Crossings.Counting.{crossingSum, placed}
 use Rattle.laws.specs.Crossings.Lists.{sumTriples, sumQuads, triples-last, quads-last, sumTriples-ext, sumTriples-add, closedCrossings, closed-crossings}
+use Rattle.laws.specs.Append.Order.{unplacedBut, sumOver-but}
 
 -- the crossings of the edges between vertices of a list, and of these edges with open ones: ω b is the weight of the open edges at b, whose other ends
 -- are still to come and will stand outside the list
@@ -50,6 +53,17 @@ module _ (W : ℕ → ℕ → ℕ) where
     met-front =
         rw opened-sum
         (omega (arith, sumTriples-ext (λ a b c. W v b * W a c) (λ a b c. W a c * W v b) closing (λ a b c p q r. mul-comm (W v b) (W a c))))
+
+-- before v is placed the edges to it are open, and then those to the others alone
+pub closing-edges : {n : ℕ} {W : ℕ → ℕ → ℕ} → Symmetric n W → {v : ℕ} {xs : List ℕ} → v < n → occurrences v xs ≡ 0 → All (λ x. x < n) xs
+    → All (Closing W v (λ b. sumOver (W b) (unplaced n xs)) (λ b. sumOver (W b) (unplacedBut n xs v))) xs
+closing-edges {n} {W} symmetry {v} {xs} h free below =
+    all-mono below
+    (λ b l.
+    record {
+      same = symmetry .swap v b h l;
+      opened = sumOver-but n xs v (W b) h free ∙ ap (λ (k : ℕ). sumOver (W b) (unplacedBut n xs v) + k) (symmetry .swap b v l h);
+    })
 
 -- once no edge is open, the crossings met are those of the list
 pub met-finished : (W : ℕ → ℕ → ℕ) (ω : ℕ → ℕ) (xs : List ℕ) → ((b : ℕ) → ω b ≡ 0) → crossingsMet W ω xs ≡ crossingSum (length xs) (placed xs W)

@@ -65,7 +65,7 @@ module _ {n : ℕ} {xs : List ℕ} (p : Placed n xs) where
 -- ---- the vertices that are not placed yet
 
 -- what does not occur is no entry
-not-member : (v : ℕ) (xs : List ℕ) → occurrences v xs ≡ 0 → member v xs ≡ false
+pub not-member : (v : ℕ) (xs : List ℕ) → occurrences v xs ≡ 0 → member v xs ≡ false
 not-member v xs e = member-occurs v xs ∙ le-ltb 0 (occurrences v xs) (omega arith)
 
 module _ (n : ℕ) (xs : List ℕ) where

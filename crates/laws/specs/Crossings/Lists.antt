@@ -47,6 +47,13 @@ module _ {A : Type 0} where
   sumTriples-ext f g (also {x} p ps) h =
       ap₂ (λ (a b : ℕ). a + b) (sumPairs-ext (f x) (g x) ps (λ y z. h x y z p)) (sumTriples-ext f g ps h)
 
+  pub sumQuads-ext : {P : A → Type 0} (f g : A → A → A → A → ℕ) {xs : List A} → All P xs
+      → ((w x y z : A) → P w → P x → P y → P z → f w x y z ≡ g w x y z) → sumQuads f xs ≡ sumQuads g xs
+  unfolding sumQuads
+  sumQuads-ext f g none h = refl
+  sumQuads-ext f g (also {x} p ps) h =
+      ap₂ (λ (a b : ℕ). a + b) (sumTriples-ext (f x) (g x) ps (λ y z w. h x y z w p)) (sumQuads-ext f g ps h)
+
   sumPairs-add : (f g : A → A → ℕ) (xs : List A) → sumPairs (λ x y. f x y + g x y) xs ≡ sumPairs f xs + sumPairs g xs
   unfolding sumPairs
   sumPairs-add f g [] = refl
@@ -56,6 +63,11 @@ module _ {A : Type 0} where
   unfolding sumTriples
   sumTriples-add f g [] = refl
   sumTriples-add f g (x ∷ xs) = rw (sumPairs-add (f x) (g x) xs, sumTriples-add f g xs) (omega arith)
+
+  pub sumQuads-add : (f g : A → A → A → A → ℕ) (xs : List A) → sumQuads (λ w x y z. f w x y z + g w x y z) xs ≡ sumQuads f xs + sumQuads g xs
+  unfolding sumQuads
+  sumQuads-add f g [] = refl
+  sumQuads-add f g (x ∷ xs) = rw (sumTriples-add (f x) (g x) xs, sumQuads-add f g xs) (omega arith)
 
 -- the crossings of the edges between vertices of a list, W their weights
 unfoldable pub closedCrossings : (ℕ → ℕ → ℕ) → List ℕ → ℕ

@@ -183,6 +183,10 @@ module _ {n : ℕ} {o : List ℕ} (perm : Permutation n o) where
       gather : (i : ℕ) → i < n → sum n (λ v. f v * one (eqb v (at o i))) ≡ f (at o i)
       gather i h = sum-at-right n (at o i) f (at-lt i h)
 
+  -- over the entries of the list
+  pub order-sum : (f : ℕ → ℕ) → sumOver f (upto n) ≡ sumOver f o
+  order-sum f = sumOver-upto f n ∙ sum-vertices f ∙ sym (sumOver-places f 0 o ∙ ap (λ (k : ℕ). sum k (λ i. f (at o i))) (perm .size))
+
   pub from-next : (j : ℕ) → j < n → (v : ℕ) → occurrences v (drop j o) ≡ one (eqb v (at o j)) + occurrences v (drop (suc j) o)
   from-next j h v = ap (occurrences v) (drop-cons o j 0 (omega (arith, perm .size))) ∙ occurrences-cons v (at o j) (drop (suc j) o)
 

@@ -16,9 +16,8 @@ use Rattle.model.specs.Layouts.{vertexOrder, crossingsOf, valid, changed, reord
 use Rattle.model.specs.Edits.{movedAfter, moveOf}
 use Rattle.model.specs.Sifting.{clockwiseFrom, countWith, sifted, optimaOf, siftAll, siftRound, afterRound, stopped, roundsUpTo}
 use Rattle.model.specs.Histories.{Sift, siftOn, siftsFrom, placesWith}
-use Rattle.laws.specs.Sums.Ranges.{sum}
-use Rattle.laws.specs.Sums.Lists.{All, all-mono, all-upto, length-upto, sumOver-ext, sumOver-map, sumOver-most, sumOver-places, sumOver-upto, all-at}
-use Rattle.laws.specs.Orders.Permutations.{at, Permutation, sum-vertices}
+use Rattle.laws.specs.Sums.Lists.{All, all-mono, all-upto, length-upto, sumOver-ext, sumOver-map, sumOver-most, all-at}
+use Rattle.laws.specs.Orders.Permutations.{at, Permutation, order-sum}
 use Rattle.laws.specs.Layouts.Validity.{sound}
 use Rattle.laws.specs.Layouts.Reordering.{move-crossings}
 use Rattle.laws.specs.Sifting.LocalSearch.{least-stays, none-less, sift-best, sift-most, sift-some}
@@ -26,11 +25,6 @@ use Rattle.laws.specs.Sifting.Candidates.{clockwise-sum, clockwise-other
 use Rattle.laws.specs.Sifting.Walk.{last-stays}
 use Rattle.laws.specs.Sifting.Rounds.{candidateLayouts, vertices, Valid, ProperSift, to-moves, sifts-vertices, sifts-optima, sifts-proper}
 use Rattle.laws.specs.Sifting.Rounds.{proper-sift, round-reduced}
-
--- a sum over the vertices is that over an order that holds each once
-order-sum : {n : ℕ} {o : List ℕ} → Permutation n o → (f : ℕ → ℕ) → sumOver f (upto n) ≡ sumOver f o
-order-sum {n} {o} perm f =
-    sumOver-upto f n ∙ sum-vertices perm f ∙ sym (sumOver-places f 0 o ∙ ap (λ (k : ℕ). sum k (λ i. f (at o i))) (perm .size))
 
 module _ {x : Sift Layout} (p : ProperSift x) where
   -- the layout with the vertex moved behind v, and the vertices that it can be moved behind
