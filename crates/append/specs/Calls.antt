@@ -4,18 +4,19 @@ use native.Mathlib.Nat.{lt-of-lt-of-le}
 use native.Mathlib.Omega.{arith}
 use mathlib.Core.Path.{_≡_, sym, ap, _∙_, subst}
 use mathlib.Core.List.{List, _++_}
-use lib.ListN.{drop}
+use lib.ListN.{take, drop}
 use lib.Seq.{take-at}
 use lib.Dec.{T}
 use Rattle.model.specs.declared.Layout.{Layout}
+use Rattle.model.specs.Crossings.{crossings}
 use Rattle.model.specs.Layouts.{valid, reordered}
 use Rattle.model.specs.GreedyAppend.{Placing, unplaced, waiting, isolated, hasEdges, placeAtBack, placeAll, layAnswer}
 use Rattle.laws.specs.Sums.Lists.{keep-split, keep-whole}
 use Rattle.laws.specs.Orders.Permutations.{Permutation}
 use Rattle.laws.specs.Layouts.Validity.{sound}
-use Rattle.laws.specs.Layouts.Recount.{Drawn, recounted, recounted-changed}
+use Rattle.laws.specs.Layouts.Recount.{carriedTo, carried-changed}
 use Rattle.laws.specs.Append.Isolated.{isolated-at-back}
-use Rattle.laws.specs.Append.Calls.{lay-permutation}
+use Rattle.laws.specs.Append.Calls.{lay-permutation, lay-met}
 use Rattle.line.specs.declared.Line.{Line}
 use Rattle.append.specs.declared.steps.Partial.{Partial}
 use Rattle.line.specs.Lines.{entries, entries-length, restOf, writtenOver, over-start}
@@ -69,22 +70,20 @@ module _ (l : Layout) (s : ℕ) (t : T (valid l)) (h : s < l .n) {r : Partial} (
       let size = sym (entries-length centred) ∙ permutation .size in
       over-start centred (l .order) ∙ ap (λ (k : ℕ). laid ++ drop k (l .order)) size
 
-  laid-drawn : Drawn (l .n) laid-order (l .adjacency)
+  -- the tally is its crossings
+  laid-crossings : r .tally ≡ crossings (l .n) (take (l .n) laid-order) (l .adjacency)
   unfolding laid-order
-  laid-drawn =
-      record {
-        small = sound l t .small;
-        permutation = rw (take-at laid (drop (l .n) (l .order)) (l .n) (permutation .size)) permutation;
-        symmetry = sound l t .symmetry;
-      }
+  laid-crossings =
+      rw (take-at laid (drop (l .n) (l .order)) (l .n) (permutation .size))
+      (subst (λ (x : Placing). x .tally ≡ crossings (l .n) (x .placed) (l .adjacency)) (sym (all-placed (sound l t .small) linked)) (lay-met l s t h))
 
   pub laid-right : {last : Line} {order : List ℕ} {m : Layout} → last ≡ restOf (r .line) (r .placed) (l .n) → order ≡ writtenOver last (l .order)
-      → m ≡ recounted l (l .n) order (l .adjacency)
+      → m ≡ carriedTo l (l .n) order (l .adjacency) (r .tally)
       → record { refusal = 0; layout = m; tally = r .tally } ≡ layAnswer l (placeAll (l .n) (l .adjacency) s)
   unfolding reordered laid-order
   laid-right {last} {order} {m} filled e c =
       ap (λ (k : Layout). record { refusal = 0; layout = k; tally = r .tally })
       (c
-      ∙ ap (λ (o : List ℕ). recounted l (l .n) o (l .adjacency)) (e ∙ ap (λ (x : Line). writtenOver x (l .order)) filled ∙ laid-written)
-      ∙ recounted-changed l (l .n) laid-order (l .adjacency) t laid-drawn)
+      ∙ ap (λ (o : List ℕ). carriedTo l (l .n) o (l .adjacency) (r .tally)) (e ∙ ap (λ (x : Line). writtenOver x (l .order)) filled ∙ laid-written)
+      ∙ carried-changed l (l .n) laid-order (l .adjacency) t laid-crossings)
       ∙ ap (layAnswer l) (all-placed (sound l t .small) linked)

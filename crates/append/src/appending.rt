@@ -5,7 +5,7 @@ ghost use lib.Dec.{T};
 ghost use Rattle.model.specs.Layouts.{valid};
 ghost use Rattle.model.specs.GreedyAppend.{placeAll, layAnswer, layOf};
 use super::steps::place_linked;
-use carrying::recounted;
+use carrying::carried_to;
 use line::put_rest;
 use line::written;
 use model::Appended;
@@ -38,9 +38,12 @@ fn append_from(l: Layout, s: usize) -> Appended
     let linked = place_linked(n, &adjacency, s);
     let line = put_rest(n, linked.line, linked.placed);
     let order = written(line, before);
+    // the tally is the crossings of the laid order (document 02, Note 6), so that only those before
+    // are counted
+    let tally = linked.tally;
     Appended {
         refusal: 0,
-        layout: recounted(l, n, order, adjacency),
-        tally: linked.tally,
+        layout: carried_to(l, n, order, adjacency, tally),
+        tally,
     }
 }

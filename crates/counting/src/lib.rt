@@ -6,6 +6,17 @@ ghost use Prim.Native.Nat.{suc, _*_, _≤_, _<_};
 ghost use lib.Dec.{leb};
 ghost use Rattle.laws.specs.Sums.Bits.{maskedOnes};
 ghost use Rattle.laws.specs.Crossings.Masks.{vertexAt, wordAt, maskBefore, maskFrom, countRow, countOn};
+ghost use Rattle.laws.specs.Layouts.Recount.{counted};
+use model::Layout;
+
+// The crossings of a valid layout.
+pub fn crossings_of(l: Layout) -> u32
+    ensures { λ r. ⌜ r ≡ counted (l .n) (l .order) (l .adjacency) ⌝ }
+{
+    let order = l.order;
+    let adjacency = l.adjacency;
+    count_crossings(l.n, &order, &adjacency)
+}
 
 // Of a valid layout these are its crossings; for any other bytes it is the same formula, with places
 // of the order taken modulo 64.

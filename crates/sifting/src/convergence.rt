@@ -5,7 +5,7 @@ ghost use lib.Dec.{T};
 ghost use Rattle.model.specs.Layouts.{valid};
 ghost use Rattle.model.specs.Sifting.{settleOf, roundsUpTo};
 use super::rounds::sift_all;
-use super::sifts::crossings_of;
+use counting::crossings_of;
 use model::Converged;
 use model::Layout;
 use validity::limit_refusal;

@@ -5,7 +5,7 @@ ghost use lib.Dec.{T};
 ghost use Rattle.model.specs.Layouts.{valid, crossingsOf};
 ghost use Rattle.model.specs.Sifting.{siftAnswer, siftOf};
 use carrying::carried;
-use counting::count_crossings;
+use counting::crossings_of;
 use model::Layout;
 use model::Sifted;
 use validity::vertex_refusal;
@@ -23,17 +23,8 @@ pub fn sift(l: Layout, u: usize) -> Sifted
             optima: 0,
         };
     }
+    // counted from nothing, once for a sift, a round or a settling
     sift_vertex(l, u, crossings_of(l))
-}
-
-// The crossings of a valid layout, counted from nothing: once for a sift, a round or a settling.
-pub(crate) fn crossings_of(l: Layout) -> u32
-    requires { ⌜ T (valid l) ⌝ }
-    ensures { λ r. ⌜ r ≡ crossingsOf l ⌝ }
-{
-    let order = l.order;
-    let adjacency = l.adjacency;
-    count_crossings(l.n, &order, &adjacency)
 }
 
 // A sift whose checks have passed, of a layout whose crossings are known.

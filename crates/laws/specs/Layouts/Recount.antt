@@ -40,21 +40,35 @@ counted-crossings {n} {order} {adj} d =
     (λ j h. ap (λ (x : ℕ). x % 64) (sym (getD-take n order j 0 h)) ∙ mod-eq-of-lt (lt-of-lt-of-le (at-lt (d .permutation) j h) (d .small)))
     adj (d .symmetry))
 
--- a layout changed and its count carried on, by the counter's answers
-unfoldable pub recounted : Layout → ℕ → List ℕ → List ℕ → Layout
-recounted l n order adj =
+-- of a valid layout, its crossings
+pub counted-valid : (l : Layout) → T (valid l) → counted (l .n) (l .order) (l .adjacency) ≡ crossingsOf l
+unfolding crossingsOf vertexOrder
+counted-valid l t = counted-crossings (drawn l t)
+
+-- a layout changed and its count carried on to so many crossings, those before the change by the counter's answer
+unfoldable pub carriedTo : Layout → ℕ → List ℕ → List ℕ → ℕ → Layout
+carriedTo l n order adj after =
     record {
       n = n;
       order = order;
       adjacency = adj;
-      count = carried (l .count) (counted (l .n) (l .order) (l .adjacency)) (counted n order adj);
+      count = carried (l .count) (counted (l .n) (l .order) (l .adjacency)) after;
     }
 
+-- if these are the crossings of the changed layout, it is that of the definition
+pub carried-changed : (l : Layout) (n : ℕ) (order adj : List ℕ) {after : ℕ} → T (valid l) → after ≡ crossings n (take n order) adj
+    → carriedTo l n order adj after ≡ changed l n order adj
+unfolding carriedTo changed
+carried-changed l n order adj t right =
+    ap₂ (λ (x y : ℕ). record { n = n; order = order; adjacency = adj; count = carried (l .count) x y }) (counted-valid l t) right
+
+-- those after it counted too
+unfoldable pub recounted : Layout → ℕ → List ℕ → List ℕ → Layout
+recounted l n order adj = carriedTo l n order adj (counted n order adj)
+
 pub recounted-changed : (l : Layout) (n : ℕ) (order adj : List ℕ) → T (valid l) → Drawn n order adj → recounted l n order adj ≡ changed l n order adj
-unfolding recounted changed crossingsOf vertexOrder
-recounted-changed l n order adj t d =
-    ap₂ (λ (x y : ℕ). record { n = n; order = order; adjacency = adj; count = carried (l .count) x y })
-    (counted-crossings (drawn l t)) (counted-crossings d)
+unfolding recounted
+recounted-changed l n order adj t d = carried-changed l n order adj t (counted-crossings d)
 
 -- wrapping add and subtract carry the count on
 pub carried-wrapping : (count before after sum difference : ℕ) → before < modulus → difference < modulus

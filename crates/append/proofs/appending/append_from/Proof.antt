@@ -18,8 +18,8 @@ put-rest-requires c κs = search needs
 written-requires : tie.Need-written-requires
 written-requires c κs = search needs
 
-recounted-requires : tie.Need-recounted-requires
-recounted-requires c κs = search needs
+carried-to-requires : tie.Need-carried-to-requires
+carried-to-requires c κs = search needs
 
 returns : tie.Need-returns
 returns c =
@@ -28,8 +28,8 @@ returns c =
     let linked = filled .before in
     let s = start linked in
     laid-right (s .args .l) (s .args .s) (s .pre .0) (s .pre .1) (linked .place-linked .ensures) (filled .put-rest .ensures)
-    (ordered .written .ensures) (c .recounted .ensures)
+    (ordered .written .ensures) (c .carried-to .ensures)
 
 pub append-from-spec : {M : Type 1} → statement M
 append-from-spec =
-    tie.close (tie.spec place-linked-requires put-rest-requires written-requires recounted-requires returns)
+    tie.close (tie.spec place-linked-requires put-rest-requires written-requires carried-to-requires returns)

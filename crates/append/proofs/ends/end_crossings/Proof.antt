@@ -27,7 +27,7 @@ inside c = omega (arith, entries-length (start c .pre .0), c .loop-test .taken)
 
 entry : (c : tie.In-loop Inv-loop μ-loop)
     → let l = start c .args .l in getD (l .places) (l .first + c .before .loop .i) 0 ≡ getD (entries l) (c .before .loop .i) 0
-entry c = entry-at (start c .args .l) (c .before .loop .i) (c .loop-test .taken)
+entry c = entry-at (start c .args .l) (c .before .loop .i) (omega (arith, c .loop-test .taken))
 
 vertex : (c : tie.In-loop Inv-loop μ-loop) → let l = start c .args .l in getD (l .places) (l .first + c .before .loop .i) 0 < 64
 vertex c = rw (entry c) (all-at 0 (start c .pre .1) (c .before .loop .i) (inside c))

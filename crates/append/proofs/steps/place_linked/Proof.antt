@@ -1,4 +1,4 @@
-use Prim.Native.Nat.{_-_}
+use Prim.Native.Nat.{_-_, _<_}
 use native.Mathlib.Omega.{arith}
 use borrow.Author.Tests.{le-leb}
 use Rattle.laws.specs.Sums.Bits.{set-within}
@@ -33,8 +33,12 @@ loop-holds c =
 abbrev start : tie.At-loop Inv-loop μ-loop → tie.Start Inv-loop μ-loop
 start c = c .before .before .before .before
 
+-- a turn has a vertex to place
+vertex : (c : tie.In-loop Inv-loop μ-loop) → c .before .loop .v < start (c .before) .args .n
+vertex c = omega (arith, c .loop-test .taken)
+
 place-requires : tie.Need-place-requires Inv-loop μ-loop
-place-requires c κs = next-fits (start (c .before) .pre .0) (c .before .loop .inv) (c .loop-test .taken)
+place-requires c κs = next-fits (start (c .before) .pre .0) (c .before .loop .inv) (vertex c)
 
 next-vertex-requires-2 : tie.Need-next-vertex-requires-2 Inv-loop μ-loop
 next-vertex-requires-2 c κs = tt
@@ -42,17 +46,17 @@ next-vertex-requires-2 c κs = tt
 loop-less : tie.Need-loop-less Inv-loop μ-loop
 loop-less c =
     let turn = c .before .before in
-    let less = place-less (start (turn .before) .pre .0) (turn .before .loop .inv) (turn .loop-test .taken) (c .before .place .ensures) in
+    let less = place-less (start (turn .before) .pre .0) (turn .before .loop .inv) (vertex turn) (c .before .place .ensures) in
     omega (arith, less .0, less .1)
 
 loop-again : tie.Need-loop-again Inv-loop μ-loop
 loop-again c =
     let turn = c .before .before in
-    place-next (start (turn .before) .pre .0) (turn .before .loop .inv) (turn .loop-test .taken) (c .before .place .ensures)
+    place-next (start (turn .before) .pre .0) (turn .before .loop .inv) (vertex turn) (c .before .place .ensures)
     (rw (le-leb _ 64 (start (turn .before) .pre .0 .small)) at (c .next-vertex2 .ensures))
 
 returns : tie.Need-returns Inv-loop μ-loop
-returns c = place-end (start (c .before) .pre .0) (c .before .loop .inv) (c .loop-test .left)
+returns c = place-end (start (c .before) .pre .0) (c .before .loop .inv) (omega (arith, c .loop-test .left))
 
 pub place-linked-spec : {M : Type 1} → statement M
 place-linked-spec =

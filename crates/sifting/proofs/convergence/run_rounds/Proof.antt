@@ -1,5 +1,8 @@
 use Prim.Native.Nat.{_-_}
 use native.Mathlib.Omega.{arith}
+use mathlib.Core.Path.{_≡_, _∙_}
+use Rattle.model.specs.Layouts.{crossingsOf}
+use Rattle.laws.specs.Layouts.Recount.{counted-valid}
 use Rattle.sifting.specs.Loops.{SettlingUpTo, settling-start, settling-next, settling-still, settling-limit, settling-bounds}
 use Rattle.sifting.proofs.convergence.run_rounds.Statement.{statement}
 use Rattle.sifting.proofs.convergence.run_rounds.Tie as tie
@@ -16,17 +19,21 @@ loop-holds c =
     settling-start (start .args .l) (start .args .limit) (start .pre .0)
 
 crossings-of-requires : tie.Need-crossings-of-requires Inv-loop μ-loop
-crossings-of-requires c κs = c .pre .0
+crossings-of-requires c κs = tt
+
+-- what is counted before the first round
+crossings-before : (c : tie.After-crossings-of Inv-loop μ-loop) → c .crossings-of .result ≡ crossingsOf (c .before .args .l)
+crossings-before c = c .crossings-of .ensures ∙ counted-valid _ (c .before .pre .0)
 
 sub-crossings : tie.Need-sub-crossings Inv-loop μ-loop
 sub-crossings c =
     let turn = c .before in
-    omega (arith, turn .loop .inv .exact, turn .before .crossings-of .ensures)
+    omega (arith, turn .loop .inv .exact, crossings-before (turn .before))
 
 sift-all-requires : tie.Need-sift-all-requires Inv-loop μ-loop
 sift-all-requires c κs =
     let turn = c .before in
-    (turn .loop .inv .is-valid, omega (arith, turn .loop .inv .exact, turn .before .crossings-of .ensures))
+    (turn .loop .inv .is-valid, omega (arith, turn .loop .inv .exact, crossings-before (turn .before)))
 
 add-reduction : tie.Need-add-reduction Inv-loop μ-loop
 add-reduction c =

@@ -1,10 +1,11 @@
 use borrow.Author.Needs.{needs}
-use mathlib.Core.Path.{sym, subst}
+use mathlib.Core.Path.{sym, _∙_, subst}
 use lib.Dec.{T}
 use Rattle.model.specs.Layouts.{valid}
 use Rattle.model.specs.Checks.{checked, byRefusal, refusal, isValid}
 use Rattle.model.specs.Sifting.{roundOf}
 use Rattle.laws.specs.Sums.Indicators.{test-held, test-failed}
+use Rattle.laws.specs.Layouts.Recount.{counted-valid}
 use Rattle.sifting.proofs.rounds.sifting_round.Statement.{statement}
 use Rattle.sifting.proofs.rounds.sifting_round.Tie as tie
 
@@ -19,10 +20,10 @@ accepted : (c : tie.Else1) → T (valid (c .before .before .args .l))
 accepted c = subst T (sym (test-held (c .before .is-valid .ensures) (c .if1 .left))) tt
 
 crossings-of-requires : tie.Need-crossings-of-requires
-crossings-of-requires c κs = accepted c
+crossings-of-requires c κs = tt
 
 sift-all-requires : tie.Need-sift-all-requires
-sift-all-requires c κs = (accepted (c .before), c .crossings-of .ensures)
+sift-all-requires c κs = let passed = accepted (c .before) in (passed, c .crossings-of .ensures ∙ counted-valid _ passed)
 
 returns-2 : tie.Need-returns-2
 unfolding roundOf checked byRefusal refusal isValid

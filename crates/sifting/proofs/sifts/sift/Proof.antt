@@ -4,6 +4,7 @@ use Prim.Native.Nat.{_<_}
 use lib.Dec.{T}
 use Rattle.model.specs.Layouts.{valid}
 use Rattle.model.specs.Sifting.{siftChecks, siftAnswer, siftRefused, siftOf}
+use Rattle.laws.specs.Layouts.Recount.{counted-valid}
 use Rattle.laws.specs.Layouts.Refusals.{when-refused, vertex-passed}
 use Rattle.laws.specs.Sifting.Calls.{sift-accepted}
 use Rattle.sifting.proofs.sifts.sift.Statement.{statement}
@@ -26,12 +27,12 @@ returns c =
     sym (when-refused (siftChecks l u) (siftAnswer l u) (siftRefused l) (c .before .vertex-refusal .ensures) (c .if1 .taken))
 
 crossings-of-requires : tie.Need-crossings-of-requires
-crossings-of-requires c κs = checks c .0
+crossings-of-requires c κs = tt
 
 sift-vertex-requires : tie.Need-sift-vertex-requires
 sift-vertex-requires c κs =
     let passed = checks (c .before) in
-    (passed .0, passed .1, c .crossings-of .ensures)
+    (passed .0, passed .1, c .crossings-of .ensures ∙ counted-valid _ (passed .0))
 
 returns-2 : tie.Need-returns-2
 returns-2 c =
