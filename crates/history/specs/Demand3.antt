@@ -1,7 +1,7 @@
 -- Demand 3 of document 01 as one theorem: `demand-3`, at the end, over every start and every list of calls. What it says is the record `Demand3`;
 -- the words it is written in (the steps, sifts and rounds of a list, best place, local minimum) are definitions of `model`, Histories.
 use Prim.Native.Nat.{ℕ, _+_, _*_, _≤_, _<_}
-use mathlib.Core.Path.{_≡_, refl, ap, _∙_, subst}
+use mathlib.Core.Path.{_≡_, refl, sym, ap, _∙_, subst}
 use mathlib.Core.Bool.{Bool, true, false, cond}
 use mathlib.Core.List.{List, [], _∷_, _++_, map, flatMap}
 use lib.ListN.{length, length-append}
@@ -13,6 +13,7 @@ use Rattle.model.specs.declared.Call.the-variants as call
 use Rattle.model.specs.Lists.{upto, sumOver, All, none, also}
 use Rattle.model.specs.Layouts.{vertexOrder, crossingsOf, eachOnce, valid}
 use Rattle.model.specs.Edits.{moveOf}
+use Rattle.model.specs.GreedyAppend.{layOf}
 use Rattle.model.specs.Histories.{Start, Step, afterStep, steps, played, Follow, ended, next, Sift, Round, outcome, answerOf, accepted}
 use Rattle.model.specs.Histories.{siftCalled, roundsOfCall, siftsOfRound, roundsOfStep, siftsOfStep, roundsIn, siftsIn, sifting, roundsDue}
 use Rattle.model.specs.Histories.{saysConverged, optimaTold, placesWith}
@@ -20,6 +21,7 @@ use Rattle.model.specs.Histories.{butLast, BestPlace, LocalMinimum}
 use Rattle.laws.specs.Sums.Indicators.{T-true}
 use Rattle.laws.specs.Sums.Lists.{all-mono, all-flatMap}
 use Rattle.laws.specs.Layouts.Validity.{sound, permutation-eachOnce}
+use Rattle.laws.specs.Append.Calls.{lay-tally}
 use Rattle.laws.specs.Sifting.Rounds.{ProperSift, ProperRound, best-sifted, round-no-more}
 use Rattle.laws.specs.Sifting.Optima.{optima-least, optima-counted, optima-some, optima-below}
 use Rattle.history.specs.StepLaws.{Right, start-right, call-keeps, call-refused, CallFacts, call-facts, stepOn, step-sifts, step-rounds}
@@ -38,6 +40,10 @@ abbrev pub LimitReached : Step → ℕ → Type 0
 LimitReached s limit =
     s .call ≡ call.Converge limit → s .answer .third ≡ 0
     → (s .answer .second ≡ limit) × All (λ (r : Round Layout). 0 < r .moved) (roundsOfStep s)
+
+-- a lay that starts with this vertex answers a tally that is the crossings of the layout it returns, counted pair by pair
+abbrev pub TallyRight : Step → ℕ → Type 0
+TallyRight s first = s .call ≡ call.GreedyAppend first → s .answer .first ≡ crossingsOf (afterStep s)
 
 -- the number of best places that a sift counts is right for the layout before it: behind no other vertex the sifted one has fewer crossings than the sift
 -- reached, behind as many of them as the number says it has just as many, and with two vertices or more there is one
@@ -71,6 +77,8 @@ pub record Demand3 (start : Layout) (calls : List Call) : Type 0 where
   pub valid-at-the-end : T (valid (played start calls))
   pub each-vertex-once : T (eachOnce (played start calls .n) (vertexOrder (played start calls)))
   pub count-is-crossings : played start calls .count ≡ crossingsOf (played start calls)
+  -- "the tally of every accepted lay equals the crossings of the ring it returns, the unlinked devices of Note 2 included" (document 02, Note 6)
+  pub tallies-right : All (λ s. T (accepted s) → (first : ℕ) → TallyRight s first) (steps start calls)
   -- "every accepted sift left its device at a best place", those that rounds and settlings ran too
   pub best-places : All (λ (x : Sift Layout). (x .vertex < x .after .n) × BestPlace (x .after) (x .vertex)) (siftsIn (steps start calls))
   -- "how many of its n − 1 candidate places have the least crossings" (document 02, Note 3): the number of each sift
@@ -142,6 +150,13 @@ module _ (l : Layout) (c : Call) where
         optima-summed = rw (sifts-are t) (f .optima-are);
       }
 
+  is-tally : T (accepted (stepOn l c)) → (first : ℕ) → TallyRight (stepOn l c) first
+  unfolding accepted answerOf
+  is-tally t first e =
+      subst (λ (d : Call). T (accepted (stepOn l d)) → answerOf l d .first ≡ crossingsOf (answerOf l d .layout)) (sym e)
+      (λ a. lay-tally l first (eqb-true (layOf l first .refusal) 0 (T-true (eqb (layOf l first .refusal) 0) a)))
+      t
+
   reaches-limit : T (accepted (stepOn l c)) → (limit : ℕ) → LimitReached (stepOn l c) limit
   reaches-limit t limit e z = rw (rounds-are t) (facts t .spent limit e z)
 
@@ -185,6 +200,7 @@ demand-3 {start} s calls =
       valid-at-the-end = end .is-valid;
       each-vertex-once = permutation-eachOnce (sound (played start calls) (end .is-valid) .permutation);
       count-is-crossings = end .counted;
+      tallies-right = all-steps (λ x. T (accepted x) → (first : ℕ) → TallyRight x first) (λ l c q. is-tally l c) r calls;
       best-places = all-mono sifted (λ x p. best-sifted p);
       optima-right = all-mono sifted (λ x p. is-optima p);
       no-round-raised = all-mono proper (λ x p. round-no-more p);

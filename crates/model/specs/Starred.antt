@@ -1,5 +1,5 @@
--- The starred rings of document 01, "Rings worked by hand", rings with isolated vertices (document 02, Note 2), and how many places of a vertex are best
--- (Note 3): three tables, and one theorem about the definitions that covers them.
+-- The starred rings of document 01, "Rings worked by hand", rings with isolated vertices (document 02, Note 2), how many places of a vertex are best
+-- (Note 3), and lays that leave crossings (Note 6): four tables, and one theorem about the definitions that covers them.
 use Prim.Native.Nat.{ℕ, _-_, _^_}
 use mathlib.Core.Bool.{Bool, true, false, Bool·beq, xor, _&&_}
 use mathlib.Core.List.{List, [], _∷_, _++_, map, flatMap}
@@ -40,6 +40,8 @@ pub data Claim : Type 0 where
   moving : ℕ → ℕ → List ℕ → Claim
   -- lay from s: the order and the tally
   laying : ℕ → List ℕ → ℕ → Claim
+  -- the crossings of that order, counted pair by pair, are the tally and the count
+  tallying : ℕ → List ℕ → ℕ → Claim
   -- and what it gave by the former rule
   formerlyLaying : ℕ → List ℕ → ℕ → Claim
   -- sift u: the order and the saving
@@ -135,6 +137,19 @@ withOptima =
     ∷ record { ring = record { vertices = 0; links = []; order = [] }; claims = roundOptima 0 ∷ settleOptima 1 0 ∷ [] }
     ∷ []
 
+-- lay leaves crossings: more than there were, fewer than at the other ends, with an isolated vertex at the back and at the start
+unfoldable pub withTally : List Row
+withTally =
+    record {
+      ring = record { vertices = 5; links = 0 to 1 ∷ 0 to 2 ∷ 0 to 4 ∷ 1 to 2 ∷ 1 to 3 ∷ 2 to 3 ∷ 3 to 4 ∷ []; order = 0 ∷ 1 ∷ 2 ∷ 3 ∷ 4 ∷ [] };
+      claims = crossing 1 ∷ tallying 1 (1 ∷ 0 ∷ 2 ∷ 3 ∷ 4 ∷ []) 2 ∷ tallying 0 (2 ∷ 1 ∷ 0 ∷ 4 ∷ 3 ∷ []) 1 ∷ [];
+    }
+    ∷ record {
+      ring = record { vertices = 6; links = 0 to 2 ∷ 0 to 3 ∷ 0 to 5 ∷ 2 to 3 ∷ 2 to 4 ∷ 3 to 4 ∷ 4 to 5 ∷ []; order = 0 ∷ 1 ∷ 2 ∷ 3 ∷ 4 ∷ 5 ∷ [] };
+      claims = tallying 5 (5 ∷ 0 ∷ 2 ∷ 3 ∷ 4 ∷ 1 ∷ []) 1 ∷ tallying 1 (1 ∷ 5 ∷ 0 ∷ 2 ∷ 3 ∷ 4 ∷ []) 1 ∷ [];
+    }
+    ∷ []
+
 -- ---- the theorem
 
 -- the layout of a ring of a table, with its true count
@@ -171,6 +186,7 @@ holds l (showing pair) =
     eqb (a .refusal) 0 && sameEdges (a .pair) pair && Bool·beq (a .none) (eqb (length pair) 0)
 holds l (moving a b o) = let r = moveOf l a b in gives (r .refusal) (r .layout) o
 holds l (laying s o tally) = lays (layOf l s) o tally
+holds l (tallying s o k) = let r = layOf l s in lays r o k && eqb (crossingsOf (r .layout)) k && eqb (r .layout .count) k
 holds l (formerlyLaying s o tally) = lays (formerLayOf l s) o tally
 holds l (sifting u o saving) = let r = siftOf l u in gives (r .refusal) (r .layout) o && eqb (r .reduction) saving
 holds l (settling limit rounds settled count o) =
@@ -184,12 +200,12 @@ holds l (roundOptima k) = let r = roundOf l in eqb (r .refusal) 0 && eqb (r .opt
 holds l (settleOptima limit k) = let r = settleOf l limit in eqb (r .refusal) 0 && eqb (r .optima) k
 
 -- every claim of the tables holds, by computation
-pub starred-holds : T (every (λ row. every (holds (layoutOf (row .ring))) (row .claims)) (starred ++ withIsolated ++ withOptima))
-unfolding starred withIsolated withOptima first complete _to_ layoutOf sameEdges gives lays holds one upto every any keep firstWith sumOver sumPairs noRepeats
-    member occurrences place bit linked edges between alternate crosses crossings vertexOrder crossingsOf eachOnce zeroFrom symmetric loopless
-    bitsBelow valid carried changed reordered refusal byRefusal checked isValid isVertex differ limitFits changedOr insertAfter movedAfter moveChecks
-    moveOf pairWith orElse firstPair firstCrossingOf unplaced waiting isolated hasEdges degreeIn preferred bestOf nextVertex closing open′
-    frontCrossings backCrossings alone placeFront placeBack placeVertex placeMore placeAtBack placeLinked placeAll formerPlaceAll layChecks layOf
-    formerLayOf clockwiseFrom candidates least leastCrossings countWith optima optimaOf improves siftedOrder sifted reduction siftChecks siftOf moves siftAll
-    siftRound roundOf afterRound stopped roundsUpTo settleChecks settleOf sameList sameEdge joins wordIn flatMap xor
+pub starred-holds : T (every (λ row. every (holds (layoutOf (row .ring))) (row .claims)) (starred ++ withIsolated ++ withOptima ++ withTally))
+unfolding starred withIsolated withOptima withTally first complete _to_ layoutOf sameEdges gives lays holds one upto every any keep firstWith sumOver
+    sumPairs noRepeats member occurrences place bit linked edges between alternate crosses crossings vertexOrder crossingsOf eachOnce zeroFrom
+    symmetric loopless bitsBelow valid carried changed reordered refusal byRefusal checked isValid isVertex differ limitFits changedOr insertAfter
+    movedAfter moveChecks moveOf pairWith orElse firstPair firstCrossingOf unplaced waiting isolated hasEdges degreeIn preferred bestOf nextVertex
+    closing open′ frontCrossings backCrossings alone placeFront placeBack placeVertex placeMore placeAtBack placeLinked placeAll formerPlaceAll
+    layChecks layOf formerLayOf clockwiseFrom candidates least leastCrossings countWith optima optimaOf improves siftedOrder sifted reduction
+    siftChecks siftOf moves siftAll siftRound roundOf afterRound stopped roundsUpTo settleChecks settleOf sameList sameEdge joins wordIn flatMap xor
 starred-holds = tt
