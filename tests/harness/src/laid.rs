@@ -1,10 +1,25 @@
-//! Lays, compared with the rule before Note 2 of document 02.
+//! Lays, compared with the crossings of what was laid, and with the rule before
+//! Note 2 of document 02.
 
+use crate::counted::true_count;
 use crate::entries::Entry;
 use crate::followed::Step;
 use crate::make::ops::LAY;
 use crate::naive::calls::{former_lay, Reply};
 use crate::naive::layout::{isolated, Layout};
+
+/// Whether the tally of an accepted lay is the crossings of what was laid,
+/// counted pair by pair (document 02, Note 6).
+pub fn check_tally(step: &Step) -> Result<(), String> {
+    if step.answer() != Some(("lay", 0)) {
+        return Ok(());
+    }
+    let crossings = true_count(&step.after).to_string();
+    match step.line.split(' ').nth(2) {
+        Some(tally) if tally == crossings => Ok(()),
+        _ => Err(format!("{crossings} crossings were laid, another tally")),
+    }
+}
 
 /// What a lay would have answered and left by the former rule; none where no
 /// vertex but the start is isolated, so that the rules are the same.
@@ -47,14 +62,32 @@ mod tests {
     use crate::naive::play::play;
 
     /// All edges of five vertices, and three isolated ones, laid from one of
-    /// these and from what isn't there.
-    #[test]
-    fn another_tally_or_count_is_found() {
+    /// these and from what isn't there; the answer lines too.
+    fn laid_fives() -> (Vec<u8>, String) {
         let (edges, order) = (all_pairs(5), vertices(8));
         let chart = Chart::of(&Graph { edges, order }).bytes();
         let lays = [[LAY, 6, 0, 0], [LAY, 8, 0, 0]].map(records::bytes);
         let list = [records::chart(&chart), lays.concat()].concat();
         let lines = play(&list);
+        (list, lines)
+    }
+
+    /// The crossings of what was laid are counted, whatever count is told; of a
+    /// refused lay nothing is.
+    #[test]
+    fn a_tally_that_is_not_the_crossings_is_found() {
+        let (list, lines) = laid_fives();
+        assert_eq!(check_lines(&list, &lines, check_tally), Ok(()));
+        for tally in ["lay 0 4 n", "lay 0 6 n", "lay 0 0 n"] {
+            change_found(&list, &lines, check_tally, (2, "lay 0 5 n", tally));
+        }
+        let another = lines.replacen("lay 12 0 n", "lay 12 5 n", 1);
+        assert_eq!(check_lines(&list, &another, check_tally), Ok(()));
+    }
+
+    #[test]
+    fn another_tally_or_count_is_found() {
+        let (list, lines) = laid_fives();
         assert_eq!(check_lines(&list, &lines, check_line), Ok(()));
         for change in [
             (2, "lay 0 5 n", "lay 0 4 n"),

@@ -102,6 +102,7 @@ fn compare_list(
             counted::check_line(step)?;
             sifted::check_sift(step)?;
         }
+        laid::check_tally(step)?;
         laid::check_line(step)?;
         sifted::check_line(step)
     };

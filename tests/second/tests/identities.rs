@@ -108,8 +108,7 @@ fn a_round_sifts_by_number_and_settling_repeats_it() {
 
 /// A closing and an open edge that cross at the end taken do cross in the end:
 /// what is placed later stands outside of both. And of two edges that cross in
-/// the end, one was closed while the other was open. Document 01 says only that
-/// the tally is never more.
+/// the end, one was closed while the other was open (document 02, Note 6).
 fn tally_is_what_crosses(layout: Layout, start: u64) {
     let laid = calls::greedy_append(layout, start);
     assert!(laid.refusal == 0 && laid.layout.is_valid());

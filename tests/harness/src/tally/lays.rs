@@ -1,4 +1,4 @@
-//! What occurs of isolated vertices in accepted lays.
+//! What occurs of isolated vertices and of crossings in accepted lays.
 
 use crate::entries::Entry;
 use crate::followed::Step;
@@ -7,13 +7,15 @@ use crate::make::graph::component_count;
 use crate::make::ops::{Known, LAY};
 use crate::naive::layout::isolated;
 
-const SORTS: [&str; 6] = [
+const SORTS: [&str; 8] = [
     "half of the vertices isolated or more, but not all",
     "an isolated start beside linked vertices",
     "two vertices or more, all isolated",
     "one component with two isolated vertices or more",
     "several components with two isolated vertices or more",
     "another order by the former rule",
+    "a tally of 1 or more",
+    "a tally of 1 or more with an isolated vertex at the back",
 ];
 
 /// What should occur with known calls.
@@ -33,6 +35,7 @@ pub fn met(step: &Step) -> Vec<&'static str> {
     let isolated = isolated(&step.before);
     let two_isolated = isolated.len() >= 2;
     let components = component_count(&step.before.words);
+    let crosses = step.line.split(' ').nth(2) != Some("0");
     let former = formerly(step).map(|(_, former)| former.order);
     let occurs = [
         components > 0 && 2 * isolated.len() >= step.n(),
@@ -41,6 +44,8 @@ pub fn met(step: &Step) -> Vec<&'static str> {
         components == 1 && two_isolated,
         components > 1 && two_isolated,
         former.is_some_and(|order| order != step.after.order),
+        crosses,
+        crosses && isolated.iter().any(|&v| v as u64 != start),
     ];
     let sorts = SORTS.into_iter().zip(occurs);
     sorts
@@ -54,7 +59,7 @@ mod tests {
     use super::*;
     use crate::followed::steps;
     use crate::make::charts::Chart;
-    use crate::make::graph::{vertices, Graph};
+    use crate::make::graph::{all_pairs, vertices, Graph};
     use crate::make::records;
     use crate::naive::play::play;
 
@@ -83,6 +88,10 @@ mod tests {
         assert_eq!(sorts(5, &two, 2), [1]);
         assert_eq!(sorts(5, &two, 0), [5]);
         assert_eq!(sorts(2, &[], 1), [2]);
+        let all = all_pairs(4);
+        assert_eq!(sorts(4, &all, 0), [6]);
+        assert_eq!(sorts(5, &all, 4), [1, 6]);
+        assert_eq!(sorts(5, &all, 0), [6, 7]);
         assert!(sorts(1, &[], 0).is_empty());
         assert!(sorts(2, &[(0, 1)], 0).is_empty());
     }

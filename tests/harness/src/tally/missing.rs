@@ -143,7 +143,7 @@ mod tests {
     /// What is to occur of lays, of sifts, of settlings, of charts that are
     /// written, one of which needs chart, and of graph6 that are exported and
     /// imported, one of which needs the other.
-    const LAYS: usize = 6;
+    const LAYS: usize = 8;
     const SIFTS: usize = 8;
     const SETTLES: usize = 2;
     const WRITES: usize = 9;
