@@ -12,10 +12,16 @@ pub fn agree<A: PartialEq + Debug>(
     answer: &A,
     second: &A,
 ) -> Outcome {
-    if answer == second {
+    both_agree(call, [(side, answer), ("second", second)])
+}
+
+/// Compares what two sides answer, each by its name.
+pub fn both_agree<A: PartialEq + Debug>(call: impl Display, sides: [(&str, &A); 2]) -> Outcome {
+    let [(one, answer), (other, expected)] = sides;
+    if answer == expected {
         return Ok(());
     }
     Err(format!(
-        "{call}: the answers differ\n{side}: {answer:?}\nsecond: {second:?}"
+        "{call}: the answers differ\n{one}: {answer:?}\n{other}: {expected:?}"
     ))
 }

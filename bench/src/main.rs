@@ -1,9 +1,11 @@
 //! The proved calls beside the same calls in Rust, on the same layouts and in one
-//! run: their times, their instructions, or only their answers. Nothing is
-//! asserted of a time; that all sides answer alike is. See bench/README.md.
+//! run: their times, their instructions, or only their answers. Or beside the same
+//! calls by the library of an earlier commit. Nothing is asserted of a time; that
+//! all sides answer alike is. See bench/README.md.
 
 mod agreement;
 mod answers;
+mod before;
 mod expected;
 mod instructions;
 mod lent;
@@ -21,10 +23,11 @@ fn main() -> ExitCode {
         [] => answers::print().and_then(|()| times::print()),
         ["--answers"] => answers::print(),
         ["--instructions"] => instructions::print(),
+        ["--before", before, now] => before::print(before, now),
         [instructions::EACH_ONCE] => instructions::each_once(),
         [instructions::LENT_ONCE] => instructions::lent_once(),
         _ => {
-            eprintln!("usage: bench/run [--answers | --instructions]");
+            eprintln!("usage: bench/run [--answers | --instructions | --before COMMIT]");
             return ExitCode::from(2);
         }
     };

@@ -73,7 +73,7 @@ fn second_layout(l: Fields) -> Layout {
 }
 
 /// Lends a copy of a layout to a call.
-fn lend<R>(l: &Fields, call: impl FnOnce(&mut Fields) -> R) -> Left<R> {
+pub fn lend<R>(l: &Fields, call: impl FnOnce(&mut Fields) -> R) -> Left<R> {
     let mut layout = l.clone();
     let report = call(&mut layout);
     Left { report, layout }

@@ -19,6 +19,15 @@ pub const NAMES: usize = 63;
 /// The calls of a list that is measured.
 pub const CALLS: usize = 1000;
 
+/// The vertex that is sifted, and from which laying starts.
+pub const VERTEX: u64 = 5;
+
+/// The most rounds of a settling.
+pub const LIMIT: u32 = 50;
+
+/// How many edges the layouts have that are sifted, few to all.
+pub const SIFTED: [usize; 3] = [200, 1000, 2016];
+
 /// Makes a call so many times.
 pub type Repeat<'a> = Box<dyn Fn(u32) + 'a>;
 
@@ -131,13 +140,41 @@ pub fn repeated<'a, A>(call: impl Fn() -> A + 'a) -> Repeat<'a> {
     })
 }
 
+/// The name of a call on 64 vertices with so many edges.
+pub fn of_64(call: &str, edges: usize) -> String {
+    format!("{call}, 64 vertices, {edges} edges")
+}
+
+/// Two vertices that are linked, and two that are unlinked, or the one moved behind
+/// the other.
+pub fn ends(l: &Layout) -> [(u64, u64); 2] {
+    let edges = pairs(l, true);
+    [pairs(l, false)[0], edges[edges.len() / 2]]
+}
+
+/// The layouts of 64 vertices that are laid: with 1,000 edges, and half of them
+/// without edges.
+pub fn laid() -> [(String, Layout); 2] {
+    [
+        (of_64("lay", 1000), layout(64, 1000)),
+        (
+            "lay, 64 vertices, 250 edges between 32".to_string(),
+            with_isolated(layout(32, 250)),
+        ),
+    ]
+}
+
+/// The name of a settling.
+pub fn settle() -> String {
+    format!("settle with limit {LIMIT}")
+}
+
 /// Calls on 64 vertices with so many edges, one of all 2,016 missing at least.
 fn accepted(rows: &mut Rows, edges: usize) -> Outcome {
     let l = layout(64, edges);
     let lent = fields(&l);
-    let (a, b) = pairs(&l, false)[0];
-    let (c, d) = pairs(&l, true)[edges / 2];
-    let name = |call| format!("{call}, 64 vertices, {edges} edges");
+    let [(a, b), (c, d)] = ends(&l);
+    let name = |call| of_64(call, edges);
     rows.two(
         &name("link"),
         || proved::add_edge(&lent, a, b),
@@ -184,7 +221,7 @@ fn no_pair(rows: &mut Rows) -> Outcome {
 fn charts(rows: &mut Rows) -> Outcome {
     for edges in [1000, 2016] {
         rows.reading(
-            &format!("reading a chart, 64 vertices, {edges} edges"),
+            &of_64("reading a chart", edges),
             &chart(&layout(64, edges)),
             proved::read_chart,
             expected::read_chart,
@@ -204,7 +241,7 @@ fn written_charts(rows: &mut Rows) -> Outcome {
     let layouts = [1000, 2016].map(|edges| (edges, layout(64, edges)));
     for (edges, l) in layouts {
         rows.writing::<WRITTEN_CHART_BYTES, _>(
-            &format!("writing a chart, 64 vertices, {edges} edges"),
+            &of_64("writing a chart", edges),
             l,
             proved::write_chart,
             calls::write_chart,
@@ -212,7 +249,7 @@ fn written_charts(rows: &mut Rows) -> Outcome {
     }
     for (edges, l) in layouts {
         rows.writing::<WRITTEN_CHART_BYTES, _>(
-            &format!("writing a chart and reading it back, 64 vertices, {edges} edges"),
+            &of_64("writing a chart and reading it back", edges),
             l,
             |l, buffer| proved::write_and_read(l, buffer, &empty),
             |l, buffer| expected::write_and_read(l, buffer, Layout::EMPTY),
@@ -226,7 +263,7 @@ fn graph6s(rows: &mut Rows) -> Outcome {
     let layouts = [1000, 2016].map(|edges| (edges, layout(64, edges)));
     for (edges, l) in layouts {
         rows.reading(
-            &format!("importing a graph6, 64 vertices, {edges} edges"),
+            &of_64("importing a graph6", edges),
             &graph6(&l),
             proved::import_graph6,
             expected::import_graph6,
@@ -240,7 +277,7 @@ fn graph6s(rows: &mut Rows) -> Outcome {
     )?;
     for (edges, l) in layouts {
         rows.writing::<GRAPH6_BYTES, _>(
-            &format!("exporting a graph6, 64 vertices, {edges} edges"),
+            &of_64("exporting a graph6", edges),
             l,
             proved::export_graph6,
             calls::write_graph6,
@@ -249,36 +286,30 @@ fn graph6s(rows: &mut Rows) -> Outcome {
     Ok(())
 }
 
-/// Laying 64 vertices: with 1,000 edges, and half of them without edges.
+/// Laying 64 vertices.
 fn appending(rows: &mut Rows) -> Outcome {
-    for (vertices, l) in [
-        ("64 vertices, 1000 edges", layout(64, 1000)),
-        (
-            "64 vertices, 250 edges between 32",
-            with_isolated(layout(32, 250)),
-        ),
-    ] {
+    for (name, l) in laid() {
         let lent = fields(&l);
         rows.two(
-            &format!("lay, {vertices}"),
-            || proved::greedy_append(&lent, 5),
-            || calls::greedy_append(l, 5),
+            &name,
+            || proved::greedy_append(&lent, VERTEX),
+            || calls::greedy_append(l, VERTEX),
         )?;
     }
     Ok(())
 }
 
-/// Sifting 64 vertices, few edges to all of them.
+/// Sifting 64 vertices.
 fn sifting(rows: &mut Rows) -> Outcome {
-    for edges in [200, 1000, 2016] {
+    for edges in SIFTED {
         let l = layout(64, edges);
         let lent = fields(&l);
-        let name = |call| format!("{call}, 64 vertices, {edges} edges");
+        let name = |call| of_64(call, edges);
         rows.three(
             &name("sift"),
-            || proved::sift(&lent, 5),
-            || baseline::sift(l, 5),
-            || calls::sift(l, 5),
+            || proved::sift(&lent, VERTEX),
+            || baseline::sift(l, VERTEX),
+            || calls::sift(l, VERTEX),
         )?;
         rows.three(
             &name("round"),
@@ -287,10 +318,10 @@ fn sifting(rows: &mut Rows) -> Outcome {
             || calls::sifting_round(l),
         )?;
         rows.three(
-            &name("settle with limit 50"),
-            || proved::converge(&lent, 50),
-            || baseline::converge(l, 50),
-            || calls::converge(l, 50),
+            &name(&settle()),
+            || proved::converge(&lent, LIMIT),
+            || baseline::converge(l, LIMIT),
+            || calls::converge(l, LIMIT),
         )?;
     }
     Ok(())

@@ -16,8 +16,7 @@ const FOR_A_SIDE: Duration = Duration::from_secs(2);
 const BATCH: Duration = Duration::from_micros(200);
 
 /// The time of a call, in microseconds.
-#[derive(Clone, Copy)]
-struct Time {
+pub struct Time {
     median: f64,
     minimum: f64,
 }
@@ -30,28 +29,26 @@ pub fn print() -> Outcome {
 
 fn print_rows() -> Outcome {
     println!("\nmicroseconds of a call: median and minimum; ratio: proved to baseline, or to second where there is none\n");
-    println!(
-        "{:<NAMES$}{:>18}{:>18}{:>18}{:>14}",
-        "", "proved", "baseline", "second", "ratio"
-    );
-    let pair = format!("{:>9}{:>9}", "median", "min");
-    println!(
-        "{:<NAMES$}{pair}{pair}{pair}{:>8}{:>6}",
-        "", "median", "min"
-    );
+    print_heading(&["proved", "baseline", "second"]);
     rows::for_each(line)
+}
+
+/// What stands above the times of these sides and a ratio of them.
+pub fn print_heading(sides: &[&str]) {
+    let names: String = sides.iter().map(|side| format!("{side:>18}")).collect();
+    println!("{:<NAMES$}{names}{:>14}", "", "ratio");
+    let pairs = format!("{:>9}{:>9}", "median", "min").repeat(sides.len());
+    println!("{:<NAMES$}{pairs}{:>8}{:>6}", "", "median", "min");
 }
 
 fn line(row: &Row) {
     let times = times(&row.sides);
     let columns: Vec<String> = times.iter().map(columns).collect();
-    let (proved, other) = (times[0], times[1]);
     println!(
-        "{:<NAMES$}{}{:>8.2}{:>6.2}",
+        "{:<NAMES$}{}{}",
         row.name,
         three_columns(&columns, 18),
-        proved.median / other.median,
-        proved.minimum / other.minimum,
+        ratio(&times[0], &times[1], 2),
     );
 }
 
@@ -77,7 +74,8 @@ fn lent_lines(row: &Row) {
     println!("lent, not by value: {median:+.3} us a call, by the minimums {minimum:+.3} us");
 }
 
-fn columns(time: &Time) -> String {
+/// The columns of a side's time.
+pub fn columns(time: &Time) -> String {
     let number = |micros| match micros {
         0.0..1000.0 => format!("{micros:>9.3}"),
         _ => format!("{micros:>9.1}"),
@@ -85,9 +83,16 @@ fn columns(time: &Time) -> String {
     number(time.median) + &number(time.minimum)
 }
 
+/// The columns of the ratio of two times, with so many decimals.
+pub fn ratio(time: &Time, to: &Time, decimals: usize) -> String {
+    let medians = time.median / to.median;
+    let minimums = time.minimum / to.minimum;
+    format!("{medians:>8.decimals$}{minimums:>6.decimals$}")
+}
+
 /// The time of a call on each side. The sides take turns, batch by batch, so that
 /// all see the same machine.
-fn times(sides: &[Repeat]) -> Vec<Time> {
+pub fn times(sides: &[Repeat]) -> Vec<Time> {
     let once: Vec<f64> = sides.iter().map(|side| batch(side, 1)).collect();
     let calls: Vec<u32> = once.iter().map(|&once| calls_in_a_batch(once)).collect();
     let turn = once.iter().zip(&calls);
