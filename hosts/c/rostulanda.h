@@ -138,7 +138,8 @@ typedef struct rl_vertex {
     size_t vertex;
 } rl_vertex;
 
-/* The crossings at the ends taken by greedy append. */
+/* The crossings at the ends taken by greedy append: all of those that the
+ * layout has afterwards. */
 typedef struct rl_tally {
     uint8_t refusal;
     uint32_t tally;
@@ -283,7 +284,8 @@ uint8_t rl_remove_edge(rl_layout *l, size_t a, size_t b);
 uint8_t rl_move_after(rl_layout *l, size_t a, size_t b);
 
 /* Makes a new order by greedy append from a first vertex (lay from s). The
- * vertices without edges stand last, in rising number, but for the first.
+ * vertices without edges stand last, in rising number, but for the first. The
+ * tally is the crossings of the new order, so that nobody has to count them.
  * Refused: 12. */
 rl_tally rl_greedy_append(rl_layout *l, size_t start);
 

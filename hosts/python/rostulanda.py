@@ -440,7 +440,8 @@ class Layout:
         """Makes a new order by greedy append from a first vertex (document 01: lay from s).
 
         The vertices without edges stand last, in rising number, but for the
-        first. Gives the tally of the crossings at the ends taken.
+        first. Gives the tally of the crossings at the ends taken, which is the
+        crossings of the new order.
         """
         answer = _library.rl_greedy_append(self.fields, _vertex(start))
         _accept(answer.refusal)

@@ -151,8 +151,9 @@ impl Layout {
     }
 
     /// Makes a new order by greedy append from a first vertex (document 01: lay
-    /// from s), and gives the tally of the crossings at the ends taken. The
-    /// vertices without edges stand last, in rising number, but for the first.
+    /// from s), and gives the tally of the crossings at the ends taken, which is
+    /// the crossings of the new order. The vertices without edges stand last, in
+    /// rising number, but for the first.
     pub fn greedy_append(&mut self, start: usize) -> Result<u32, Refusal> {
         let answer = ffi::rl_greedy_append(&mut self.fields, start);
         accepted(answer.refusal, answer.tally)
