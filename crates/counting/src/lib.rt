@@ -1,11 +1,9 @@
 // The crossings of an order, counted over pairs of places j < k: the edges from before j to k times
 // the edges from j to beyond k, each a count of ones under a running mask.
 ghost use mathlib.Core.Path.{_≡_};
-ghost use mathlib.Core.Bool.{cond};
 ghost use Prim.Native.Nat.{suc, _*_, _≤_, _<_};
-ghost use lib.Dec.{leb};
 ghost use Rattle.laws.specs.Sums.Bits.{maskedOnes};
-ghost use Rattle.laws.specs.Crossings.Masks.{vertexAt, wordAt, maskBefore, maskFrom, countRow, countOn};
+ghost use Rattle.laws.specs.Crossings.Masks.{vertexAt, wordAt, maskBefore, maskFrom, countRow};
 ghost use Rattle.laws.specs.Layouts.Recount.{counted};
 use model::Layout;
 
@@ -21,7 +19,7 @@ pub fn crossings_of(l: Layout) -> u32
 // Of a valid layout these are its crossings; for any other bytes it is the same formula, with places
 // of the order taken modulo 64.
 pub fn count_crossings(n: usize, order: &[u8; 64], adjacency: &[u64; 64]) -> u32
-    ensures { λ r. ⌜ r ≡ cond (leb n 64) (countOn n (now (order .entry)) (now (adjacency .entry))) 0 ⌝ }
+    ensures { λ r. ⌜ r ≡ counted n (now (order .entry)) (now (adjacency .entry)) ⌝ }
 {
     if 64 < n {
         return 0;

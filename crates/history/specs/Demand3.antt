@@ -13,7 +13,6 @@ use Rattle.model.specs.declared.Call.the-variants as call
 use Rattle.model.specs.Lists.{upto, sumOver, All, none, also}
 use Rattle.model.specs.Layouts.{vertexOrder, crossingsOf, eachOnce, valid}
 use Rattle.model.specs.Edits.{moveOf}
-use Rattle.model.specs.GreedyAppend.{layOf}
 use Rattle.model.specs.Histories.{Start, Step, afterStep, steps, played, Follow, ended, next, Sift, Round, outcome, answerOf, accepted}
 use Rattle.model.specs.Histories.{siftCalled, roundsOfCall, siftsOfRound, roundsOfStep, siftsOfStep, roundsIn, siftsIn, sifting, roundsDue}
 use Rattle.model.specs.Histories.{saysConverged, optimaTold, placesWith}
@@ -124,10 +123,13 @@ module _ (l : Layout) (c : Call) where
   is-defined =
       record { answers = refl; unchanged = λ e. call-refused l c (eqb-false (answerOf l c .refusal) 0 e) }
 
-  -- an accepted step has the sifts and rounds of its call
-  facts : T (accepted (stepOn l c)) → CallFacts l c
+  -- an accepted step has refusal code 0, and the sifts and rounds of its call
+  code-zero : T (accepted (stepOn l c)) → answerOf l c .refusal ≡ 0
   unfolding accepted
-  facts t = call-facts l c (eqb-true (answerOf l c .refusal) 0 (T-true (eqb (answerOf l c .refusal) 0) t))
+  code-zero t = eqb-true (answerOf l c .refusal) 0 (T-true (eqb (answerOf l c .refusal) 0) t)
+
+  facts : T (accepted (stepOn l c)) → CallFacts l c
+  facts t = call-facts l c (code-zero t)
 
   rounds-are : T (accepted (stepOn l c)) → roundsOfStep (stepOn l c) ≡ roundsOfCall l c
   unfolding roundsOfStep
@@ -151,11 +153,9 @@ module _ (l : Layout) (c : Call) where
       }
 
   is-tally : T (accepted (stepOn l c)) → (first : ℕ) → TallyRight (stepOn l c) first
-  unfolding accepted answerOf
+  unfolding answerOf
   is-tally t first e =
-      subst (λ (d : Call). T (accepted (stepOn l d)) → answerOf l d .first ≡ crossingsOf (answerOf l d .layout)) (sym e)
-      (λ a. lay-tally l first (eqb-true (layOf l first .refusal) 0 (T-true (eqb (layOf l first .refusal) 0) a)))
-      t
+      subst (λ (d : Call). answerOf l d .refusal ≡ 0 → answerOf l d .first ≡ crossingsOf (answerOf l d .layout)) (sym e) (lay-tally l first) (code-zero t)
 
   reaches-limit : T (accepted (stepOn l c)) → (limit : ℕ) → LimitReached (stepOn l c) limit
   reaches-limit t limit e z = rw (rounds-are t) (facts t .spent limit e z)

@@ -3,11 +3,11 @@ use Prim.Native.Nat.{ℕ, _≤_, _<_}
 use native.Mathlib.Nat.{le-of-eq, lt-of-lt-of-le}
 use native.Mathlib.Omega.{arith}
 use mathlib.Core.Path.{_≡_, refl, sym, ap, _∙_}
-use mathlib.Core.Bool.{Bool, true, false, cond}
+use mathlib.Core.Bool.{Bool, true, false}
 use mathlib.Core.List.{List}
 use lib.ListN.{length, take, List·getD-eq-default}
 use lib.Seq.{ext-getD, getD-take, length-take-le}
-use lib.Dec.{T, leb}
+use lib.Dec.{T}
 use lib.Arith.{lt-one}
 use Rattle.model.specs.declared.Edge.{Edge}
 use Rattle.model.specs.Lists.{one, every, any}
@@ -17,7 +17,6 @@ use Rattle.model.specs.Charts.{edgeWithin, joins, layoutWith}
 use Rattle.laws.specs.Orders.Permutations.{Permutation}
 use Rattle.laws.specs.Sums.Pairs.{Symmetric}
 use Rattle.laws.specs.Crossings.Edges.{weight}
-use Rattle.laws.specs.Crossings.Masks.{countOn}
 use Rattle.laws.specs.Layouts.Validity.{each-once, sound-valid}
 use Rattle.laws.specs.Layouts.Recount.{counted, counted-crossings}
 use Rattle.pairs.specs.Edges.{Ends, joins-none, joins-swap}
@@ -65,8 +64,8 @@ module _ {n : ℕ} {es : List Edge} {o : List ℕ} (a : Accepted n es o) where
       sized = length-take-le n (padded o) (omega (arith, padded-length o, a .few))
 
   -- what the counter counts
-  pub count-read : cond (leb n 64) (countOn n (padded o) (adjacencyOf es)) 0 ≡ crossings n o (adjacencyOf es)
-  unfolding adj counted
+  pub count-read : counted n (padded o) (adjacencyOf es) ≡ crossings n o (adjacencyOf es)
+  unfolding adj
   count-read =
       counted-crossings (record { small = a .few; permutation = rw front permutation; symmetry = symmetry })
       ∙ ap (λ (x : List ℕ). crossings n x (adjacencyOf es)) front

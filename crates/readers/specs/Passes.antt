@@ -4,7 +4,6 @@ use native.Mathlib.Nat.{not-suc-le-zero}
 use mathlib.Core.Path.{_≡_, refl, sym, ap, _∙_}
 use mathlib.Core.Bool.{Bool, true, false, cond, true≢false, false≢true}
 use mathlib.Core.List.{List, [], _∷_, _++_}
-use lib.Dec.{leb}
 use Rattle.model.specs.declared.LayoutRead.{LayoutRead}
 use Rattle.model.specs.declared.Asked.{Asked}
 use Rattle.model.specs.declared.Asked.the-variants as asks
@@ -15,7 +14,7 @@ use Rattle.model.specs.Layouts.{emptyLayout}
 use Rattle.model.specs.Checks.{Check, refusal, byRefusal, checked}
 use Rattle.model.specs.Charts.{Answer, accept, refuse, asked, sizeFound, answer, readAs}
 use Rattle.laws.specs.Sums.Lists.{All, none, also}
-use Rattle.laws.specs.Crossings.Masks.{countOn}
+use Rattle.laws.specs.Layouts.Recount.{counted}
 use Rattle.laws.specs.Layouts.Sizes.{Sized, empty-sized}
 use Rattle.laws.specs.Layouts.Refusals.{Numbered, checked-either, checked-number, when-accepted, when-refused}
 
@@ -64,7 +63,7 @@ acceptedRead l = record { refusal = 0; layout = l }
 
 -- with the crossings that the counter counts
 abbrev pub countedLayout : ℕ → List ℕ → List ℕ → Layout
-countedLayout n order adj = record { n = n; order = order; adjacency = adj; count = cond (leb n 64) (countOn n order adj) 0 }
+countedLayout n order adj = record { n = n; order = order; adjacency = adj; count = counted n order adj }
 
 -- what a reader gives, by the number of the first question that fails
 module _ (checks : List Check) (l : Layout) where

@@ -1,5 +1,5 @@
 use borrow.Author.Needs.{needs}
-use Rattle.laws.specs.Layouts.Recount.{counted, recounted}
+use Rattle.laws.specs.Layouts.Recount.{recounted}
 use Rattle.carrying.proofs.recounted.Statement.{statement}
 use Rattle.carrying.proofs.recounted.Tie as tie
 
@@ -10,9 +10,8 @@ carried-to-requires : tie.Need-carried-to-requires
 carried-to-requires c κs = search needs
 
 returns : tie.Need-returns
-unfolding recounted counted
-returns c =
-    rw (c .before .count-crossings .ensures) at (c .carried-to .ensures)
+unfolding recounted
+returns c = rw (c .before .count-crossings .ensures) at (c .carried-to .ensures)
 
 pub recounted-spec : {M : Type 1} → statement M
 recounted-spec = tie.close (tie.spec count-crossings-requires carried-to-requires returns)

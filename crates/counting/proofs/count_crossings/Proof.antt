@@ -6,6 +6,7 @@ use borrow.Author.Tests.{le-leb, lt-leb}
 use Rattle.model.specs.Edits.{withBit, withoutBit}
 use Rattle.laws.specs.Sums.Bits.{set-within}
 use Rattle.laws.specs.Crossings.Masks.{maskFrom}
+use Rattle.laws.specs.Layouts.Recount.{counted}
 use Rattle.counting.specs.Loops.{CountUpTo, count-start, count-next, count-end}
 use Rattle.counting.proofs.count_crossings.Statement.{statement}
 use Rattle.counting.proofs.count_crossings.Tie as tie
@@ -17,6 +18,7 @@ abbrev μ-loop : tie.MeasureT-loop
 μ-loop n order adjacency before₀ from₀ total₀ j₀ before from total j = n - j
 
 returns : tie.Need-returns Inv-loop μ-loop
+unfolding counted
 returns c = rw (lt-leb _ _ (c .if1 .taken))
 
 low-bits-requires : tie.Need-low-bits-requires Inv-loop μ-loop
@@ -68,6 +70,7 @@ loop-again c =
     (row .count-row .ensures .1)
 
 returns-2 : tie.Need-returns-2 Inv-loop μ-loop
+unfolding counted
 returns-2 c = rw (le-leb _ _ (c .before .before .before .if1 .left)) (count-end (c .before .loop .inv) (c .loop-test .left))
 
 pub count-crossings-spec : {M : Type 1} → statement M

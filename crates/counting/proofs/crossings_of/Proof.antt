@@ -1,5 +1,4 @@
 use borrow.Author.Needs.{needs}
-use Rattle.laws.specs.Layouts.Recount.{counted}
 use Rattle.counting.proofs.crossings_of.Statement.{statement}
 use Rattle.counting.proofs.crossings_of.Tie as tie
 
@@ -7,7 +6,6 @@ count-crossings-requires : tie.Need-count-crossings-requires
 count-crossings-requires c κs = search needs
 
 returns : tie.Need-returns
-unfolding counted
 returns c = c .count-crossings .ensures
 
 pub crossings-of-spec : {M : Type 1} → statement M
