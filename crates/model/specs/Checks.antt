@@ -62,6 +62,6 @@ bufferFits l size = record { passes = leb (l .n) size; code = 18 }
 
 -- ---- of calls that document 02 adds
 
--- what is written out, and a lent buffer: "19 when the lent buffer is shorter" (Note 1)
-unfoldable pub roomFor : List ℕ → List ℕ → Check
-roomFor bytes buffer = record { passes = leb (length bytes) (length buffer); code = 19 }
+-- what is written out, and a lent buffer: "19 when the lent buffer is shorter" (Note 1); "23 when the table has fewer entries" (Note 7)
+unfoldable pub roomFor : ℕ → List ℕ → List ℕ → Check
+roomFor short entries buffer = record { passes = leb (length entries) (length buffer); code = short }

@@ -12,6 +12,7 @@ pub mod Charts
 pub mod Writing
 pub mod WrittenCharts
 pub mod Graph6
+pub mod EdgeCrossings
 pub mod Reports
 pub mod Histories
 pub mod Playing
@@ -19,3 +20,4 @@ pub mod Listing
 pub mod Starred
 pub mod WorkedCharts
 pub mod WorkedGraphs
+pub mod WorkedTables

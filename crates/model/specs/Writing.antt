@@ -1,4 +1,5 @@
--- A layout written out into a lent buffer, in a format that gives the bytes of each layout: as a chart (document 02, Note 1), or in graph6 (Note 4).
+-- A lent buffer or table filled from its start, in a format that gives the bytes or numbers of each layout: a layout written out as a chart (document 02,
+-- Note 1) or in graph6 (Note 4), and the crossings of every edge (Note 7, EdgeCrossings).
 use Prim.Native.Nat.{ℕ}
 use mathlib.Core.List.{List, [], _∷_, _++_}
 use lib.ListN.{length, drop}
@@ -6,18 +7,35 @@ use Rattle.model.specs.declared.Layout.{Layout}
 use Rattle.model.specs.declared.LayoutWritten.{LayoutWritten}
 use Rattle.model.specs.Checks.{Check, checked, isValid, roomFor}
 
+-- ---- in any format, short being the refusal code of too short a buffer
+
+module _ (short : ℕ) (format : Layout → List ℕ) (l : Layout) (buffer : List ℕ) where
+  -- 11, and then the room
+  abbrev pub fillChecks : List Check
+  fillChecks = isValid l ∷ roomFor short (format l) buffer ∷ []
+
+  -- the refusal code and how many entries are written, none where it is refused
+  abbrev pub fillAnswer : {A : Type 0} → (ℕ → ℕ → A) → A
+  fillAnswer answer = checked fillChecks (answer 0 (length (format l))) (λ r. answer r 0)
+
+  -- the buffer's entries after the call: those beyond what is written keep their contents
+  abbrev pub filled : List ℕ
+  filled = checked fillChecks (format l ++ drop (length (format l)) buffer) (λ r. buffer)
+
+-- ---- a layout written out
+
+abbrev pub writeAnswer : ℕ → ℕ → LayoutWritten
+writeAnswer r length = record { refusal = r; length = length }
+
 module _ (format : Layout → List ℕ) (l : Layout) (buffer : List ℕ) where
   -- "Refused: 19 when the lent buffer is shorter than the chart, asked after 11."; "Export to a short buffer gives 19."
   unfoldable pub writeChecks : List Check
-  writeChecks = isValid l ∷ roomFor (format l) buffer ∷ []
+  writeChecks = fillChecks 19 format l buffer
 
   -- "It answers the chart's length"; "it answers its length"
   unfoldable pub writeOf : LayoutWritten
-  writeOf =
-      checked writeChecks
-      (record { refusal = 0; length = length (format l) })
-      (λ r. record { refusal = r; length = 0 })
+  writeOf = fillAnswer 19 format l buffer writeAnswer
 
   -- the buffer's bytes after the call: "buffer bytes beyond the chart keep their contents"; "keeps buffer bytes beyond it"
   unfoldable pub writtenBytes : List ℕ
-  writtenBytes = checked writeChecks (format l ++ drop (length (format l)) buffer) (λ r. buffer)
+  writtenBytes = filled 19 format l buffer

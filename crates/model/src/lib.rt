@@ -98,6 +98,13 @@ pub struct LayoutWritten {
     pub length: usize,
 }
 
+// The crossings of every edge, in a lent table: how many edges there are, 0 where it is refused.
+#[repr(C)]
+pub struct EdgesCounted {
+    pub refusal: u8,
+    pub edges: usize,
+}
+
 // What the passes of the chart reader and of the graph6 reader answer. specs/Charts.antt says for each
 // case which number and values of document 01 it stands for.
 
