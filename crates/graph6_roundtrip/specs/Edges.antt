@@ -24,7 +24,8 @@ use Rattle.pairs.specs.Edges.{edge}
 use Rattle.bodies.specs.Words.{adjacencyOf, adjacency-linked}
 use Rattle.chart.specs.Laws.{sameEdge-swap, joins-member}
 use Rattle.chart.specs.Sequence.{written, SameEdges, few-once}
-use Rattle.roundtrip.specs.EdgeLists.{pairSum-if-there, edge-rises, edge-below}
+use Rattle.laws.specs.Crossings.Edges.{edge-rises, edge-below}
+use Rattle.roundtrip.specs.EdgeLists.{pairSum-if-there}
 
 -- ---- the pairs that are joined
 

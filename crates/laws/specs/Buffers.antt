@@ -5,3 +5,4 @@ pub mod Writing
 pub mod EdgeBytes
 pub mod Charts
 pub mod Formats
+pub mod EdgeTables

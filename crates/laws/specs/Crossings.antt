@@ -12,3 +12,4 @@ pub mod Exchange
 pub mod LemmaOne
 pub mod Bound
 pub mod Masks
+pub mod Chords

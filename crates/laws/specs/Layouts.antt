@@ -10,5 +10,6 @@ pub mod EdgeEdits
 pub mod VertexEdits
 pub mod Reordering
 pub mod FirstCrossing
+pub mod EdgeCrossings
 pub mod Sizes
 pub mod EditCalls

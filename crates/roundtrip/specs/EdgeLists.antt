@@ -9,7 +9,7 @@ use mathlib.Core.List.{List, [], _∷_, map, flatMap}
 use lib.ListN.{length, getD}
 use lib.Dec.{eqb, ltb}
 use lib.Pow.{pow-mono}
-use borrow.Author.Tests.{lt-ltb, ltb-true, eq-eqb, ne-eqb}
+use borrow.Author.Tests.{eq-eqb, ne-eqb}
 use Rattle.model.specs.declared.Edge.{Edge}
 use Rattle.model.specs.Lists.{one, upto, any, keep, noRepeats}
 use Rattle.model.specs.Crossings.{bit, linked, edges}
@@ -26,16 +26,6 @@ use Rattle.pairs.specs.Edges.{edge, edge-within, edge-outside}
 use Rattle.bodies.specs.Words.{adjacencyOf, adjacency-ext}
 use Rattle.chart.specs.Laws.{joins-member}
 use Rattle.chart.specs.Sequence.{written, written-any, few-once}
-
--- the ends of an edge that passes question 6
-module _ (n : ℕ) (e : Edge) (h : edgeWithin n e ≡ true) where
-  pub edge-rises : e .low < e .high
-  unfolding edgeWithin
-  edge-rises = ltb-true (e .low) (e .high) (both-left (ltb (e .low) (e .high)) (ltb (e .high) n) h)
-
-  pub edge-below : e .high < n
-  unfolding edgeWithin
-  edge-below = ltb-true (e .high) n (both-right (ltb (e .low) (e .high)) (ltb (e .high) n) h)
 
 -- ---- the bytes of some edges
 
@@ -122,17 +112,6 @@ edges-there n adj e = written-any e (edges n adj) ∙ ap (ltb 0) (edges-often n 
     as-test : (t : Bool) → ltb 0 (one t) ≡ t
     as-test true = refl
     as-test false = refl
-
--- each has its lower end first, and both below n
-pub edges-within : (n : ℕ) (adj : List ℕ) → All (λ e. edgeWithin n e ≡ true) (edges n adj)
-unfolding edges edgeWithin
-edges-within n adj =
-    all-flatMap (λ a. map (rising a) (keep (higher a) (upto n))) (all-upto n)
-    (λ a l. all-map (λ e. edgeWithin n e ≡ true) (rising a) (all-kept (higher a) (all-upto n))
-    (λ b h. ap₂ (λ (x y : Bool). x && y) (both-left (ltb a b) (linked adj a b) (h .1)) (lt-ltb b n (h .0))))
-  where
-    higher : ℕ → ℕ → Bool
-    higher a b = ltb a b && linked adj a b
 
 -- ---- the words of all edges
 

@@ -28,7 +28,8 @@ use Rattle.bodies.specs.Words.{adjacencyOf}
 use Rattle.readers.specs.Padded.{padded}
 use Rattle.chart.specs.Laws.{read-number, read-is}
 use Rattle.roundtrip.specs.Fields.{fieldOf, field-bytes, allBytes, fields-read}
-use Rattle.roundtrip.specs.EdgeLists.{edge-rises, edge-below, edge-bytes-all, edge-bytes-read}
+use Rattle.laws.specs.Crossings.Edges.{edge-rises, edge-below}
+use Rattle.roundtrip.specs.EdgeLists.{edge-bytes-all, edge-bytes-read}
 
 -- the three fields
 abbrev fieldsWith : ℕ → List Edge → List ℕ → List Field

@@ -27,7 +27,8 @@ use Rattle.laws.specs.Layouts.Validity.{sound}
 use Rattle.readers.specs.Padded.{padded, padded-length, padded-at}
 use Rattle.chart.specs.Laws.{read-valid, read-sized, same-charts}
 use Rattle.chart.specs.Sequence.{Rewritten, rewriting-free}
-use Rattle.roundtrip.specs.EdgeLists.{edges-within, edges-once, edges-words}
+use Rattle.laws.specs.Crossings.Edges.{edges-within}
+use Rattle.roundtrip.specs.EdgeLists.{edges-once, edges-words}
 use Rattle.roundtrip.specs.Listings.{Proper, chart-bytes, chart-read}
 
 -- a list that is 0 from place n on is its first n entries, filled up with 0

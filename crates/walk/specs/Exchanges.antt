@@ -9,6 +9,7 @@ use lib.Dec.{ltb}
 use Rattle.model.specs.Crossings.{bit}
 use Rattle.model.specs.Edits.{withBit}
 use Rattle.laws.specs.Sums.Bits.{maskedOnes, maskedOnes-le}
+use Rattle.laws.specs.Sums.Wrapping.{exact-less}
 use Rattle.ranks.specs.Ranks.{rankSum}
 use Rattle.walk.specs.declared.Kept.{Kept}
 use Rattle.walk.specs.declared.Vertex.{Vertex}
@@ -19,10 +20,6 @@ use Rattle.walk.specs.Keeping.{keptNext}
 pub record Exchanged (crossings ranked excess pairs shared r : ℕ) : Type 0 where
   pub exact : (lost gained : ℕ) → ranked ≡ lost + excess → pairs ≡ gained + lost + shared → lost ≤ crossings → crossings + gained < 2 ^ 32
       → r + lost ≡ crossings + gained
-
--- a difference that does not go below 0
-exact-less : {r a : ℕ} (b x : ℕ) → r < 2 ^ 32 → a < 2 ^ 32 → (r + b) % 2 ^ 32 ≡ a → a ≡ x + b → r ≡ x
-exact-less b x h l e d = omega arith
 
 exact-left : {left c less : ℕ} (l : ℕ) → left < 2 ^ 32 → c < 2 ^ 32 → (left + less) % 2 ^ 32 ≡ c → less ≡ l → l ≤ c → left + l ≡ c
 exact-left l h k e d f = omega arith

@@ -5,7 +5,7 @@ use native.Mathlib.Omega.{arith}
 use mathlib.Core.Path.{_≡_, refl, sym, ap, ap₂, _∙_}
 use mathlib.Core.List.{List, [], _∷_, _++_}
 use lib.ListN.{getD, take, drop}
-use lib.Seq.{take-suc}
+use lib.Seq.{take-suc, drop-cons}
 use lib.Dec.{eqb, ltb}
 use lib.Arith.{dbl-pred, digits-div, digits-mod}
 use lib.Pow.{pow-pos, ones-lt}
@@ -16,7 +16,7 @@ use Rattle.model.specs.Edits.{withBit, withoutBit}
 use Rattle.laws.specs.Sums.Indicators.{order, one-eq, one-ne}
 use Rattle.laws.specs.Sums.Ranges.{sum, sum-ext, sum-zero, sum-add, sum-at-right, sum-below, sum-above}
 use Rattle.laws.specs.Sums.Lists.{All, none, also, all-take, all-drop, all-places, sumOver-take, sumOver-drop}
-use Rattle.laws.specs.Orders.Permutations.{at, Permutation, at-lt, occurrences-nil, occurrences-last, from-next, alone-before, alone-after, none-beyond}
+use Rattle.laws.specs.Orders.Permutations.{at, Permutation, at-lt, occurrences-nil, occurrences-cons, occurrences-append, occurrences-last, alone-before, alone-after, none-beyond, sum-before, sum-behind}
 use Rattle.laws.specs.Sums.Pairs.{pairSum, pairSum-ext, Symmetric}
 use Rattle.laws.specs.Sums.Bits.{bit-lt, bit-first, bit-next, bit-beyond, maskedOnes, set-same, set-other, clear-same, clear-other}
 use Rattle.laws.specs.Crossings.Counting.{placed, crossingSum-counted}
@@ -76,6 +76,17 @@ holds-set m v xs h e y l =
       | no d ↦ set-other m v y d ∙ h y l ∙ sym (occurrences-last y v xs ∙ omega (arith, one-ne y v d))
     ]
 
+-- one less
+pub holds-clear : (m v : ℕ) (xs ys : List ℕ) → Holds m (xs ++ (v ∷ ys)) → occurrences v (xs ++ ys) ≡ 0 → Holds (withoutBit m v) (xs ++ ys)
+holds-clear m v xs ys h e y l =
+    elim (ℕ-discrete y v) [
+      | yes d ↦ rw d (clear-same m v ∙ sym e)
+      | no d ↦
+          clear-other m v y d
+          ∙ h y l
+          ∙ omega (arith, occurrences-append y xs (v ∷ ys), occurrences-append y xs ys, occurrences-cons y v ys, one-ne y v d)
+    ]
+
 full-next : (n : ℕ) → 2 ^ suc n - 1 ≡ (2 ^ n - 1) * 2 + 1
 full-next n = ap (λ (x : ℕ). x - 1) (pow-suc 2 n) ∙ dbl-pred (pow-pos n)
 
@@ -127,19 +138,11 @@ module _ (n : ℕ) (order o : List ℕ) (small : n ≤ 64) (perm : Permutation n
 
   pub holds-from : (k : ℕ) → k ≤ n → Holds (maskFrom n order k) (drop k o)
   unfolding maskFrom
-  holds-from zero h v l = holds-all perm v l
-  holds-from (suc k) h v l =
-      ap (λ (x : ℕ). bit (withoutBit (maskFrom n order k) x) v) (same-vertex k h)
-      ∙ elim (ℕ-discrete v (at o k)) [
-        | yes e ↦
-            ap (bit (withoutBit (maskFrom n order k) (at o k))) e
-            ∙ clear-same (maskFrom n order k) (at o k)
-            ∙ sym (ap (λ (x : ℕ). occurrences x (drop (suc k) o)) e ∙ alone-after perm k h)
-        | no d ↦
-            clear-other (maskFrom n order k) (at o k) v d
-            ∙ holds-from k (omega arith) v l
-            ∙ omega (arith, from-next perm k h v, one-ne v (at o k) d)
-      ]
+  holds-from zero h = holds-all perm
+  holds-from (suc k) h =
+      rw (same-vertex k h)
+      (holds-clear (maskFrom n order k) (at o k) [] (drop (suc k) o)
+      (λ v l. holds-from k (omega arith) v l ∙ ap (occurrences v) (drop-cons o k 0 (omega (arith, perm .size)))) (alone-after perm k h))
 
   within : All (λ x. x < 64) o
   within = all-places o (λ i l. lt-of-lt-of-le (at-lt perm i (rw (perm .size) at l)) small)
@@ -147,16 +150,11 @@ module _ (n : ℕ) (order o : List ℕ) (small : n ≤ 64) (perm : Permutation n
   -- counts of ones under the masks, as sums over places
   masked-before : (w j : ℕ) → j ≤ n → maskedOnes w (maskBefore order j) ≡ sum n (λ i. one (ltb i j) * bit w (at o i))
   masked-before w j h =
-      masked-sum w (maskBefore order j) (holds-before j h) (all-take j within)
-      ∙ sumOver-take (bit w) o j (omega (arith, perm .size))
-      ∙ sym (sum-below n j (λ i. bit w (at o i)) h)
+      masked-sum w (maskBefore order j) (holds-before j h) (all-take j within) ∙ sum-before perm (bit w) j h
 
   masked-from : (w k : ℕ) → k < n → maskedOnes w (maskFrom n order (suc k)) ≡ sum n (λ l. one (ltb k l) * bit w (at o l))
   masked-from w k h =
-      masked-sum w (maskFrom n order (suc k)) (holds-from (suc k) h) (all-drop (suc k) within)
-      ∙ sumOver-drop (bit w) o (suc k)
-      ∙ ap (λ (m : ℕ). sum (m - suc k) (λ i. bit w (at o (suc k + i)))) (perm .size)
-      ∙ sym (sum-above n k (λ l. bit w (at o l)) h)
+      masked-sum w (maskFrom n order (suc k)) (holds-from (suc k) h) (all-drop (suc k) within) ∙ sum-behind perm (bit w) k h
 
   -- the formula counts the crossings
   pub countOn-crossings : (adj : List ℕ) → Symmetric n (weight adj) → countOn n order adj ≡ crossings n o adj

@@ -12,7 +12,7 @@ use borrow.Author.Tests.{le-leb}
 use Rattle.model.specs.declared.Layout.{Layout}
 use Rattle.model.specs.Crossings.{crossings}
 use Rattle.model.specs.Layouts.{modulus, vertexOrder, crossingsOf, valid, carried, changed}
-use Rattle.laws.specs.Orders.Permutations.{Permutation, at-lt}
+use Rattle.laws.specs.Orders.Permutations.{at, Permutation, at-lt}
 use Rattle.laws.specs.Sums.Pairs.{Symmetric}
 use Rattle.laws.specs.Crossings.Edges.{weight}
 use Rattle.laws.specs.Crossings.Masks.{vertexAt, countOn, countOn-crossings}
@@ -28,17 +28,21 @@ pub drawn : (l : Layout) → T (valid l) → Drawn (l .n) (l .order) (l .adjacen
 unfolding vertexOrder
 drawn l t = record { small = sound l t .small; permutation = sound l t .permutation; symmetry = sound l t .symmetry }
 
+-- the vertex at a place, which the counter takes modulo 64
+pub drawn-vertex : {n : ℕ} {order adj : List ℕ} → Drawn n order adj → (j : ℕ) → j < n → vertexAt order j ≡ at (take n order) j
+unfolding vertexAt
+drawn-vertex {n} {order} d j h =
+    ap (λ (x : ℕ). x % 64) (sym (getD-take n order j 0 h)) ∙ mod-eq-of-lt (lt-of-lt-of-le (at-lt (d .permutation) j h) (d .small))
+
 -- what the counter answers
 unfoldable pub counted : ℕ → List ℕ → List ℕ → ℕ
 counted n order adj = cond (leb n 64) (countOn n order adj) 0
 
 pub counted-crossings : {n : ℕ} {order adj : List ℕ} → Drawn n order adj → counted n order adj ≡ crossings n (take n order) adj
-unfolding counted vertexAt
+unfolding counted
 counted-crossings {n} {order} {adj} d =
     rw (le-leb n 64 (d .small))
-    (countOn-crossings n order (take n order) (d .small) (d .permutation)
-    (λ j h. ap (λ (x : ℕ). x % 64) (sym (getD-take n order j 0 h)) ∙ mod-eq-of-lt (lt-of-lt-of-le (at-lt (d .permutation) j h) (d .small)))
-    adj (d .symmetry))
+    (countOn-crossings n order (take n order) (d .small) (d .permutation) (drawn-vertex d) adj (d .symmetry))
 
 -- of a valid layout, its crossings
 pub counted-valid : (l : Layout) → T (valid l) → counted (l .n) (l .order) (l .adjacency) ≡ crossingsOf l

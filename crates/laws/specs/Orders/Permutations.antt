@@ -1,18 +1,18 @@
 -- A list that holds each vertex once: places and vertices are inverse, and a sum over vertices is the sum over places.
-use Prim.Native.Nat.{ℕ, zero, suc, _+_, _*_, _≤_, _<_, zero-le, suc-le-suc}
+use Prim.Native.Nat.{ℕ, zero, suc, _+_, _*_, _-_, _≤_, _<_, zero-le, suc-le-suc}
 use native.Mathlib.Nat.{zero-add, mul-one, not-suc-le-zero, le-of-suc-le-suc}
 use native.Mathlib.Omega.{arith}
 use mathlib.Core.Path.{_≡_, refl, sym, ap, _∙_}
 use mathlib.Core.Bool.{Bool, true, false, cond, _||_}
 use mathlib.Core.List.{List, [], _∷_, _++_}
-use lib.ListN.{length, getD, take, drop}
-use lib.Seq.{drop-cons}
+use lib.ListN.{length, getD, take, drop, length-drop}
+use lib.Seq.{drop-cons, getD-drop}
 use lib.Dec.{eqb, ltb}
 use borrow.Author.Tests.{eq-eqb, eqb-true, lt-ltb}
 use Rattle.model.specs.Lists.{one, upto, any, sumOver, member, occurrences, place}
 use Rattle.laws.specs.Sums.Indicators.{less, same, more, order, one-eq, one-ne, one-lt, one-ge, one-le, one-sym}
-use Rattle.laws.specs.Sums.Ranges.{sum, sum-ext, sum-zero, sum-scale, sum-const, sum-swap, sum-at, sum-at-right, all-one}
-use Rattle.laws.specs.Sums.Lists.{sumOver-append, sumOver-last, sumOver-split, sumOver-places, sumOver-upto, length-upto}
+use Rattle.laws.specs.Sums.Ranges.{sum, sum-ext, sum-zero, sum-scale, sum-const, sum-swap, sum-at, sum-at-right, sum-below, sum-above, all-one}
+use Rattle.laws.specs.Sums.Lists.{sumOver-append, sumOver-last, sumOver-split, sumOver-places, sumOver-take, sumOver-drop, sumOver-upto, length-upto}
 
 -- the vertex at a place
 abbrev pub at : List ℕ → ℕ → ℕ
@@ -186,6 +186,37 @@ module _ {n : ℕ} {o : List ℕ} (perm : Permutation n o) where
   -- over the entries of the list
   pub order-sum : (f : ℕ → ℕ) → sumOver f (upto n) ≡ sumOver f o
   order-sum f = sumOver-upto f n ∙ sum-vertices f ∙ sym (sumOver-places f 0 o ∙ ap (λ (k : ℕ). sum k (λ i. f (at o i))) (perm .size))
+
+  -- over those before a place, behind one, and strictly between two
+  pub sum-before : (f : ℕ → ℕ) (j : ℕ) → j ≤ n → sumOver f (take j o) ≡ sum n (λ i. one (ltb i j) * f (at o i))
+  sum-before f j h = sumOver-take f o j (omega (arith, perm .size)) ∙ sym (sum-below n j (λ i. f (at o i)) h)
+
+  pub sum-behind : (f : ℕ → ℕ) (k : ℕ) → k < n → sumOver f (drop (suc k) o) ≡ sum n (λ l. one (ltb k l) * f (at o l))
+  sum-behind f k h =
+      sumOver-drop f o (suc k)
+      ∙ ap (λ (m : ℕ). sum (m - suc k) (λ i. f (at o (suc k + i)))) (perm .size)
+      ∙ sym (sum-above n k (λ l. f (at o l)) h)
+
+  pub sum-between : (f : ℕ → ℕ) (i k : ℕ) → i < k → k ≤ n
+      → sumOver f (take (k - suc i) (drop (suc i) o)) ≡ sum n (λ a. one (ltb i a) * (one (ltb a k) * f (at o a)))
+  sum-between f i k a b =
+      sumOver-take f (drop (suc i) o) (k - suc i) (omega (arith, length-drop (suc i) o, perm .size))
+      ∙ sum-ext (k - suc i) (λ j. f (at (drop (suc i) o) j)) behind (λ j l. ap f (getD-drop (suc i) o j 0))
+      ∙ sym
+      (sum-above n i (λ j. one (ltb j k) * f (at o j)) (omega arith)
+      ∙ sum-ext (n - suc i) (λ j. one (ltb (suc i + j) k) * behind j) (λ j. one (ltb j (k - suc i)) * behind j) (λ j l. ap (λ (x : ℕ). x * behind j) (shifted j))
+      ∙ sum-below (n - suc i) (k - suc i) behind (omega arith))
+    where
+      behind : ℕ → ℕ
+      behind j = f (at o (suc i + j))
+
+      shifted : (j : ℕ) → one (ltb (suc i + j) k) ≡ one (ltb j (k - suc i))
+      shifted j =
+          elim (order (suc i + j) k) [
+            | less l ↦ one-lt (suc i + j) k l ∙ sym (one-lt j (k - suc i) (omega arith))
+            | same e ↦ one-ge (suc i + j) k (omega arith) ∙ sym (one-ge j (k - suc i) (omega arith))
+            | more l ↦ one-ge (suc i + j) k (omega arith) ∙ sym (one-ge j (k - suc i) (omega arith))
+          ]
 
   pub from-next : (j : ℕ) → j < n → (v : ℕ) → occurrences v (drop j o) ≡ one (eqb v (at o j)) + occurrences v (drop (suc j) o)
   from-next j h v = ap (occurrences v) (drop-cons o j 0 (omega (arith, perm .size))) ∙ occurrences-cons v (at o j) (drop (suc j) o)
