@@ -1,12 +1,12 @@
 // The shown crossing pair: the edges in their sequence, and a search over each two of them.
 ghost use mathlib.Core.Path.{_≡_};
-ghost use Prim.Native.Nat.{_+_, _*_, _≤_, _<_};
+ghost use Prim.Native.Nat.{_+_, _*_, _<_};
 ghost use lib.ListN.{length, take};
 ghost use Rattle.model.specs.Reading.{shown, firstPair, firstCrossingOf};
 ghost use Rattle.laws.specs.Buffers.EdgeBytes.{edgeAt};
-ghost use Rattle.laws.specs.Orders.Permutations.{Permutation};
 ghost use Rattle.laws.specs.Layouts.FirstCrossing.{found};
-ghost use Rattle.crossing.specs.Search.{listed, PlacesOf, crossAt, Searchable};
+ghost use Rattle.edge_list.specs.Listed.{listed};
+ghost use Rattle.crossing.specs.Search.{crossAt, Searchable};
 use model::Edge;
 use model::FirstCrossing;
 use model::Layout;
@@ -27,11 +27,11 @@ pub fn first_crossing(l: Layout) -> FirstCrossing
 }
 
 // Of the listed edges, the first pair that crosses.
-fn first_pair(n: usize, order: &[u8], count: usize, ends: &[u8]) -> FirstCrossing
+fn first_pair(n: usize, order: &[u8; 64], count: usize, ends: &[u8]) -> FirstCrossing
     requires { ⌜ Searchable n (now order) count (now ends) ⌝ }
     ensures { λ r. ⌜ shown r ≡ found (firstPair (take n (now (order .entry))) (listed (now (ends .entry)) count)) ⌝ }
 {
-    let places = places_of(n, order);
+    let places = places::places_of(n, order);
     let mut first = 0;
     'search: loop {
         if count <= first {
@@ -59,21 +59,6 @@ fn edge_at(ends: &[u8], i: usize) -> Edge
         low: ends[2 * i] as usize,
         high: ends[2 * i + 1] as usize,
     }
-}
-
-// The place of each vertex.
-fn places_of(n: usize, order: &[u8]) -> [u8; 64]
-    requires { ⌜ (n ≤ 64) × (length (now order) ≡ 64) × Permutation n (take n (now order)) ⌝ }
-    ensures { λ r. ⌜ PlacesOf n (now (order .entry)) r ⌝ }
-{
-    let mut places = [0u8; 64];
-    let mut p = 0;
-    while p < n {
-        let v = order[p] as usize;
-        places[v] = p as u8;
-        p += 1;
-    }
-    places
 }
 
 // Do the two edges cross, by the places of their ends?

@@ -97,7 +97,7 @@ module _ (n : ℕ) {size bits : ℕ} (p : size ≡ length (sizePart n)) (q : bit
   parts-few = omega (arith, p, q, data-most n, size-most n)
 
 -- where all checks have passed
-module _ {l : Layout} {buffer : List ℕ} {long code : ℕ} (a : Asked graph6Of l buffer long code) (z : code ≡ 0) where
+module _ {l : Layout} {buffer : List ℕ} {long code : ℕ} (a : Asked 19 graph6Of l buffer long code) (z : code ≡ 0) where
   pub fits : long ≡ counted (l .n) → (l .n ≤ 64) × (counted (l .n) ≤ length buffer)
   fits e = (sound l (is-valid a z) .small, rw e at (room a z))
 

@@ -25,7 +25,7 @@ pub fn export(l: Layout, buffer: &mut [u8]) -> LayoutWritten
     let n = l.n;
     let adjacency = l.adjacency;
     let length = size_length(n) + data_length(n);
-    let refusal = write_refusal(is_valid(l), length, buffer.len());
+    let refusal = write_refusal(is_valid(l), length, buffer.len(), 19);
     if refusal != 0 {
         return LayoutWritten { refusal, length: 0 };
     }

@@ -1,10 +1,13 @@
-// Places of an order: where a vertex stands, and an entry moved directly behind another.
+// Places of an order: where a vertex stands, where each does, and an entry moved directly behind another.
 ghost use mathlib.Core.Path.{_≡_};
 ghost use mathlib.Core.Bool.{cond, _&&_};
-ghost use Prim.Native.Nat.{_<_};
+ghost use Prim.Native.Nat.{_≤_, _<_};
+ghost use lib.ListN.{take};
 ghost use lib.Dec.{ltb};
 ghost use Rattle.model.specs.Lists.{place};
+ghost use Rattle.laws.specs.Orders.Permutations.{Permutation};
 ghost use Rattle.laws.specs.Orders.Moves.{movedFrom};
+ghost use Rattle.places.specs.AllPlaces.{PlacesOf};
 ghost use Rattle.places.specs.MovedPlaces.{shifted};
 
 // The place of a vertex in an order, or the order's length where it has none.
@@ -19,6 +22,23 @@ pub fn place_of(order: &[u8], v: usize) -> usize
         i += 1;
     }
     i
+}
+
+// The place of each vertex of an order of n. Of bytes that hold no order nothing is said.
+pub fn places_of(n: usize, order: &[u8; 64]) -> [u8; 64]
+    ensures { λ r. ⌜ (n ≤ 64 → Permutation n (take n (now (order .entry))) → PlacesOf n (now (order .entry)) r) ⌝ }
+{
+    let mut places = [0u8; 64];
+    if 64 < n {
+        return places;
+    }
+    let mut p = 0;
+    while p < n {
+        let v = (order[p] % 64) as usize;
+        places[v] = p as u8;
+        p += 1;
+    }
+    places
 }
 
 // The entries after the one at place p was taken out and put directly behind the one at place q.

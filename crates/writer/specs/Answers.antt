@@ -29,7 +29,7 @@ counted-is l t = rw (le-leb (l .n) 64 (sound l t .small)) (sym (chart-size l t))
 
 -- what the call has asked
 pub record ChartAsked (l : Layout) (buffer : List ℕ) (long code : ℕ) : Type 0 where
-  pub asked : Asked chartOf l buffer long code
+  pub asked : Asked 19 chartOf l buffer long code
   pub measured : long ≡ counted (l .n) (l .adjacency)
 
 -- where all checks have passed

@@ -28,7 +28,7 @@ pub fn write(l: Layout, buffer: &mut [u8]) -> LayoutWritten
     let n = l.n;
     let adjacency = l.adjacency;
     let length = chart_length(n, &adjacency);
-    let refusal = write_refusal(is_valid(l), length, buffer.len());
+    let refusal = write_refusal(is_valid(l), length, buffer.len(), 19);
     if refusal != 0 {
         return LayoutWritten { refusal, length: 0 };
     }

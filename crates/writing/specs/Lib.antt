@@ -1,2 +1,2 @@
--- Answers: what a call that writes a layout answers, and leaves in the buffer, by its checks.
+-- Answers: what a call that fills a lent buffer answers, and leaves in it, by its checks.
 pub mod Answers

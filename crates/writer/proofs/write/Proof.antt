@@ -4,6 +4,7 @@ use mathlib.Core.Path.{_≡_, sym, ap, _∙_}
 use mathlib.Core.Bool.{Bool}
 use lib.ListN.{length as len}
 use lib.Seq.{length-take-le}
+use lib.Dec.{lit<}
 use Rattle.model.specs.Checks.{refusal}
 use Rattle.writing.specs.Answers.{asks, refused}
 use Rattle.writer.specs.Answers.{ChartAsked, counted-is, inside, fits, chart-written}
@@ -35,8 +36,9 @@ asked c =
     record {
       asked =
           record {
+            numbered = lit< tt;
             measured = λ t. length .ensures ∙ counted-is _ t;
-            told = c .write-refusal .ensures ∙ ap (λ (b : Bool). refusal (asks b (length .result) size)) (c .before .is-valid .ensures);
+            told = c .write-refusal .ensures ∙ ap (λ (b : Bool). refusal (asks 19 b (length .result) size)) (c .before .is-valid .ensures);
           };
       measured = length .ensures;
     }

@@ -29,9 +29,6 @@ put-edges-requires c κs = search needs
 slice-aggregate-first-pair : tie.Need-slice-aggregate-first-pair
 slice-aggregate-first-pair c = search needs
 
-slice-aggregate-first-pair-2 : tie.Need-slice-aggregate-first-pair-2
-slice-aggregate-first-pair-2 c = search needs
-
 -- from where the edges are searched to where they were put, and from there to where the check was passed
 abbrev put : tie.After-ends3 → tie.After-put-edges
 put c = c .before .before .before
@@ -40,7 +37,7 @@ abbrev past-check : tie.After-put-edges → tie.Else1
 past-check c = let lent = c .before .before in lent .before .before .before
 
 first-pair-requires : tie.Need-first-pair-requires
-first-pair-requires c κs = searchable _ (accepted (past-check (put c))) refl (put c .put-edges .ensures) (search needs)
+first-pair-requires c κs = searchable _ (accepted (past-check (put c))) refl (put c .put-edges .ensures)
 
 returns-2 : tie.Need-returns-2
 returns-2 c =
@@ -56,6 +53,5 @@ first-crossing-spec =
     slice-aggregate-put-edges
     put-edges-requires
     slice-aggregate-first-pair
-    slice-aggregate-first-pair-2
     first-pair-requires
     returns-2)

@@ -1,8 +1,10 @@
+use borrow.Author.Needs.{needs}
 use Prim.Native.Nat.{_-_}
 use native.Mathlib.Omega.{arith}
 use mathlib.Core.Path.{sym}
 use Rattle.model.specs.Reading.{shown}
 use Rattle.laws.specs.Layouts.FirstCrossing.{found}
+use Rattle.places.specs.AllPlaces.{PlacesOf}
 use Rattle.crossing.specs.Search.{FirstsPassed, SecondsPassed, in-array, ends-below, firsts-start, firsts-end, firsts-next}
 use Rattle.crossing.specs.Search.{seconds-start, seconds-next, pair-found}
 use Rattle.crossing.proofs.crossing.first_pair.Statement.{statement}
@@ -22,16 +24,19 @@ abbrev μ-search : tie.MeasureT-search
 
 -- the function's start
 abbrev start : tie.At-search Inv-loop μ-loop Inv-search μ-search → tie.Start Inv-loop μ-loop Inv-search μ-search
-start c = c .before .before .before .before
+start c = c .before .before .before
 
 -- from the inner loop to the test that the outer one goes on
 abbrev row-of : tie.At-loop Inv-loop μ-loop Inv-search μ-search → tie.Else1 Inv-loop μ-loop Inv-search μ-search
 row-of c = c .before .before
 
 places-of-requires : tie.Need-places-of-requires Inv-loop μ-loop Inv-search μ-search
-places-of-requires c κs =
-    let given = c .before .before .pre in
-    (given .small, given .order-size, given .permutation)
+places-of-requires c κs = search needs
+
+-- the places are those of the order
+placed : (c : tie.After-places-of Inv-loop μ-loop Inv-search μ-search)
+    → let s = c .before .before .args in PlacesOf (s .n) (s .order .now) (c .places-of .result)
+placed c = let given = c .before .before .pre in c .places-of .ensures (given .small) (given .permutation)
 
 search-holds : tie.Need-search-holds Inv-loop μ-loop Inv-search μ-search
 search-holds c = firsts-start
@@ -51,7 +56,7 @@ edge-at-requires-2 c κs = in-array (start (row-of (c .before) .before) .pre) (c
 slice-aggregate-cross : tie.Need-slice-aggregate-cross Inv-loop μ-loop Inv-search μ-search
 slice-aggregate-cross c =
     let row = row-of (c .before .before .before) in
-    sym (row .before .before .places-of .ensures .size)
+    sym (placed (row .before .before) .size)
 
 cross-requires : tie.Need-cross-requires Inv-loop μ-loop Inv-search μ-search
 cross-requires c κs =
@@ -61,7 +66,7 @@ cross-requires c κs =
     let given = start (row .before) .pre in
     let first = ends-below given (row .if1 .left) (e .edge-at .ensures) in
     let second = ends-below given (f .before .loop-test .taken) (f .edge-at2 .ensures) in
-    (row .before .before .places-of .ensures .size, first .0, first .1, second .0, second .1)
+    (placed (row .before .before) .size, first .0, first .1, second .0, second .1)
 
 add-second-2 : tie.Need-add-second-2 Inv-loop μ-loop Inv-search μ-search
 add-second-2 c = omega arith
@@ -75,7 +80,7 @@ loop-again c =
     let at-loop = f .before .before in
     let e = at-loop .before in
     let row = e .before in
-    seconds-next (start (row .before) .pre) (row .before .before .places-of .ensures) (row .if1 .left) (f .before .loop-test .taken)
+    seconds-next (start (row .before) .pre) (placed (row .before .before)) (row .if1 .left) (f .before .loop-test .taken)
     (e .edge-at .ensures) (f .edge-at2 .ensures) (c .before .cross .ensures) (at-loop .loop .inv) (c .if2 .left)
 
 add-first : tie.Need-add-first Inv-loop μ-loop Inv-search μ-search
@@ -101,7 +106,7 @@ returns-2 c =
     let e = at-loop .before in
     let row = e .before in
     rw
-    (pair-found (start (row .before) .pre) (row .before .before .places-of .ensures) (row .if1 .left) (f .before .loop-test .taken)
+    (pair-found (start (row .before) .pre) (placed (row .before .before)) (row .if1 .left) (f .before .loop-test .taken)
     (e .edge-at .ensures) (f .edge-at2 .ensures) (c .before .cross .ensures) (row .before .search .inv) (at-loop .loop .inv) (c .if2 .taken))
 
 pub first-pair-spec : {M : Type 1} → statement M
