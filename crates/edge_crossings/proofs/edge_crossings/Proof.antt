@@ -1,0 +1,75 @@
+use borrow.Author.Needs.{needs}
+use mathlib.Core.Path.{ap, _∙_}
+use mathlib.Core.Bool.{Bool}
+use lib.ListN.{length}
+use lib.Dec.{lit<}
+use Rattle.model.specs.Checks.{refusal}
+use Rattle.model.specs.EdgeCrossings.{edgeCrossings, tableShort}
+use Rattle.writing.specs.Answers.{asks, Asked}
+use Rattle.edge_crossings.specs.Answers.{counted-is, refused, fits, numbers-put}
+use Rattle.edge_crossings.proofs.edge_crossings.Statement.{statement}
+use Rattle.edge_crossings.proofs.edge_crossings.Tie as tie
+
+-- from the checks to where the edges are counted, and from there to the start
+abbrev counted : tie.After-write-refusal → tie.After-edge-count
+counted c = c .before .before
+
+abbrev start : tie.After-edge-count → tie.Start
+start c = let lent = c .before in lent .before .before .before
+
+-- what the call has asked
+asked : (c : tie.After-write-refusal)
+    → let number = counted c .edge-count .result in let s = start (counted c) .args in
+    Asked tableShort edgeCrossings (s .l) (s .table .now) number (c .write-refusal .result)
+asked c =
+    let edges = counted c .edge-count in
+    let size = length (start (counted c) .args .table .now) in
+    record {
+      numbered = lit< tt;
+      measured = λ t. counted-is _ t (edges .ensures);
+      told = c .write-refusal .ensures ∙ ap (λ (b : Bool). refusal (asks tableShort b (edges .result) size)) (c .before .is-valid .ensures);
+    }
+
+-- from where the table is lent to where the checks have passed
+abbrev passed : tie.After-adjacency3 → tie.Else1
+passed c = let lent = c .before .before in lent .before .before
+
+edge-count-requires : tie.Need-edge-count-requires
+edge-count-requires c κs = search needs
+
+cast-edges : tie.Need-cast-edges
+cast-edges c = search needs
+
+is-valid-requires : tie.Need-is-valid-requires
+is-valid-requires c κs = search needs
+
+write-refusal-requires : tie.Need-write-refusal-requires
+write-refusal-requires c κs = search needs
+
+returns : tie.Need-returns
+returns c = refused (asked (c .before)) (c .if1 .taken)
+
+put-numbers-requires : tie.Need-put-numbers-requires
+put-numbers-requires c κs = let at = passed c in fits (asked (at .before)) (at .if1 .left)
+
+same-length : tie.Need-same-length
+same-length c = search needs
+
+returns-2 : tie.Need-returns-2
+returns-2 c =
+    let put = c .before .before in
+    let at = passed (put .before) in
+    numbers-put (asked (at .before)) (at .if1 .left) (put .put-numbers .ensures)
+
+pub edge-crossings-spec : {M : Type 1} → statement M
+edge-crossings-spec =
+    tie.close
+    (tie.spec
+    edge-count-requires
+    cast-edges
+    is-valid-requires
+    write-refusal-requires
+    returns
+    put-numbers-requires
+    same-length
+    returns-2)

@@ -1,0 +1,60 @@
+use borrow.Author.Needs.{needs}
+use mathlib.Core.Path.{refl}
+use Rattle.edge_crossings.specs.Numbers.{each-fits, numbers-right}
+use Rattle.edge_crossings.proofs.put_numbers.Statement.{statement}
+use Rattle.edge_crossings.proofs.put_numbers.Tie as tie
+
+-- from where the edges were put to the chords, and from there to the start
+abbrev chords : tie.After-put-edges → tie.After-chord-crossings
+chords c = let lent = c .before in lent .before .before
+
+abbrev start : tie.After-chord-crossings → tie.Start
+start c = c .before .before
+
+-- from the table to the edges
+abbrev put : tie.After-ends3 → tie.After-put-edges
+put c = let taken = c .before .before .before in taken .before .before
+
+chord-crossings-requires : tie.Need-chord-crossings-requires
+chord-crossings-requires c κs = search needs
+
+places-of-requires : tie.Need-places-of-requires
+places-of-requires c κs = search needs
+
+slice-aggregate-put-edges : tie.Need-slice-aggregate-put-edges
+slice-aggregate-put-edges c = search needs
+
+put-edges-requires : tie.Need-put-edges-requires
+put-edges-requires c κs = search needs
+
+slice-aggregate-put-each : tie.Need-slice-aggregate-put-each
+slice-aggregate-put-each c = search needs
+
+put-each-requires : tie.Need-put-each-requires
+put-each-requires c κs =
+    let given = start (chords (put c)) .pre in
+    each-fits (given .0) refl (put c .put-edges .ensures) (given .1)
+
+same-length : tie.Need-same-length
+same-length c = search needs
+
+returns : tie.Need-returns
+returns c =
+    let each = c .before .before in
+    let edges = put (each .before) in
+    let drawn = start (chords edges) .pre .0 in
+    numbers-right drawn refl (edges .put-edges .ensures) (chords edges .chord-crossings .ensures drawn)
+    (edges .before .before .places-of .ensures (drawn .small) (drawn .permutation)) (each .put-each .ensures)
+
+pub put-numbers-spec : {M : Type 1} → statement M
+put-numbers-spec =
+    tie.close
+    (tie.spec
+    chord-crossings-requires
+    places-of-requires
+    slice-aggregate-put-edges
+    put-edges-requires
+    slice-aggregate-put-each
+    put-each-requires
+    same-length
+    returns)
