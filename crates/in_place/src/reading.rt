@@ -5,8 +5,10 @@ ghost use Rattle.model.specs.Reading.{countOf, orderRefusal, orderBytes};
 ghost use Rattle.model.specs.Reports.{readOver, crossingReportOf};
 ghost use Rattle.model.specs.Writing.{writeOf, writtenBytes};
 ghost use Rattle.model.specs.WrittenCharts.{chartOf};
+ghost use Rattle.model.specs.EdgeCrossings.{edgeCrossingsOf, crossingTable};
 use model::Counted;
 use model::CrossingReport;
+use model::EdgesCounted;
 use model::Layout;
 use model::LayoutWritten;
 use reports::crossing_report;
@@ -59,4 +61,13 @@ pub extern "C" fn rl_write_chart(l: &Layout, buffer: &mut [u8]) -> LayoutWritten
         × (now (buffer .exit) ≡ writtenBytes chartOf (now (l .entry)) (now (buffer .entry))) ⌝ }
 {
     writer::write(*l, buffer)
+}
+
+// Fills the start of the table with the crossings of every edge, and answers how many edges there are.
+#[no_mangle]
+pub extern "C" fn rl_edge_crossings(l: &Layout, table: &mut [u32]) -> EdgesCounted
+    ensures { λ r. ⌜ (r ≡ edgeCrossingsOf (now (l .entry)) (now (table .entry)))
+        × (now (table .exit) ≡ crossingTable (now (l .entry)) (now (table .entry))) ⌝ }
+{
+    edge_crossings::edge_crossings(*l, table)
 }
