@@ -72,6 +72,7 @@ fn play_op(l: Layout, op: u64, a: u64, b: u64, line: &mut [u8]) -> Played
         26 => views::pair(l, line),
         27 => views::write(l, Format::Chart, a, b, line),
         29 => views::write(l, Format::Graph6, a, b, line),
+        30 => tables::edge_crossings(l, a, b, line),
         _ => play_decoded(l, encoding::call_of(op, a as usize, b as usize), line),
     }
 }

@@ -41,7 +41,18 @@ fn wide(byte: u8) -> u64
 pub fn bytes_kept(length: u64) -> usize
     ensures { λ r. ⌜ r ≤ 8193 ⌝ }
 {
-    if length < 8193 { length as usize } else { 8193 }
+    at_most(length, 8193)
+}
+
+// A number, or the most that it may be.
+pub fn at_most(size: u64, most: usize) -> usize
+    ensures { λ r. ⌜ r ≤ most ⌝ }
+{
+    if size < most as u64 {
+        size as usize
+    } else {
+        most
+    }
 }
 
 // How many bytes follow in the list behind those kept: the others, and the padding to a multiple

@@ -11,6 +11,7 @@ use model::Edge;
 use model::FirstCrossing;
 use model::Layout;
 use model::LayoutWritten;
+use records::at_most;
 use text::put_text;
 
 pub fn count(l: Layout, line: &mut [u8]) -> Played
@@ -135,14 +136,4 @@ fn filled(byte: u8) -> [u8; 8192]
     ensures { λ r. ⌜ 8192 ≡ length r ⌝ }
 {
     [byte; 8192]
-}
-
-fn at_most(size: u64, most: usize) -> usize
-    ensures { λ r. ⌜ r ≤ most ⌝ }
-{
-    if size < most as u64 {
-        size as usize
-    } else {
-        most
-    }
 }
