@@ -1,4 +1,5 @@
 use borrow.Author.Needs.{needs}
+use native.Mathlib.Omega.{arith}
 use mathlib.Core.Path.{refl}
 use Rattle.edge_crossings.specs.Numbers.{each-fits, numbers-right}
 use Rattle.edge_crossings.proofs.put_numbers.Statement.{statement}
@@ -33,7 +34,8 @@ slice-aggregate-put-each c = search needs
 put-each-requires : tie.Need-put-each-requires
 put-each-requires c κs =
     let given = start (chords (put c)) .pre in
-    each-fits (given .0) refl (put c .put-edges .ensures) (given .1)
+    let listed = each-fits (given .0) refl (put c .put-edges .ensures) (given .1) in
+    (omega (arith, listed .0), omega (arith, listed .1))
 
 same-length : tie.Need-same-length
 same-length c = search needs
