@@ -214,6 +214,21 @@ mod tests {
     }
 
     #[test]
+    fn a_number_of_edges_and_an_entry_are_told() {
+        let one = "perlink 0 2 table 1 1 7 n 4 order 0 1 2 3 count 1 words\n";
+        let other = one.replace("2 table 1 1 7 n", "3 table 1 2 n");
+        let due = [
+            "word 3, the number of edges: 2 against 3",
+            "word 6, entry 1 of the table: 1 against 2",
+            "word 7, entry 2 of the table: 7 against nothing",
+        ];
+        assert_eq!(
+            found(Answers, one, &other),
+            (1, due.map(String::from).to_vec())
+        );
+    }
+
+    #[test]
     fn another_import_is_told() {
         let one = "import 0 n 4 order 0 1 2 3 count 1 words 0 4 1 8 2 1 3 2\n";
         for (to, due) in [
@@ -326,6 +341,21 @@ mod tests {
             (2, "word 2, the refusal number: 0 against 1"),
             (2, "word 3, the length: 2 against 3"),
             (2, "word 6, byte 1 of the buffer: 81 against 82"),
+        ];
+        are_planted(output, &due);
+    }
+
+    #[test]
+    fn planted_entries_of_a_table_are_found() {
+        let output = "perlink 0 2 table 1 1 7 n 4\nperlink 23 0 table 9 n 4\n";
+        let due = [
+            (1, "word 2, the refusal number: 0 against 1"),
+            (1, "word 3, the number of edges: 2 against 3"),
+            (1, "word 5, entry 0 of the table: 1 against 2"),
+            (1, "word 6, entry 1 of the table: 1 against 2"),
+            (1, "word 7, entry 2 of the table: 7 against 8"),
+            (2, "word 3, the number of edges: 0 against 1"),
+            (2, "word 5, entry 0 of the table: 9 against 10"),
         ];
         are_planted(output, &due);
     }

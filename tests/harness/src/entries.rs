@@ -46,7 +46,7 @@ fn take<'a>(list: &mut &'a [u8]) -> Entry<'a> {
     match record[0] {
         CHART => take_padded(list, record[1]).map_or(cut("chart", record), Entry::Chart),
         IMPORT => take_padded(list, record[1]).map_or(cut("import", record), Entry::Import),
-        EMPTY | SET_N..=SET_COUNT | ADD..=WRITE | EXPORT => Entry::Record(record),
+        EMPTY | SET_N..=SET_COUNT | ADD..=WRITE | EXPORT..=PERLINK => Entry::Record(record),
         op => Entry::Unknown(op),
     }
 }
@@ -106,7 +106,8 @@ fn record_text([op, a, b, _]: Record) -> String {
         ORDER => format!("order into {a} bytes of {b}"),
         PAIR => "pair".to_string(),
         WRITE => format!("write into {a} bytes of {b}"),
-        _ => format!("export into {a} bytes of {b}"),
+        EXPORT => format!("export into {a} bytes of {b}"),
+        _ => format!("perlink into {a} entries of {b}"),
     }
 }
 
@@ -129,6 +130,7 @@ mod tests {
             [SET_ORDER, 4, 9, 0],
             [WRITE, 18, 0, 0],
             [EXPORT, 2, 7, 0],
+            [PERLINK, 3, 7, 0],
         ];
         let mut list = records.map(bytes).concat();
         list.extend(chart(&[0x44, 0, 1]));
@@ -140,22 +142,24 @@ mod tests {
             "set place 4 of the order to 9",
             "write into 18 bytes of 0",
             "export into 2 bytes of 7",
+            "perlink into 3 entries of 7",
             "chart of 3 bytes",
             "import of 2 bytes",
             "settle with limit 1000",
         ];
         assert_eq!(texts(&list), due);
         let says: Vec<bool> = entries(&list).iter().map(Entry::says).collect();
-        assert_eq!(says, [true, true, false, true, true, true, true, true]);
+        let due = [true, true, false, true, true, true, true, true, true];
+        assert_eq!(says, due);
     }
 
     #[test]
     fn nothing_is_read_behind_the_end() {
         let add = bytes([ADD, 0, 0, 0]);
-        let unknown = bytes([30, 0, 0, 0]);
+        let unknown = bytes([31, 0, 0, 0]);
         assert_eq!(
             texts(&[&add[..], &unknown, &add].concat()),
-            ["add", "unknown op 30"]
+            ["add", "unknown op 31"]
         );
         assert_eq!(texts(&add[..31]), ["a record cut short"]);
         let long = bytes([CHART, u64::MAX, 0, 0]);

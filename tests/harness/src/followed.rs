@@ -136,6 +136,12 @@ pub fn numbers(line: &str, word: &str) -> Vec<u64> {
     numbers.collect()
 }
 
+/// What a line shows of a lent buffer or table.
+pub fn lent(line: &str) -> Vec<u64> {
+    let words = [" buffer ", " table "];
+    words.iter().flat_map(|word| numbers(line, word)).collect()
+}
+
 fn put<T>(places: &mut [T], place: u64, value: T) {
     let place = usize::try_from(place).unwrap_or(usize::MAX);
     if let Some(held) = places.get_mut(place) {
@@ -177,6 +183,21 @@ mod tests {
         assert_eq!(*layout, steps[2].after);
         let answers: Vec<Option<(&str, u8)>> = steps.iter().map(Step::answer).collect();
         assert_eq!(answers, [Some(("chart", 0)), Some(("unlink", 0)), None]);
+    }
+
+    #[test]
+    fn what_is_lent_is_found_in_its_line() {
+        assert_eq!(
+            lent("order 0 buffer 1 0 7 n 2 order 1 0 count 0"),
+            [1, 0, 7]
+        );
+        assert_eq!(
+            lent("perlink 0 1 table 0 4294967295 n 2"),
+            [0, u32::MAX.into()]
+        );
+        for line in ["perlink 0 0 table n 2 order 1 0", "link 0 n 2 order 1 0"] {
+            assert!(lent(line).is_empty());
+        }
     }
 
     #[test]

@@ -20,7 +20,7 @@ pub struct Labelled<'a> {
 const OPTIMA: &str = "the best places";
 
 /// The answers of each call.
-const ANSWERS: [(&str, &[&str]); 9] = [
+const ANSWERS: [(&str, &[&str]); 10] = [
     ("add", &["the new vertex"]),
     ("lay", &["the tally"]),
     ("sift", &["the saving", OPTIMA]),
@@ -42,6 +42,7 @@ const ANSWERS: [(&str, &[&str]); 9] = [
     ),
     ("write", &["the length"]),
     ("export", &["the length"]),
+    ("perlink", &["the number of edges"]),
 ];
 
 /// The words of a line with what they are. The numbers of neighbour words are
@@ -81,6 +82,7 @@ fn label(words: &[&str], i: usize, part: &str, in_part: usize) -> Option<String>
         ("words", _) => format!("neighbour word {}", words[i - 1]),
         ("order", number) => format!("place {} of the order", number - 1),
         ("buffer", number) => format!("byte {} of the buffer", number - 1),
+        ("table", number) => format!("entry {} of the table", number - 1),
         (part, _) => part.to_string(),
     })
 }
@@ -89,8 +91,8 @@ fn label(words: &[&str], i: usize, part: &str, in_part: usize) -> Option<String>
 /// the beginning of the part before.
 fn begins(part: &str, behind: usize, word: &str) -> bool {
     match word {
-        "buffer" => part.is_empty() && matches!(behind, 2 | 3),
-        "n" => part.is_empty() || part == "buffer",
+        "buffer" | "table" => part.is_empty() && matches!(behind, 2 | 3),
+        "n" => ["", "buffer", "table"].contains(&part),
         "order" => part == "n",
         "count" => part == "order",
         "words" => part == "count",
@@ -142,7 +144,7 @@ mod tests {
     }
 
     #[test]
-    fn the_words_of_buffers_and_of_a_pair() {
+    fn the_words_of_buffers_of_a_table_and_of_a_pair() {
         let order = labels(Output::Answers, "order 0 buffer 1 0 7 n 2 order 1 0");
         assert_eq!(
             order[2..5],
@@ -160,6 +162,15 @@ mod tests {
             let line = format!("{name} 0 1 buffer 68 7 n 2 order 1 0");
             assert_eq!(labels(Output::Answers, &line)[2..7], due);
         }
+        let due = [
+            "the number of edges",
+            "`table`",
+            "entry 0 of the table",
+            "entry 1 of the table",
+            "`n`",
+        ];
+        let table = labels(Output::Answers, "perlink 0 1 table 3 7 n 2 order 1 0");
+        assert_eq!(table[2..7], due);
         let pair = labels(Output::Answers, "pair 0 pair 1 2 3 4 n 5");
         let due = ["what is found", "the first edge's lower end"];
         assert_eq!(pair[2..4], due);

@@ -1,26 +1,31 @@
-//! Charts and graph6 that programs wrote, read back and compared with what is
-//! due.
+//! Charts and graph6 that programs wrote, read back, and tables that they
+//! filled, all compared with what is due.
 
 use crate::counted::true_count;
 use crate::entries::Entry;
-use crate::followed::{numbers, Step};
-use crate::make::ops::{EXPORT, WRITE};
+use crate::followed::{lent, Step};
+use crate::make::ops::{EXPORT, PERLINK, WRITE};
 use crate::naive::chart::read;
 use crate::naive::graph6::import;
-use crate::naive::layout::Layout;
-use crate::naive::play::{export, write};
+use crate::naive::layout::{edges, valid, Layout};
+use crate::naive::play::{export, perlink, write};
 
 /// Whether what was written is read as the layout that the line shows, a graph6
-/// in rising order, with its true crossings, and whether a line of `write` or
-/// `export`, accepted or not, is the naive model's for the layout before it.
+/// in rising order, with its true crossings; whether the crossings of the edges
+/// add up to twice those of the layout; and whether a line of `write`, `export`
+/// or `perlink`, accepted or not, is the naive model's for the layout before it.
 pub fn check_line(step: &Step) -> Result<(), String> {
     let due = match step.entry {
         Entry::Record([WRITE, length, fill, _]) => write(&step.before, length, fill),
         Entry::Record([EXPORT, length, fill, _]) => export(&step.before, length, fill),
+        Entry::Record([PERLINK, length, fill, _]) => perlink(&step.before, length, fill),
         _ => return Ok(()),
     };
     if let Some(bytes) = written(step.line) {
         check_read_back(&step.entry, &bytes, &step.after)?;
+    }
+    if let Some(numbers) = filled(step.line, &["perlink"]) {
+        check_sum(&numbers, &step.after)?;
     }
     if step.line.starts_with(&(due + " n ")) && step.before == step.after {
         Ok(())
@@ -47,6 +52,24 @@ fn check_read_back(entry: &Entry, bytes: &[u8], layout: &Layout) -> Result<(), S
     }
 }
 
+/// Whether there is a number for each edge of a layout, and they add up to twice
+/// its crossings.
+fn check_sum(numbers: &[u64], layout: &Layout) -> Result<(), String> {
+    if !valid(layout) {
+        return Err("accepted, but not valid".to_string());
+    }
+    let (m, crossings) = (edges(layout).len(), true_count(layout));
+    let sum: u128 = numbers.iter().map(|&number| u128::from(number)).sum();
+    if numbers.len() == m && sum == 2 * u128::from(crossings) {
+        Ok(())
+    } else {
+        Err(format!(
+            "{m} edges with {crossings} crossings, but {} entries with the sum {sum}",
+            numbers.len()
+        ))
+    }
+}
+
 fn in_rising_order(layout: &Layout) -> Layout {
     let mut rising = layout.clone();
     for (v, place) in (0..layout.n).zip(&mut rising.order) {
@@ -57,13 +80,20 @@ fn in_rising_order(layout: &Layout) -> Layout {
 
 /// What an accepted `write` or `export` shows that it wrote.
 pub fn written(line: &str) -> Option<Vec<u8>> {
+    let bytes = filled(line, &["write", "export"])?;
+    Some(bytes.into_iter().map(|byte| byte as u8).collect())
+}
+
+/// What an accepted call with one of some names shows that it filled.
+fn filled(line: &str, names: &[&str]) -> Option<Vec<u64>> {
     let words: Vec<&str> = line.splitn(4, ' ').collect();
-    let ["write" | "export", "0", length, _] = words[..] else {
+    let [name, "0", length, _] = words[..] else {
         return None;
     };
-    let buffer = numbers(line, " buffer ");
-    let written = buffer.get(..length.parse().ok()?)?;
-    Some(written.iter().map(|&byte| byte as u8).collect())
+    let is_named = names.contains(&name);
+    let entries = is_named.then(|| lent(line))?;
+    let filled = entries.get(..length.parse().ok()?)?;
+    Some(filled.to_vec())
 }
 
 /// Whether a line starts from what the line before it wrote.
@@ -169,6 +199,70 @@ mod tests {
             (4, "export 0 2", "export 0 4", "not what"),
             (4, "7 n 4 order 1 0 2 3", "7 n 4 order 0 1 2 3", "not what"),
             (6, "export 11 0", "export 19 0", "not what"),
+        ] {
+            let text = change_found(&list, &lines, check_line, (line, from, to));
+            assert!(text.contains(due), "{to}: {text}");
+        }
+    }
+
+    /// Four vertices with the edges 0-1, 0-2 and 1-3 and another count than the
+    /// true one, counted into 2 entries, into 3 and into 4, and spoilt.
+    fn list_of_tables() -> Vec<u8> {
+        let (edges, order) = (vec![(3, 1), (0, 2), (1, 0)], vec![0, 1, 2, 3]);
+        let start = records::chart(&Chart::of(&Graph { edges, order }).bytes());
+        let calls = [
+            [SET_COUNT, 9, 0, 0],
+            [PERLINK, 2, 6, 0],
+            [PERLINK, 3, 8, 0],
+            [PERLINK, 4, u64::MAX, 0],
+            [SET_N, 5, 0, 0],
+            [PERLINK, 3, 5, 0],
+        ];
+        [start, calls.map(records::bytes).concat()].concat()
+    }
+
+    #[test]
+    fn a_wrong_table_or_number_of_edges_is_found() {
+        let (list, lines) = (list_of_tables(), play(&list_of_tables()));
+        assert_eq!(check_lines(&list, &lines, check_line), Ok(()));
+        let (exact, longer) = ("3 table 0 1 1 n", "3 table 0 1 1 4294967295 n");
+        assert!(lines.contains(exact) && lines.contains(longer));
+        for (line, from, to, due) in [
+            (2, "perlink 23 0", "perlink 23 2", "not what"),
+            (2, "perlink 23 0", "perlink 19 0", "not what"),
+            (2, "perlink 23 0", "perlink 0 2", "3 edges with 1 crossings"),
+            (2, "0 table 6 6 n", "0 table 6 0 n", "not what"),
+            (3, exact, "3 table 0 1 2 n", "but 3 entries with the sum 3"),
+            (3, exact, "3 table 0 1 0 n", "but 3 entries with the sum 1"),
+            (3, exact, "3 table 1 0 1 n", "not what"),
+            (3, exact, "3 table 1 1 0 n", "not what"),
+            (3, exact, "3 table 0 1 1 8 n", "not what"),
+            (3, exact, "2 table 0 1 1 n", "but 2 entries with the sum 1"),
+            (3, exact, "4 table 0 1 1 n", "not what"),
+            (3, "perlink 0 3", "perlink 23 3", "not what"),
+            (4, longer, "3 table 0 1 1 0 n", "not what"),
+            (4, longer, "3 table 0 1 1 n", "not what"),
+            (
+                4,
+                longer,
+                "4 table 0 1 1 0 n",
+                "but 4 entries with the sum 2",
+            ),
+            (
+                4,
+                "4294967295 n 4 order 0 1",
+                "4294967295 n 4 order 1 0",
+                "with 0 crossings",
+            ),
+            (4, "4294967295 n 4", "4294967295 n 3", "not valid"),
+            (
+                4,
+                "count 9 words\nperlink 11",
+                "count 1 words\nperlink 11",
+                "not what",
+            ),
+            (5, "perlink 11 0", "perlink 23 0", "not what"),
+            (5, "table 5 5 5 n", "table 0 1 1 n", "not what"),
         ] {
             let text = change_found(&list, &lines, check_line, (line, from, to));
             assert!(text.contains(due), "{to}: {text}");

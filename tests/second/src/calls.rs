@@ -154,29 +154,42 @@ pub fn order(layout: Layout, buffer: &mut [u8]) -> Answer<()> {
     })
 }
 
-/// What is made of a layout, written to the first bytes of a lent buffer.
-/// Answers its length.
-fn write(layout: Layout, buffer: &mut [u8], make: fn(&Layout) -> Vec<u8>) -> Answer<usize> {
+/// What is made of a layout, written to the first entries of what is lent, which
+/// is refused with some number if it has too few. Answers how many are written.
+fn write<E: Copy>(
+    layout: Layout,
+    lent: &mut [E],
+    number: u8,
+    make: fn(&Layout) -> Vec<E>,
+) -> Answer<usize> {
     let made = if layout.is_valid() {
         make(&layout)
     } else {
         Vec::new()
     };
     let length = made.len();
-    answer(layout, &[(length <= buffer.len(), 19)], |_| {
-        buffer[..length].copy_from_slice(&made);
+    answer(layout, &[(length <= lent.len(), number)], |_| {
+        lent[..length].copy_from_slice(&made);
         length
     })
 }
 
 /// The chart.
 pub fn write_chart(layout: Layout, buffer: &mut [u8]) -> Answer<usize> {
-    write(layout, buffer, chart::bytes)
+    write(layout, buffer, 19, chart::bytes)
 }
 
 /// Export: the graph6.
 pub fn write_graph6(layout: Layout, buffer: &mut [u8]) -> Answer<usize> {
-    write(layout, buffer, graph6::bytes)
+    write(layout, buffer, 19, graph6::bytes)
+}
+
+/// The crossings of each edge (document 02, Note 7), the edges in the sequence
+/// of the chart. Answers how many edges there are.
+pub fn edge_crossings(layout: Layout, table: &mut [u32]) -> Answer<usize> {
+    write(layout, table, 23, |layout| {
+        crossings::edge_crossings(&Circle::new(layout))
+    })
 }
 
 /// The shown crossing pair.

@@ -1,4 +1,5 @@
-//! Counting crossings, and finding the first one.
+//! Counting crossings, all of them and those of each edge, and finding the
+//! first one.
 
 use crate::circle::{Circle, Edge};
 use crate::layout::Layout;
@@ -40,6 +41,33 @@ pub fn crossings(circle: &Circle) -> u32 {
         open[place] = (circle.neighbours(v).len() - closing.len()) as u32;
     }
     total
+}
+
+/// The crossings that each edge takes part in, the edges in their sequence. An
+/// edge is crossed by those that lead from a place between its ends to one
+/// outside.
+pub fn edge_crossings(circle: &Circle) -> Vec<u32> {
+    let before = neighbours_before(circle);
+    let crossed = |(a, b): Edge| {
+        let (a, b) = (circle.position(a), circle.position(b));
+        let (first, last) = (a.min(b), a.max(b));
+        let outside = |of: &Vec<u32>| of[first] + of[circle.n()] - of[last + 1];
+        before[first + 1..last].iter().map(outside).sum()
+    };
+    circle.edges().into_iter().map(crossed).collect()
+}
+
+/// For each place, how many neighbours its vertex has in the first 0, 1, 2 and
+/// so on places.
+fn neighbours_before(circle: &Circle) -> Vec<Vec<u32>> {
+    let of_vertex = |&v: &usize| {
+        let mut joined = vec![0; circle.n()];
+        for &w in circle.neighbours(v) {
+            joined[circle.position(w)] = 1;
+        }
+        prefix_sums(&joined)
+    };
+    circle.order().iter().map(of_vertex).collect()
 }
 
 /// The lowest first edge that crosses another, with the lowest that it

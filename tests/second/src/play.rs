@@ -1,6 +1,8 @@
 //! Playing a list of calls. The format of lists and of answer lines is in
 //! tests/README.md.
 
+use std::fmt::Display;
+
 use crate::calls::{self, Answer, Crossing};
 use crate::chart;
 use crate::graph6;
@@ -12,6 +14,9 @@ const RECORD: usize = 32;
 
 /// Bytes in the longest buffer that a chart or a graph6 is written to.
 const BUFFER: u64 = 8192;
+
+/// Entries in the longest table that crossings are written to.
+const TABLE: u64 = 2100;
 
 /// A record: the op and its three numbers.
 type Record = [u64; 4];
@@ -126,38 +131,47 @@ fn call(layout: Layout, [op, a, b, _]: Record) -> Option<Told> {
         26 => told("pair", calls::first_crossing(layout), pair_text),
         27 => write("write", a, b, |buffer| calls::write_chart(layout, buffer)),
         29 => write("export", a, b, |buffer| calls::write_graph6(layout, buffer)),
+        30 => count_each(layout, a, b),
         _ => return None,
     })
 }
 
 /// The call `order`, into a buffer of at most 255 bytes.
 fn read_order(layout: Layout, length: u64, fill: u64) -> Told {
+    let buffer = vec![fill as u8; length.min(255) as usize];
     let read = |buffer: &mut [u8]| calls::order(layout, buffer);
-    lent("order", length.min(255), fill, read, |()| String::new())
+    lent("order", " buffer", buffer, read, |()| String::new())
 }
 
-/// A call that writes the layout and answers a length.
+/// A call that writes the layout into a buffer and answers a length.
 fn write(
     name: &'static str,
     length: u64,
     fill: u64,
     call: impl FnOnce(&mut [u8]) -> Answer<usize>,
 ) -> Told {
-    lent(name, length.min(BUFFER), fill, call, |l| format!(" {l}"))
+    let buffer = vec![fill as u8; length.min(BUFFER) as usize];
+    lent(name, " buffer", buffer, call, |l| format!(" {l}"))
 }
 
-/// A call that is lent a buffer of so many bytes, filled beforehand.
-fn lent<T>(
+/// The call `perlink`, which counts the crossings of each edge into a table.
+fn count_each(layout: Layout, length: u64, fill: u64) -> Told {
+    let table = vec![fill as u32; length.min(TABLE) as usize];
+    let count = |table: &mut [u32]| calls::edge_crossings(layout, table);
+    lent("perlink", " table", table, count, |m| format!(" {m}"))
+}
+
+/// A call that is lent a buffer or a table, which is shown behind a word.
+fn lent<E: Display, T>(
     name: &'static str,
-    length: u64,
-    fill: u64,
-    call: impl FnOnce(&mut [u8]) -> Answer<T>,
+    word: &str,
+    mut entries: Vec<E>,
+    call: impl FnOnce(&mut [E]) -> Answer<T>,
     text: impl FnOnce(T) -> String,
 ) -> Told {
-    let mut buffer = vec![fill as u8; length as usize];
-    let answer = call(&mut buffer);
-    let bytes = numbers(buffer);
-    told(name, answer, |value| text(value) + " buffer" + &bytes)
+    let answer = call(&mut entries);
+    let shown = numbers(entries);
+    told(name, answer, |value| text(value) + word + &shown)
 }
 
 fn pair_text(crossing: Crossing) -> String {
@@ -178,8 +192,9 @@ fn told<T>(name: &'static str, answer: Answer<T>, text: impl FnOnce(T) -> String
 }
 
 /// Each number with a space before it.
-fn numbers(bytes: impl IntoIterator<Item = u8>) -> String {
-    bytes.into_iter().map(|byte| format!(" {byte}")).collect()
+fn numbers(numbers: impl IntoIterator<Item = impl Display>) -> String {
+    let words = numbers.into_iter().map(|number| format!(" {number}"));
+    words.collect()
 }
 
 /// The answer line, with the words that differ from those before.

@@ -271,7 +271,7 @@ fn a_buffer_is_long_enough_or_untouched() {
         (complete(63), 330),
         (complete(64), 340),
     ] {
-        common::is_long_enough_or_untouched(calls::write_graph6, ring, length);
+        common::is_long_enough_or_untouched(calls::write_graph6, ring, length, 19);
     }
 }
 

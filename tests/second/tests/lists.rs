@@ -76,6 +76,18 @@ fn the_worked_example_of_graph6() {
 }
 
 #[test]
+fn the_worked_example_of_crossings_of_each_edge() {
+    let list = [first_ring(), record(&[30, 4, 7])].concat();
+    assert_eq!(list.len(), 96);
+    let rest = format!("n 4 order {} count 1 words", places("0 1 2 3"));
+    let due = format!(
+        "chart 0 {rest} 0 4 1 8 2 1 3 2\n\
+         perlink 0 2 table 1 1 7 7 {rest}\n"
+    );
+    assert_eq!(play(&list), due);
+}
+
+#[test]
 fn each_call_has_its_answers() {
     let order = places("0 1 2 3");
     let rest = format!("n 4 order {order} count 1 words");
@@ -101,6 +113,11 @@ fn each_call_has_its_answers() {
     assert_eq!(exported, line("export 0 2 buffer 67 81 255"));
     assert_eq!(last_line(&[&[29, 1, 7]]), line("export 19 0 buffer 7"));
     assert_eq!(last_line(&[&[29, 0, 7]]), line("export 19 0 buffer"));
+    let counted = last_line(&[&[30, 3, (1 << 32) + 9]]);
+    assert_eq!(counted, line("perlink 0 2 table 1 1 9"));
+    let refused = last_line(&[&[30, 1, u64::MAX]]);
+    assert_eq!(refused, line("perlink 23 0 table 4294967295"));
+    assert_eq!(last_line(&[&[30, 0, 7]]), line("perlink 23 0 table"));
     assert!(last_line(&[&[2, 5], &[22]]).starts_with("round 11 0 0 0 n 5 "));
     let turned = places("1 0 2 3");
     let rest = format!("n 4 order {turned} count 0 words");
@@ -114,16 +131,18 @@ fn each_call_has_its_answers() {
     assert_eq!(last_line(&[&[16]]), added);
 }
 
-/// How many bytes a buffer has that a call with some op is lent.
-fn buffer_length(op: u64, length: u64) -> usize {
+/// How many entries are shown of what a call with some op is lent.
+fn lent_length(op: u64, length: u64) -> usize {
     let line = last_line(&[&[op, length, 5]]);
-    let (_, behind) = line.split_once(" buffer ").expect("a buffer");
-    behind.split(' ').take_while(|&word| word != "n").count()
+    let mut words = line.split(' ');
+    let lent = words.find(|word| ["buffer", "table"].contains(word));
+    assert!(lent.is_some(), "{line}");
+    words.take_while(|&word| word != "n").count()
 }
 
 #[test]
 fn an_order_gets_a_buffer_of_at_most_255_bytes() {
-    let lengths = [254, 255, 256, u64::MAX].map(|length| buffer_length(25, length));
+    let lengths = [254, 255, 256, u64::MAX].map(|length| lent_length(25, length));
     assert_eq!(lengths, [254, 255, 255, 255]);
 }
 
@@ -131,9 +150,16 @@ fn an_order_gets_a_buffer_of_at_most_255_bytes() {
 fn a_chart_or_a_graph6_gets_a_buffer_of_at_most_8192_bytes() {
     let wide = (1 << 32) + 18;
     for op in [27, 29] {
-        let lengths = [8191, 8192, 8193, wide, u64::MAX].map(|length| buffer_length(op, length));
+        let lengths = [8191, 8192, 8193, wide, u64::MAX].map(|length| lent_length(op, length));
         assert_eq!(lengths, [8191, 8192, 8192, 8192, 8192]);
     }
+}
+
+#[test]
+fn crossings_get_a_table_of_at_most_2100_entries() {
+    let wide = (1 << 32) + 2;
+    let lengths = [2, 2099, 2100, 2101, wide, u64::MAX].map(|length| lent_length(30, length));
+    assert_eq!(lengths, [2, 2099, 2100, 2100, 2100, 2100]);
 }
 
 #[test]
@@ -212,7 +238,7 @@ fn a_start_shows_the_words_that_differ_from_those_before() {
 fn a_list_ends_at_an_unknown_op_or_where_it_is_cut() {
     assert_eq!(play(&[]), "");
     assert_eq!(play(&record(&[6])), "end\n");
-    assert_eq!(play(&records(&[&[30], &[24]])), "end\n");
+    assert_eq!(play(&records(&[&[31], &[24]])), "end\n");
     assert_eq!(play(&record(&[256 + 24])), "end\n");
     assert_eq!(play(&record(&[24])[..31]), "end\n");
     for op in [1, 28] {

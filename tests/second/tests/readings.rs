@@ -37,8 +37,9 @@ fn every_call_refuses_a_ring_that_is_not_valid() {
         calls::order(ring, &mut buffer).refusal,
         calls::first_crossing(ring).refusal,
         calls::write_chart(ring, &mut buffer).refusal,
+        calls::edge_crossings(ring, &mut []).refusal,
     ];
-    assert_eq!(refusals, [11; 12]);
+    assert_eq!(refusals, [11; 13]);
     assert_eq!(calls::count(ring).value, 0);
     assert_eq!(calls::sift(ring, 0).layout, ring);
     assert_eq!(buffer, [7; 4]);
@@ -62,6 +63,7 @@ fn n_is_tested_before_anything_is_looked_up() {
         assert_eq!(calls::add_vertex(ring).refusal, 11);
         assert_eq!(calls::order(ring, &mut [0; 255]).refusal, 11);
         assert_eq!(calls::write_chart(ring, &mut [0; 8192]).refusal, 11);
+        assert_eq!(calls::edge_crossings(ring, &mut [0; 2100]).refusal, 11);
     }
     assert!(complete(64).is_valid());
     assert!(complete(63).is_valid());

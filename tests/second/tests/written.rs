@@ -77,7 +77,7 @@ fn a_buffer_is_long_enough_or_untouched() {
         (first_ring(), 18),
         (complete(64), 4106),
     ] {
-        common::is_long_enough_or_untouched(calls::write_chart, ring, length);
+        common::is_long_enough_or_untouched(calls::write_chart, ring, length, 19);
     }
 }
 

@@ -14,8 +14,8 @@ impl Maker {
             UNLINK | MOVE => self.two_vertices(),
             LAY | SIFT => (self.vertex(), 0),
             SETTLE => (self.limit(), 0),
-            ORDER => (self.buffer(), self.fill()),
-            WRITE | EXPORT => (self.any_length(op), self.fill()),
+            ORDER => (self.buffer(), self.fill(op)),
+            WRITE | EXPORT | PERLINK => (self.any_length(op), self.fill(op)),
             _ => (0, 0),
         }
     }

@@ -13,6 +13,11 @@ pub fn count(m: usize) -> u64 {
     (m * m / 2 + 64 * m + 4096) as u64
 }
 
+/// Counting those of each of m edges.
+pub fn count_each(m: usize) -> u64 {
+    2 * count(m)
+}
+
 /// Reading a chart of m edges, each of which is compared with those before it.
 pub fn read(m: usize) -> u64 {
     2 * count(m)

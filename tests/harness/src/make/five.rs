@@ -1,4 +1,5 @@
-//! All graphs on five vertices, each laid from every vertex and settled.
+//! All graphs on five vertices, each laid from every vertex and settled, its
+//! edges' crossings counted before.
 
 use super::charts::Chart;
 use super::graph::{all_pairs, vertices, Graph};
@@ -16,7 +17,7 @@ const TOGETHER: usize = 32;
 pub const LISTS: usize = GRAPHS / TOGETHER;
 
 /// The calls that such lists are made of.
-const CALLS: [u64; 5] = [CHART, LAY, SETTLE, COUNT, PAIR];
+const CALLS: [u64; 6] = [CHART, LAY, SETTLE, COUNT, PAIR, PERLINK];
 
 /// Whether the lists can be made of known calls.
 pub fn open(known: &Known) -> bool {
@@ -29,10 +30,11 @@ pub fn list(number: usize) -> Vec<u8> {
     (first..first + TOGETHER).flat_map(calls).collect()
 }
 
-/// A graph, settled as it is read and as it is laid from every vertex.
+/// A graph, settled as it is read and as it is laid from every vertex, its edges'
+/// crossings counted into a table for all ten.
 fn calls(number: usize) -> Vec<u8> {
     let start = records::chart(&Chart::of(&graph(number)).bytes());
-    let settle = [[SETTLE, 1000, 0, 0], [PAIR, 0, 0, 0]].map(records::bytes);
+    let settle = [[PERLINK, 10, 7, 0], [SETTLE, 1000, 0, 0], [PAIR, 0, 0, 0]].map(records::bytes);
     let mut list = [start.clone(), settle.concat()].concat();
     for v in 0..VERTICES as u64 {
         let lay = [[LAY, v, 0, 0], [COUNT, 0, 0, 0]].map(records::bytes);
@@ -70,6 +72,7 @@ mod tests {
             assert_eq!(answers("chart 0 "), 6 * TOGETHER);
             assert_eq!(answers("lay 0 "), 5 * TOGETHER);
             assert_eq!(answers("settle 0 "), 6 * TOGETHER);
+            assert_eq!(answers("perlink 0 "), 6 * TOGETHER);
             assert_eq!(
                 answers("chart") + answers("lay") + answers("settle"),
                 17 * TOGETHER
@@ -85,7 +88,7 @@ mod tests {
         let line = |number| {
             play(&calls(number))
                 .lines()
-                .nth(2)
+                .nth(3)
                 .expect("a pair")
                 .to_string()
         };

@@ -124,7 +124,7 @@ impl Maker {
                 self.call(LAY);
                 self.some_calls(&[SIFT, SIFT, ROUND, SETTLE]);
                 let edit = self.rng.pick(&[ADD, LINK, UNLINK, MOVE]);
-                self.some_calls(&[edit, COUNT, PAIR, WRITE, EXPORT]);
+                self.some_calls(&[edit, COUNT, PAIR, WRITE, EXPORT, PERLINK]);
             }
         }
     }
@@ -181,9 +181,9 @@ impl Maker {
     }
 
     /// What takes its turn from list to list: each size with some density, a
-    /// vertex of which is sifted twice, each length of a buffer, each number of
-    /// edges that is written, each family, each refusal number of each call, and
-    /// each special chart and graph6.
+    /// vertex of which is sifted twice, each length of a buffer or a table, each
+    /// number of edges that is written, each family, each refusal number of each
+    /// call, and each special chart and graph6.
     fn in_turn(&mut self, seed: u64, index: usize) {
         let n = ((seed % 65) as usize + 7 * index) % 65;
         let graph = Graph::in_quarter(&mut self.rng, n, index % QUARTERS);
@@ -191,7 +191,7 @@ impl Maker {
         self.sift_twice();
         self.any_calls(2, 5);
         self.emit(ORDER, index as u64 % 66, 7);
-        self.call_writers_in_turn(&graph, index);
+        self.call_lent_in_turn(&graph, index);
         self.import_in_turn(&graph, index);
         self.lay_in_turn(index);
         let refused = self.known.refused();
@@ -222,7 +222,7 @@ impl Maker {
     fn end(&mut self) {
         match self.rng.below(8) {
             0 => {
-                let ops = [6, 15, 30, 255, 256 + ADD, (1 << 32) + COUNT, u64::MAX];
+                let ops = [6, 15, 31, 255, 256 + ADD, (1 << 32) + COUNT, u64::MAX];
                 let op = self.rng.pick(&ops);
                 self.record([op, 0, 0, 0]);
                 self.record([ADD, 0, 0, 0]);

@@ -10,10 +10,10 @@ use super::records;
 use crate::rng::Rng;
 
 /// The calls, those oftener that are to come oftener.
-const CALLS: [u64; 29] = [
+const CALLS: [u64; 31] = [
     ADD, ADD, LINK, LINK, LINK, LINK, LINK, UNLINK, UNLINK, UNLINK, MOVE, MOVE, MOVE, LAY, LAY,
     SIFT, SIFT, SIFT, ROUND, SETTLE, SETTLE, COUNT, ORDER, ORDER, PAIR, WRITE, WRITE, EXPORT,
-    EXPORT,
+    EXPORT, PERLINK, PERLINK,
 ];
 
 /// What the naive model may do for the calls of one list that are chosen by it.
@@ -234,6 +234,7 @@ impl Maker {
             ROUND => cost::rounds(n, m, 1),
             SETTLE if a <= 1000 => cost::rounds(n, m, a),
             WRITE => 2 * cost::read(m),
+            PERLINK => 2 * cost::count_each(m),
             _ => 0,
         }
     }

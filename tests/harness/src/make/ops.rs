@@ -24,6 +24,7 @@ pub const PAIR: u64 = 26;
 pub const WRITE: u64 = 27;
 pub const IMPORT: u64 = 28;
 pub const EXPORT: u64 = 29;
+pub const PERLINK: u64 = 30;
 
 /// The starts from bytes that follow the record.
 pub const READERS: [u64; 2] = [CHART, IMPORT];
@@ -31,10 +32,14 @@ pub const READERS: [u64; 2] = [CHART, IMPORT];
 /// The calls that write a layout, each before the start that reads it back.
 pub const WRITERS: [(u64, u64); 2] = [(WRITE, CHART), (EXPORT, IMPORT)];
 
+/// The calls that are lent what they fill as far as the layout needs it: those
+/// that write a layout, and the one that counts each edge's crossings.
+pub const LENT: [u64; 3] = [WRITE, EXPORT, PERLINK];
+
 /// A call's name, its op, and the refusal numbers that it can answer.
 type Call = (&'static str, u64, &'static [u8]);
 
-const CALLS: [Call; 15] = [
+const CALLS: [Call; 16] = [
     ("chart", CHART, &[1, 2, 3, 4, 5, 6, 7, 8]),
     ("add", ADD, &[11, 16]),
     ("link", LINK, &[11, 12, 13, 14]),
@@ -50,6 +55,7 @@ const CALLS: [Call; 15] = [
     ("write", WRITE, &[11, 19]),
     ("import", IMPORT, &[20, 21, 22]),
     ("export", EXPORT, &[11, 19]),
+    ("perlink", PERLINK, &[11, 23]),
 ];
 
 /// Names for several calls at once.
@@ -57,7 +63,7 @@ const SETS: [(&str, &[&str]); 4] = [
     (
         "layout",
         &[
-            "add", "link", "unlink", "move", "count", "order", "pair", "write",
+            "add", "link", "unlink", "move", "count", "order", "pair", "write", "perlink",
         ],
     ),
     ("sifting", &["sift", "round", "settle"]),
@@ -66,7 +72,7 @@ const SETS: [(&str, &[&str]); 4] = [
         "all",
         &[
             "chart", "add", "link", "unlink", "move", "lay", "sift", "round", "settle", "count",
-            "order", "pair", "write", "import", "export",
+            "order", "pair", "write", "import", "export", "perlink",
         ],
     ),
 ];
@@ -140,7 +146,8 @@ mod tests {
     #[test]
     fn names_and_sets_are_read() {
         let known = Known::parse("layout,sift").expect("known names");
-        assert!(known.has(MOVE) && known.has(WRITE) && known.has(SIFT) && known.has(SET_N));
+        let has_all = [MOVE, WRITE, PERLINK, SIFT, SET_N].map(|op| known.has(op));
+        assert_eq!(has_all, [true; 5]);
         assert!(!known.has(SETTLE) && !known.has(CHART));
         assert!(Known::parse("layout,shift").is_none());
         assert!(Known::parse("").is_none());
@@ -159,10 +166,10 @@ mod tests {
     #[test]
     fn all_calls_have_all_refusal_numbers() {
         let answers = Known::all().answers();
-        for number in (0..=8).chain(11..=22) {
+        for number in (0..=8).chain(11..=23) {
             assert!(answers.iter().any(|answer| answer.1 == number), "{number}");
         }
-        assert_eq!(answers.len(), 15 + 8 + 26 + 5);
+        assert_eq!(answers.len(), 16 + 8 + 28 + 5);
     }
 
     #[test]

@@ -57,7 +57,7 @@ impl Maker {
             15 => self.two_of(graph, false),
             17 => (self.rng.pick(&[0, 1001, 1 << 32, u64::MAX]), 0),
             18 => (self.rng.below(graph.n()) as u64, 7),
-            19 => (self.rng.below(self.written_length(op) as usize) as u64, 7),
+            19 | 23 => (self.rng.below(self.filled_length(op) as usize) as u64, 7),
             _ => (v, (v + 1) % n),
         }
     }

@@ -90,6 +90,7 @@ impl List<'_> {
             [PAIR, 0, 0, 0],
             [WRITE, 20, 7, 0],
             [EXPORT, 3, 7, 0],
+            [PERLINK, 4, 7, 0],
         ]);
     }
 
@@ -114,6 +115,9 @@ impl List<'_> {
             [EXPORT, 0, 7, 0],
             [EXPORT, 1, 7, 0],
             [EXPORT, 2, 256 + 7, 0],
+            [PERLINK, 0, 7, 0],
+            [PERLINK, 1, 256 + 7, 0],
+            [PERLINK, 2, (1 << 32) + 7, 0],
         ]);
     }
 
@@ -136,6 +140,10 @@ impl List<'_> {
             [EXPORT, 3, 9, 0],
             [EXPORT, 4, 9, 0],
             [EXPORT, 5, 9, 0],
+            [PERLINK, 0, 9, 0],
+            [PERLINK, 3, u64::MAX, 0],
+            [PERLINK, 4, 9, 0],
+            [PERLINK, 5, u64::MAX, 0],
             [UNLINK, 0, 1, 0],
             [UNLINK, 4, 4, 0],
             [UNLINK, 0, 6, 0],
@@ -147,6 +155,7 @@ impl List<'_> {
             [MOVE, 1, 6, 0],
             [MOVE, 3, 0, 0],
             [MOVE, 5, 4, 0],
+            [PERLINK, 4, 9, 0],
             [ORDER, 5, 9, 0],
             [ORDER, 6, 9, 0],
             [ORDER, 7, 9, 0],
@@ -254,6 +263,9 @@ impl List<'_> {
             [EXPORT, 339, 200, 0],
             [EXPORT, 340, 200, 0],
             [EXPORT, 341, 200, 0],
+            [PERLINK, 2015, 0, 0],
+            [PERLINK, 2016, 0, 0],
+            [PERLINK, 2101, 1 << 32, 0],
         ]);
     }
 
@@ -371,7 +383,7 @@ impl List<'_> {
 
     /// An unknown op, with a record behind it that isn't played.
     fn end(&mut self) {
-        self.bytes.extend(bytes([30, 0, 0, 0]));
+        self.bytes.extend(bytes([31, 0, 0, 0]));
         self.bytes.extend(bytes([ADD, 0, 0, 0]));
     }
 }
@@ -380,7 +392,7 @@ impl List<'_> {
 mod tests {
     use super::*;
     use crate::difference::first_difference;
-    use crate::followed::{steps, Step};
+    use crate::followed::{lent, steps, Step};
     use crate::label::Output;
     use crate::naive::play::play;
     use crate::written::is_read_back;
@@ -447,6 +459,28 @@ mod tests {
         ] {
             assert!(lines.lines().any(|line| line.starts_with(due)), "{due}");
         }
+    }
+
+    #[test]
+    fn crossings_are_counted_for_each_edge_and_refused_calls_have_none() {
+        let lines = play(&list(&Known::all()));
+        for due in [
+            "perlink 0 0 table n 0 ",
+            "perlink 0 0 table 263 n 0 ",
+            "perlink 0 0 table 7 7 n 0 ",
+            "perlink 23 0 table n 6 ",
+            "perlink 23 0 table 4294967295 4294967295 4294967295 n 6 ",
+            "perlink 0 4 table 2 2 2 2 n 6 ",
+            "perlink 0 4 table 2 2 2 2 4294967295 n 6 ",
+            "perlink 0 3 table 1 2 1 9 n 6 ",
+            "perlink 11 0 table 7 7 7 7 n 65 ",
+            "perlink 23 0 table 0 0 ",
+        ] {
+            assert!(lines.lines().any(|line| line.starts_with(due)), "{due}");
+        }
+        let full = lines.lines().filter(|l| l.starts_with("perlink 0 2016 "));
+        let lengths: Vec<usize> = full.map(|line| lent(line).len()).collect();
+        assert_eq!(lengths, [2016, 2100]);
     }
 
     /// What `tests/store` wrote, with the second program, for the player.

@@ -1,5 +1,5 @@
 //! Layouts that are written to buffers of many lengths, as charts and as graph6,
-//! and read back.
+//! and read back, and the crossings of their edges in tables of many lengths.
 
 use super::charts;
 use super::density::possible;
@@ -16,39 +16,54 @@ pub const EDGES: [usize; 4] = [0, 127, 128, 2016];
 const LENGTHS: usize = 11;
 const SHORT: usize = 8;
 
+/// How much a call fills of what it is lent, for a layout of n vertices and m
+/// edges: bytes of a buffer, or entries of a table.
+pub fn filled_length(op: u64, n: usize, m: usize) -> u64 {
+    match op {
+        EXPORT => graph6::length(n),
+        PERLINK => m as u64,
+        _ => charts::length(n, m),
+    }
+}
+
+/// The most that a call is lent.
+fn most_lent(op: u64) -> u64 {
+    match op {
+        PERLINK => 2100,
+        _ => 8192,
+    }
+}
+
 impl Maker {
-    /// The length of what a call writes of the layout.
-    pub fn written_length(&self, op: u64) -> u64 {
-        match op {
-            EXPORT => graph6::length(self.n),
-            _ => charts::length(self.n, self.edges.len()),
-        }
+    /// How much a call fills of what it is lent.
+    pub fn filled_length(&self, op: u64) -> u64 {
+        filled_length(op, self.n, self.edges.len())
     }
 
-    /// Lengths of buffers: few bytes and about as many as a call writes, then
-    /// long ones, the last of them more than a buffer gets.
+    /// Lengths of what is lent: short ones and about as much as a call fills,
+    /// then long ones, the last of them more than is lent.
     fn lengths(&mut self, op: u64) -> [u64; LENGTHS] {
-        let due = self.written_length(op);
+        let (due, most) = (self.filled_length(op), most_lent(op));
         let more = due + self.rng.within(3, 200) as u64;
         let wide = 1 << 32;
-        let over = [8193, 65_536 + due, wide, wide + due, u64::MAX];
+        let over = [most + 1, 65_536 + due, wide, wide + due, u64::MAX];
         let over = self.rng.pick(&over);
         [
             0,
             1,
             due.saturating_sub(2),
-            due - 1,
+            due.saturating_sub(1),
             due,
             due + 1,
             due + 2,
             more,
-            8191,
-            8192,
+            most - 1,
+            most,
             over,
         ]
     }
 
-    /// A length of a buffer, seldom a long one.
+    /// A length of what is lent, seldom a long one.
     pub fn any_length(&mut self, op: u64) -> u64 {
         let (short, long) = (0..SHORT, SHORT..LENGTHS);
         let from = if self.rng.once_in(16) { long } else { short };
@@ -56,37 +71,44 @@ impl Maker {
         self.rng.pick(&lengths[from])
     }
 
-    /// What each byte of a buffer holds before a call.
-    pub fn fill(&mut self) -> u64 {
+    /// What each byte of a buffer, or each entry of a table, holds before a call.
+    pub fn fill(&mut self, op: u64) -> u64 {
         let any = self.rng.below(300) as u64;
-        self.rng.pick(&[0, 255, any, any])
+        let wide = 1 << 32;
+        match op {
+            PERLINK => {
+                let wider = self.rng.pick(&[wide, wide + any, u64::MAX]);
+                self.rng.pick(&[0, wide - 1, wider, any, any])
+            }
+            _ => self.rng.pick(&[0, 255, any, any]),
+        }
     }
 
     /// Reads back what a call wrote into a buffer of so many bytes, if it was
-    /// long enough and the layout is known.
+    /// long enough and the layout is known. A table isn't read.
     pub fn read_back(&mut self, op: u64, length: u64) {
         let fits = |bytes: &Vec<u8>| bytes.len() as u64 <= length;
-        let Some(bytes) = self.written(op).filter(fits) else {
-            return;
-        };
-        let readers = WRITERS.iter().filter(|(writer, _)| *writer == op);
-        for &(_, reader) in readers {
-            if self.known.among(&[op, reader]).len() == 2 {
+        for (writer, reader) in WRITERS {
+            if writer != op || self.known.among(&[op, reader]).len() < 2 {
+                continue;
+            }
+            if let Some(bytes) = self.written(op).filter(fits) {
                 self.read(reader, &bytes);
             }
         }
     }
 
-    /// Writes a graph and one whose number of edges takes its turn, each into a
-    /// buffer whose length takes its turn and into one just long enough.
-    pub fn call_writers_in_turn(&mut self, graph: &Graph, index: usize) {
-        for op in self.known.among(&WRITERS.map(|(writer, _)| writer)) {
+    /// Makes each call that is lent what it fills on a graph and on one whose
+    /// number of edges takes its turn, each with a length that takes its turn and
+    /// with one that is just enough.
+    pub fn call_lent_in_turn(&mut self, graph: &Graph, index: usize) {
+        for op in self.known.among(&LENT) {
             let other = self.graph_in_turn(index);
             for graph in [graph, &other] {
                 self.write_graph(graph);
                 let lengths = self.lengths(op);
-                self.call_writer(op, lengths[index % LENGTHS]);
-                self.call_writer(op, self.written_length(op));
+                self.call_lent(op, lengths[index % LENGTHS]);
+                self.call_lent(op, self.filled_length(op));
             }
         }
     }
@@ -99,11 +121,11 @@ impl Maker {
         Graph::with_edges(&mut self.rng, n, m)
     }
 
-    /// Writes the layout, now and then with another count than the true one,
-    /// into a buffer of so many bytes, and reads it back.
-    pub fn call_writer(&mut self, op: u64, length: u64) {
+    /// Makes a call, now and then on another count than the true one, that is
+    /// lent so much, and reads back what it wrote.
+    fn call_lent(&mut self, op: u64, length: u64) {
         self.any_count();
-        let fill = self.fill();
+        let fill = self.fill(op);
         self.emit(op, length, fill);
         self.read_back(op, length);
     }
@@ -113,7 +135,7 @@ impl Maker {
 mod tests {
     use super::*;
     use crate::entries::{entries, Entry};
-    use crate::followed::{numbers, steps, Step};
+    use crate::followed::{lent, steps, Step};
     use crate::make::lists;
     use crate::naive::play::play;
     use crate::rng::Rng;
@@ -127,7 +149,7 @@ mod tests {
         let lists = indices.map(|index| {
             let mut maker = Maker::new(Rng::new(1, "written", index), &known);
             let graph = Graph::in_quarter(&mut maker.rng, index, index % 4);
-            maker.call_writers_in_turn(&graph, index);
+            maker.call_lent_in_turn(&graph, index);
             maker.bytes
         });
         lists.collect()
@@ -138,36 +160,44 @@ mod tests {
 
     #[test]
     fn each_length_goes_with_each_number_of_edges() {
-        for names in BOTH {
-            each_length_goes_with_each_number_of_edges_of(names);
+        let wide = 1 << 32;
+        for (names, op, due) in [
+            (BOTH[0], WRITE, &[0, 255][..]),
+            (BOTH[1], EXPORT, &[0, 255]),
+            ("perlink", PERLINK, &[0, wide - 1, wide, u64::MAX]),
+        ] {
+            let fills = each_length_goes_with_each_number_of_edges_of(names, op);
+            assert!(due.iter().all(|fill| fills.contains(fill)) && fills.len() > 20);
         }
     }
 
-    fn each_length_goes_with_each_number_of_edges_of(names: &str) {
+    /// Gives what is held before the calls. Without edges no table is too short.
+    fn each_length_goes_with_each_number_of_edges_of(names: &str, op: u64) -> BTreeSet<u64> {
         let (mut rooms, mut lents, mut fills) = (BTreeSet::new(), BTreeSet::new(), BTreeSet::new());
         for list in in_turn(names) {
             for step in steps(&list, &play(&list)) {
-                let (due, length, fill) = match step.entry {
-                    Entry::Record([WRITE, length, fill, _]) => {
-                        (charts::length(step.n(), step.m()), length, fill)
-                    }
-                    Entry::Record([EXPORT, length, fill, _]) => {
-                        (graph6::length(step.n()), length, fill)
-                    }
-                    _ => continue,
+                let Entry::Record([called, length, fill, _]) = step.entry else {
+                    continue;
                 };
-                rooms.insert((step.m(), length.wrapping_sub(due) as i64));
-                lents.insert((step.m(), numbers(step.line, " buffer ").len()));
-                fills.insert(fill);
+                if called == op {
+                    let due = filled_length(op, step.n(), step.m());
+                    rooms.insert((step.m(), length.wrapping_sub(due) as i64));
+                    lents.insert((step.m(), lent(step.line).len() as u64));
+                    fills.insert(fill);
+                }
             }
         }
         for m in EDGES {
-            assert!((-1..=2).all(|room| rooms.contains(&(m, room))), "{m} edges");
-            let lengths = [0, 1, 8191, 8192];
+            let least = if (op, m) == (PERLINK, 0) { 0 } else { -1 };
+            assert!(
+                (least..=2).all(|room| rooms.contains(&(m, room))),
+                "{m} edges"
+            );
+            let lengths = [0, 1, most_lent(op) - 1, most_lent(op)];
             assert!(lengths.iter().all(|&length| lents.contains(&(m, length))));
         }
         assert!(rooms.iter().any(|&(_, room)| room == -2));
-        assert!(fills.contains(&0) && fills.contains(&255) && fills.len() > 20);
+        fills
     }
 
     /// How often something was written in a list, and how often it was read
@@ -217,12 +247,12 @@ mod tests {
     #[test]
     fn nothing_is_written_or_read_back_by_calls_that_are_not_known() {
         let reads = |entry: &Entry| matches!(entry, Entry::Chart(_) | Entry::Import(_));
-        let writes = |entry: &Entry| matches!(entry, Entry::Record([WRITE | EXPORT, ..]));
-        for names in ["write", "export"] {
-            assert!(occurs(names, writes) && !occurs(names, reads));
+        let is_lent = |entry: &Entry| matches!(entry, Entry::Record([op, ..]) if LENT.contains(op));
+        for names in ["write", "export", "perlink"] {
+            assert!(occurs(names, is_lent) && !occurs(names, reads));
         }
         for names in ["chart,count", "import,count"] {
-            assert!(occurs(names, reads) && !occurs(names, writes));
+            assert!(occurs(names, reads) && !occurs(names, is_lent));
         }
     }
 }

@@ -2,7 +2,9 @@
 
 use super::chart::written;
 use super::graph6::exported;
-use super::layout::{crossings, edges, first_pair, isolated, joined, list, valid, Edge, Layout};
+use super::layout::{
+    crossings, crossings_of_each, edges, first_pair, isolated, joined, list, valid, Edge, Layout,
+};
 
 /// The refusal number and the answers. Only an accepted call changes the
 /// layout.
@@ -281,25 +283,39 @@ pub fn pair(layout: &Layout) -> Reply<Option<(Edge, Edge)>> {
 
 /// Writes the chart into a lent buffer. Answers its length.
 pub fn write(layout: &Layout, buffer: &mut [u8]) -> Reply<usize> {
-    put(layout, buffer, written)
+    put(layout, buffer, 19, written)
 }
 
 /// Writes the graph6 into a lent buffer. Answers its length.
 pub fn export(layout: &Layout, buffer: &mut [u8]) -> Reply<usize> {
-    put(layout, buffer, exported)
+    put(layout, buffer, 19, exported)
 }
 
-/// Puts what is made of a valid layout into a lent buffer. Answers its length.
-fn put(layout: &Layout, buffer: &mut [u8], make: fn(&Layout) -> Vec<u8>) -> Reply<usize> {
+/// Fills a lent table with the crossings of each edge (link), in the sequence in
+/// which the chart has them. Answers how many edges there are.
+pub fn edge_crossings(layout: &Layout, table: &mut [u32]) -> Reply<usize> {
+    put(layout, table, 23, |layout| {
+        crossings_of_each(&list(layout), &edges(layout))
+    })
+}
+
+/// Puts what is made of a valid layout into what is lent, which is refused with
+/// some number if it is too short. Answers the length of what is made.
+fn put<E: Copy>(
+    layout: &Layout,
+    lent: &mut [E],
+    too_short: u8,
+    make: fn(&Layout) -> Vec<E>,
+) -> Reply<usize> {
     if !valid(layout) {
         return (11, 0);
     }
     let made = make(layout);
-    if buffer.len() < made.len() {
-        return (19, 0);
+    if lent.len() < made.len() {
+        return (too_short, 0);
     }
-    for (i, &byte) in made.iter().enumerate() {
-        buffer[i] = byte;
+    for (i, &entry) in made.iter().enumerate() {
+        lent[i] = entry;
     }
     (0, made.len())
 }

@@ -107,19 +107,35 @@ fn places(order: &[usize], edges: &[Edge]) -> Places {
     places
 }
 
-/// The crossings of the edges in an order: the unordered pairs that cross.
-pub fn crossings(order: &[usize], edges: &[Edge]) -> u32 {
-    let places = places(order, edges);
-    let mut total = 0;
-    for i in 0..edges.len() {
-        let edge = (places.first[i], places.second[i]);
-        let first = places.first[i + 1..].chunks_exact(TOGETHER);
-        let second = places.second[i + 1..].chunks_exact(TOGETHER);
+impl Places {
+    /// How many edges cross one, of those from some number on.
+    fn crossed_from(&self, edge: usize, from: usize) -> u32 {
+        let edge = (self.first[edge], self.second[edge]);
+        let first = self.first[from..].chunks_exact(TOGETHER);
+        let second = self.second[from..].chunks_exact(TOGETHER);
+        let mut total = 0;
         for (first, second) in first.zip(second) {
             total += u32::from(crossed(edge, first, second));
         }
+        total
     }
-    total
+}
+
+/// The crossings of the edges in an order: the unordered pairs that cross.
+pub fn crossings(order: &[usize], edges: &[Edge]) -> u32 {
+    let places = places(order, edges);
+    (0..edges.len())
+        .map(|i| places.crossed_from(i, i + 1))
+        .sum()
+}
+
+/// The crossings that each edge takes part in: how many of all edges cross it.
+/// None crosses itself.
+pub fn crossings_of_each(order: &[usize], edges: &[Edge]) -> Vec<u32> {
+    let places = places(order, edges);
+    (0..edges.len())
+        .map(|i| places.crossed_from(i, 0))
+        .collect()
 }
 
 /// How many of some edges cross one, looked at one by one.

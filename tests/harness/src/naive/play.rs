@@ -1,5 +1,7 @@
 //! Plays a list of calls; the format is in tests/README.md.
 
+use std::fmt::Display;
+
 use super::calls;
 use super::chart;
 use super::graph6;
@@ -80,7 +82,7 @@ impl Player<'_> {
                 self.set(op, a, b);
                 Step::Quiet
             }
-            16..=27 | 29 => Step::Said(self.call(op, a, b)),
+            16..=27 | 29..=30 => Step::Said(self.call(op, a, b)),
             _ => Step::End,
         }
     }
@@ -136,46 +138,58 @@ impl Player<'_> {
             25 => order(layout, a, b),
             26 => pair(layout),
             27 => write(layout, a, b),
-            _ => export(layout, a, b),
+            29 => export(layout, a, b),
+            _ => perlink(layout, a, b),
         }
     }
 }
 
 /// A call with one number for an answer.
-fn one<T: std::fmt::Display>(name: &str, (refusal, answer): (u8, T)) -> String {
+fn one<T: Display>(name: &str, (refusal, answer): (u8, T)) -> String {
     format!("{name} {refusal} {answer}")
 }
 
 fn order(layout: &Layout, length: u64, fill: u64) -> String {
-    let mut buffer = lent(length, 255, fill);
+    let mut buffer = lent(length, 255, byte(fill));
     let refusal = calls::order(layout, &mut buffer);
-    format!("order {refusal} {}", shown(&buffer))
+    format!("order {refusal} {}", shown("buffer", &buffer))
 }
 
 /// What the call `write` says.
 pub fn write(layout: &Layout, length: u64, fill: u64) -> String {
-    let mut buffer = lent(length, 8192, fill);
+    let mut buffer = lent(length, 8192, byte(fill));
     let reply = calls::write(layout, &mut buffer);
-    format!("{} {}", one("write", reply), shown(&buffer))
+    format!("{} {}", one("write", reply), shown("buffer", &buffer))
 }
 
 /// What the call `export` says.
 pub fn export(layout: &Layout, length: u64, fill: u64) -> String {
-    let mut buffer = lent(length, 8192, fill);
+    let mut buffer = lent(length, 8192, byte(fill));
     let reply = calls::export(layout, &mut buffer);
-    format!("{} {}", one("export", reply), shown(&buffer))
+    format!("{} {}", one("export", reply), shown("buffer", &buffer))
 }
 
-/// A buffer of so many bytes, or of the most if there are more.
-fn lent(length: u64, most: u64, fill: u64) -> Vec<u8> {
+/// What the call `perlink` says.
+pub fn perlink(layout: &Layout, length: u64, fill: u64) -> String {
+    let mut table = lent(length, 2100, (fill % (1 << 32)) as u32);
+    let reply = calls::edge_crossings(layout, &mut table);
+    format!("{} {}", one("perlink", reply), shown("table", &table))
+}
+
+fn byte(fill: u64) -> u8 {
+    (fill % 256) as u8
+}
+
+/// So many entries, or the most if there are more.
+fn lent<E: Clone>(length: u64, most: u64, fill: E) -> Vec<E> {
     let length = if length > most { most } else { length };
-    vec![(fill % 256) as u8; length as usize]
+    vec![fill; length as usize]
 }
 
-fn shown(buffer: &[u8]) -> String {
-    let mut shown = "buffer".to_string();
-    for byte in buffer {
-        shown += &format!(" {byte}");
+fn shown<E: Display>(word: &str, entries: &[E]) -> String {
+    let mut shown = word.to_string();
+    for entry in entries {
+        shown += &format!(" {entry}");
     }
     shown
 }

@@ -1,13 +1,14 @@
 //! The naive model on the rings worked by hand in document 01, on the points
 //! that it leaves open of lay, on isolated vertices, on the optima of sifts, on
-//! charts written out again, on graph6, and on random graphs.
+//! charts written out again, on graph6, on the crossings of each edge, and on
+//! random graphs.
 
 use std::collections::BTreeSet;
 
 use super::calls::{self, Reply};
 use super::chart::{read, written};
 use super::graph6::{exported, import, long_size, size};
-use super::layout::{crossings, edges, empty, list, Edge, Layout};
+use super::layout::{crossings, crossings_of_each, edges, empty, list, Edge, Layout};
 use super::list::listing;
 use super::play::play;
 use crate::make::charts::Chart;
@@ -280,20 +281,24 @@ fn a_tally_is_the_crossings_laid() {
     }
 }
 
-/// The crossings, each pair of edges looked at alone.
-fn one_by_one(order: &[usize], edges: &[Edge]) -> u32 {
+/// The crossings of each edge, each pair of edges looked at alone.
+fn one_by_one(order: &[usize], edges: &[Edge]) -> Vec<u32> {
     let place = |v| order.iter().position(|&w| w == v).expect("v is listed");
     let places = |&(v, w): &Edge| (place(v).min(place(w)), place(v).max(place(w)));
     let places: Vec<(usize, usize)> = edges.iter().map(places).collect();
-    let mut total = 0;
-    for &(a, b) in &places {
-        for &(c, d) in &places {
-            total += u32::from(a < c && c < b && b < d);
+    let mut numbers = vec![0; edges.len()];
+    for (i, &(a, b)) in places.iter().enumerate() {
+        for (j, &(c, d)) in places.iter().enumerate() {
+            if a < c && c < b && b < d {
+                numbers[i] += 1;
+                numbers[j] += 1;
+            }
         }
     }
-    total
+    numbers
 }
 
+/// So the numbers add up to twice the crossings.
 #[test]
 fn edges_looked_at_together_are_counted_as_one_by_one() {
     for m in 0..150 {
@@ -303,7 +308,88 @@ fn edges_looked_at_together_are_counted_as_one_by_one() {
         rng.shuffle(&mut graph.edges);
         graph.edges.truncate(m);
         let ring = layout(&graph.order, &graph.edges);
-        assert_eq!(ring.count, one_by_one(&list(&ring), &edges(&ring)));
+        let (order, edges) = (list(&ring), edges(&ring));
+        let numbers = one_by_one(&order, &edges);
+        assert_eq!(numbers.iter().sum::<u32>(), 2 * ring.count);
+        assert_eq!(crossings_of_each(&order, &edges), numbers);
+    }
+}
+
+/// The numbers of the edges in a table that is just long enough.
+fn numbers(layout: &Layout) -> Vec<u32> {
+    let mut table = vec![9; edges(layout).len()];
+    assert_eq!(calls::edge_crossings(layout, &mut table), (0, table.len()));
+    table
+}
+
+#[test]
+fn crossings_of_each_edge_of_the_worked_rings() {
+    assert_eq!(numbers(&layout(&[0, 1, 2, 3], &FIRST)), [1, 1]);
+    assert_eq!(numbers(&layout(&[0, 2, 1, 3], &FIRST)), [0, 0]);
+    assert_eq!(numbers(&layout(&[0, 1, 2, 3], &[(0, 2), (0, 3)])), [0, 0]);
+    assert_eq!(numbers(&complete(4)), [0, 1, 0, 0, 1, 0]);
+    assert_eq!(numbers(&complete(5)), [0, 2, 2, 0, 0, 2, 2, 0, 2, 0]);
+    let ring = layout(&[3, 0, 4, 1, 5, 2], &[(3, 4), (1, 0), (4, 2)]);
+    assert_eq!(numbers(&ring), [2, 1, 1]);
+    for n in [0, 1, 64] {
+        assert!(numbers(&layout(&vertices(n), &[])).is_empty());
+    }
+}
+
+#[test]
+fn crossings_of_each_edge_add_up_to_twice_all() {
+    for number in 0..five::GRAPHS {
+        let ring = layout(&[3, 1, 4, 0, 2], &five::graph(number).edges);
+        assert_eq!(numbers(&ring).iter().sum::<u32>(), 2 * ring.count);
+    }
+    for index in 0..200 {
+        let mut rng = Rng::new(1, "each edge", index);
+        let graph = Graph::random(&mut rng, index % 65, usize::MAX);
+        let ring = layout(&graph.order, &graph.edges);
+        assert_eq!(numbers(&ring).iter().sum::<u32>(), 2 * ring.count);
+    }
+}
+
+/// An edge that has k vertices on its one side is crossed by the edges from each
+/// of these to each of the n - 2 - k on the other.
+#[test]
+fn crossings_of_each_of_all_edges() {
+    for n in [6, 64] {
+        let number = |(a, b): (u8, u8)| {
+            let between = u32::from(b - a - 1);
+            between * (n as u32 - 2 - between)
+        };
+        let due: Vec<u32> = all_pairs(n).into_iter().map(number).collect();
+        assert_eq!(numbers(&complete(n)), due);
+    }
+}
+
+#[test]
+fn a_table_is_asked_for_behind_validity() {
+    let mut ring = layout(&[0, 1, 2, 3], &FIRST);
+    let mut table = [9; 4];
+    assert_eq!(calls::edge_crossings(&ring, &mut table[..1]), (23, 0));
+    assert_eq!(table, [9; 4]);
+    assert_eq!(calls::edge_crossings(&ring, &mut table), (0, 2));
+    assert_eq!(table, [1, 1, 9, 9]);
+    ring.words[0] = 0;
+    assert_eq!(calls::edge_crossings(&ring, &mut table), (11, 0));
+    assert_eq!(calls::edge_crossings(&ring, &mut table[..1]), (11, 0));
+    assert_eq!(table, [1, 1, 9, 9]);
+    assert_eq!(calls::edge_crossings(&empty(), &mut []), (0, 0));
+}
+
+#[test]
+fn crossings_are_played_into_at_most_2100_entries() {
+    let ring = layout(&[0, 1, 2, 3], &FIRST);
+    let said = |length, fill| super::play::perlink(&ring, length, fill);
+    assert_eq!(said(4, 7), "perlink 0 2 table 1 1 7 7");
+    assert_eq!(said(3, (1 << 32) + 256), "perlink 0 2 table 1 1 256");
+    assert_eq!(said(1, u64::MAX), "perlink 23 0 table 4294967295");
+    assert_eq!(said(0, 7), "perlink 23 0 table");
+    for length in [2100, 2101, (1 << 32) + 2, u64::MAX] {
+        let rest = " 0".repeat(2098);
+        assert_eq!(said(length, 0), format!("perlink 0 2 table 1 1{rest}"));
     }
 }
 

@@ -4,7 +4,7 @@ use std::collections::BTreeSet;
 use std::ops::RangeInclusive;
 
 use super::{imports, lays, sifts, writes, Counts, Quarters, Tally};
-use crate::make::ops::{Known, EXPORT, IMPORT, ORDER, WRITE};
+use crate::make::ops::{Known, EXPORT, IMPORT, ORDER, PERLINK, WRITE};
 use crate::make::{charts, families, lists, starts};
 
 /// The quarters of all possible edges in words.
@@ -38,11 +38,16 @@ impl Tally {
 
     fn missing_transfers(&self, known: &Known) -> Vec<String> {
         let mut missing = Vec::new();
-        for (name, op, due, transfers) in [
-            ("write", WRITE, writes::due(known, WRITE), &self.writes),
-            ("export", EXPORT, writes::due(known, EXPORT), &self.exports),
-            ("import", IMPORT, imports::due(known), &self.imports),
+        for (name, op, transfers) in [
+            ("write", WRITE, &self.writes),
+            ("export", EXPORT, &self.exports),
+            ("import", IMPORT, &self.imports),
+            ("perlink", PERLINK, &self.tables),
         ] {
+            let due = match op {
+                IMPORT => imports::due(known),
+                _ => writes::due(known, op),
+            };
             missing.extend(absent(name, due, &transfers.met));
             if known.has(op) {
                 let title = format!("{name} of size");
@@ -127,6 +132,7 @@ fn without(title: &str, numbers: RangeInclusive<usize>, met: &BTreeSet<usize>) -
 #[cfg(test)]
 mod tests {
     use super::*;
+    use crate::make::graph::Graph;
     use crate::make::ops::{ADD, LAY, LINK, SETTLE, SET_COUNT, SET_N, SET_ORDER, SIFT};
     use crate::make::records;
 
@@ -137,18 +143,19 @@ mod tests {
     const STARTS: usize = 12;
     const GRAPHS: usize = 16;
     /// Calls, and their answers; those of charts.
-    const CALLS: usize = 13;
-    const ANSWERS: usize = 54;
+    const CALLS: usize = 14;
+    const ANSWERS: usize = 57;
     const LISTINGS: usize = 9;
     /// What is to occur of lays, of sifts, of settlings, of charts that are
-    /// written, one of which needs chart, and of graph6 that are exported and
-    /// imported, one of which needs the other.
+    /// written, one of which needs chart, of graph6 that are exported and
+    /// imported, one of which needs the other, and of tables that are filled.
     const LAYS: usize = 8;
     const SIFTS: usize = 8;
     const SETTLES: usize = 2;
     const WRITES: usize = 9;
     const EXPORTS: usize = 5;
     const IMPORTS: usize = 34;
+    const TABLES: usize = 8;
 
     fn list(records: &[[u64; 4]]) -> lists::Made {
         lists::Made {
@@ -157,6 +164,14 @@ mod tests {
             starts: vec!["empty"],
             graphs: vec!["path", "path"],
             naive: true,
+        }
+    }
+
+    /// Four vertices, two edges that cross, and one that crosses neither.
+    fn square() -> Graph {
+        Graph {
+            edges: vec![(0, 1), (0, 2), (1, 3)],
+            order: vec![0, 1, 2, 3],
         }
     }
 
@@ -187,7 +202,7 @@ mod tests {
     fn at_first_everything_is_missing() {
         let of_charts = LISTINGS + 3 + GRAPHS + 65 + 4;
         let of_lists = ANSWERS + 4 * CALLS + LISTS + STARTS + GRAPHS + 65 + 66;
-        let of_transfers = WRITES + EXPORTS + IMPORTS + 3 * 65;
+        let of_transfers = WRITES + EXPORTS + IMPORTS + TABLES + 4 * 65;
         let of_all = of_charts + of_lists + LAYS + SIFTS + SETTLES + of_transfers;
         assert_eq!(missing(&Tally::default()).len(), of_all);
         let few = Known::parse("add,order").expect("known names");
@@ -202,6 +217,9 @@ mod tests {
         let export = Known::parse("export").expect("known names");
         let of_export = 3 + 4 + (LISTS - 2) + (STARTS - 6) + GRAPHS + 65 + (EXPORTS - 1) + 65;
         assert_eq!(Tally::default().missing(&export, false).len(), of_export);
+        let perlink = Known::parse("perlink").expect("known names");
+        let of_perlink = 3 + 4 + (LISTS - 2) + (STARTS - 6) + GRAPHS + 65 + TABLES + 65;
+        assert_eq!(Tally::default().missing(&perlink, false).len(), of_perlink);
     }
 
     #[test]
@@ -357,6 +375,42 @@ mod tests {
             "export, a buffer one byte too short",
         ];
         assert_eq!(refused[1..3], due);
+    }
+
+    #[test]
+    fn a_table_is_met_with_its_size_and_room() {
+        let line = "perlink 0 0 table n 3 order 0 1 2 count 0 words\n";
+        let records = [[SET_N, 3, 0, 0], [PERLINK, 0, 7, 0]];
+        let accepted = met(|tally| tally.list(&list(&records), line));
+        let due = [
+            "perlink of size 3",
+            "perlink, 0 edges",
+            "perlink, a table just long enough",
+            "perlink, accepted",
+            "perlink, no edges and no entries",
+            "start, empty",
+        ];
+        assert_eq!(accepted[3..], due);
+        let mut records = records::fields(&square());
+        records.push([PERLINK, 2, 7, 0]);
+        let empty = "empty 0 n 0 order 0 count 0 words\n";
+        let line = |said: &str| format!("{empty}perlink {said} n 4 order 0 1 2 3 count 0 words\n");
+        let refused = met(|tally| tally.list(&list(&records), &line("23 0 table 7 7")));
+        let due = [
+            "perlink with refusal 23",
+            "perlink, a table one entry too short",
+        ];
+        assert!(due.iter().all(|due| refused.contains(&due.to_string())));
+        let longer = line("0 3 table 0 1 1 7");
+        let accepted = met(|tally| tally.list(&list(&records), &longer));
+        for due in [
+            "perlink, a count that is not the true one",
+            "perlink, a table one entry longer",
+            "perlink, an edge without crossings beside one with some",
+        ] {
+            assert!(accepted.contains(&due.to_string()), "{due}");
+        }
+        assert!(!accepted.contains(&"perlink, no edges and no entries".to_string()));
     }
 
     /// Exported and imported again, and imported and exported again.

@@ -14,7 +14,7 @@ use crate::imported::exported_again;
 use crate::make::charts;
 use crate::make::density::{quarter, LARGE, QUARTERS};
 use crate::make::lists;
-use crate::make::ops::{EXPORT, WRITE};
+use crate::make::ops::{EXPORT, PERLINK, WRITE};
 use crate::written::is_read_back;
 
 /// From so many charts and lists on, everything must have occurred.
@@ -55,17 +55,19 @@ pub struct Tally {
     /// accepted settlings.
     sifts: Counts,
     settles: Counts,
-    /// Charts that were written, and graph6 that were exported and imported.
+    /// Charts that were written, graph6 that were exported and imported, and
+    /// tables that were filled.
     writes: Transfers,
     exports: Transfers,
     imports: Transfers,
+    tables: Transfers,
     /// How many charts and lists were too dear for the naive model.
     charts_without_naive: usize,
     lists_without_naive: usize,
 }
 
-/// What occurred of layouts that were written or imported, and their numbers of
-/// vertices.
+/// What occurred of layouts that were written or imported, or of which a table
+/// was filled, and their numbers of vertices.
 #[derive(Default)]
 struct Transfers {
     met: Counts,
@@ -160,6 +162,9 @@ impl Tally {
             "export" => self
                 .exports
                 .line(step, refusal, writes::met(step, EXPORT, refusal)),
+            "perlink" => self
+                .tables
+                .line(step, refusal, writes::met(step, PERLINK, refusal)),
             "import" => self
                 .imports
                 .line(step, refusal, imports::met(step, refusal)),
@@ -193,6 +198,7 @@ impl Tally {
             ("write", &self.writes.met),
             ("export", &self.exports.met),
             ("import", &self.imports.met),
+            ("perlink", &self.tables.met),
         ] {
             for (name, times) in counts {
                 text += &format!("{title}, {name}: {times}\n");
@@ -206,6 +212,7 @@ impl Tally {
             ("sizes of written layouts", &self.writes.sizes),
             ("sizes of exported layouts", &self.exports.sizes),
             ("sizes of imported layouts", &self.imports.sizes),
+            ("sizes of layouts with a table", &self.tables.sizes),
             ("lengths of buffers for an order", &self.buffers),
         ] {
             text += &format!("{title}: {}\n", met.len());

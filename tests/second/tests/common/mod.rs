@@ -1,6 +1,8 @@
 //! Layouts and charts for the tests. Not every test file uses all of them.
 #![allow(dead_code)]
 
+use std::fmt::Debug;
+
 use second::calls::Answer;
 pub use second::crossings::counted as layout;
 use second::layout::Layout;
@@ -96,47 +98,61 @@ pub fn edge_bytes(edges: &[(u8, u8)]) -> Vec<u8> {
     edges.iter().flat_map(|&(a, b)| [a, b]).collect()
 }
 
-/// A call that writes a layout into a lent buffer and answers a length.
-pub type Write = fn(Layout, &mut [u8]) -> Answer<usize>;
+/// What a buffer or a table holds.
+pub trait Entry: Copy + Debug + PartialEq + From<u8> {}
 
-/// What each byte of a buffer holds before a call.
-const FILL: u8 = 7;
+impl Entry for u8 {}
+impl Entry for u32 {}
 
-/// What a call writes into a buffer of so many bytes.
-pub fn lent(write: Write, layout: Layout, length: usize) -> (Answer<usize>, Vec<u8>) {
-    let mut buffer = vec![FILL; length];
-    let answer = write(layout, &mut buffer);
+/// A call that writes of a layout into what is lent and answers a length.
+pub type Write<E> = fn(Layout, &mut [E]) -> Answer<usize>;
+
+/// So many entries as they are before a call.
+fn filled<E: Entry>(length: usize) -> Vec<E> {
+    vec![E::from(7); length]
+}
+
+/// What a call writes into so many entries.
+pub fn lent<E: Entry>(write: Write<E>, layout: Layout, length: usize) -> (Answer<usize>, Vec<E>) {
+    let mut entries = filled(length);
+    let answer = write(layout, &mut entries);
     assert_eq!(answer.layout, layout);
-    (answer, buffer)
+    (answer, entries)
 }
 
-/// What a call writes, without the bytes beyond it.
-pub fn written(write: Write, layout: Layout) -> Vec<u8> {
-    let (answer, mut buffer) = lent(write, layout, 8192);
+/// What a call writes, without the entries beyond it.
+pub fn written<E: Entry>(write: Write<E>, layout: Layout) -> Vec<E> {
+    let (answer, mut entries) = lent(write, layout, 8192);
     assert_eq!(answer.refusal, 0);
-    let beyond = buffer.split_off(answer.value);
-    assert!(beyond.iter().all(|&byte| byte == FILL));
-    buffer
+    let beyond = entries.split_off(answer.value);
+    assert_eq!(beyond, filled(beyond.len()));
+    entries
 }
 
-/// A buffer as long as what is written or longer gets it, a shorter one is
-/// refused and left.
-pub fn is_long_enough_or_untouched(write: Write, layout: Layout, length: usize) {
+/// As many entries as are written, or more, get them; fewer are refused with
+/// some number and left.
+pub fn is_long_enough_or_untouched<E: Entry>(
+    write: Write<E>,
+    layout: Layout,
+    length: usize,
+    refusal: u8,
+) {
     let due = written(write, layout);
     assert_eq!(due.len(), length);
     for longer in 0..3 {
-        let (answer, buffer) = lent(write, layout, length + longer);
+        let (answer, entries) = lent(write, layout, length + longer);
         assert_eq!((answer.refusal, answer.value), (0, length));
-        assert_eq!(buffer, [&due[..], &vec![FILL; longer]].concat());
+        assert_eq!(entries, [&due[..], &filled(longer)].concat());
     }
-    for shorter in [length - 1, length.saturating_sub(2), 0] {
-        is_untouched(write, layout, shorter, 19);
+    let shorter = [1, 2, length].map(|fewer| length.saturating_sub(fewer));
+    for shorter in shorter.into_iter().filter(|&shorter| shorter < length) {
+        is_untouched(write, layout, shorter, refusal);
     }
 }
 
-/// A buffer of so many bytes is left by a refused call.
-pub fn is_untouched(write: Write, layout: Layout, length: usize, refusal: u8) {
-    let (answer, buffer) = lent(write, layout, length);
+/// So many entries are left by a refused call.
+pub fn is_untouched<E: Entry>(write: Write<E>, layout: Layout, length: usize, refusal: u8) {
+    let (answer, entries) = lent(write, layout, length);
     assert_eq!((answer.refusal, answer.value), (refusal, 0));
-    assert_eq!(buffer, vec![FILL; length]);
+    assert_eq!(entries, filled(length));
 }
