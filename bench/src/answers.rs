@@ -7,7 +7,7 @@ use std::fmt::{Debug, Display};
 use baseline::WithoutOptima;
 use layouts::{chart, fan, graph6, most_edges, Random};
 use rostulanda::ffi::{Written, ANSWER_NUMBERS};
-use rostulanda::{Fields, Start};
+use rostulanda::{Fields, Start, MOST_EDGES};
 use second::calls::{self, Answer};
 use second::layout::Layout;
 
@@ -116,10 +116,24 @@ impl Comparison {
         T: Clone + PartialEq + Debug + From<u8>,
         A: PartialEq + Debug,
     {
-        let mut buffers = [(); 2].map(|()| vec![T::from(0xA5); length]);
-        let answers = (proved(&mut buffers[0]), second(&mut buffers[1]));
-        let [buffer, other] = buffers;
-        let call = format!("{call}, a buffer of {length}");
+        self.with_lent(call, vec![T::from(0xA5); length], proved, second)
+    }
+
+    /// An answer, and a lent buffer or table, which held this.
+    fn with_lent<T, A>(
+        &mut self,
+        call: impl Display,
+        held: Vec<T>,
+        proved: impl FnOnce(&mut [T]) -> A,
+        second: impl FnOnce(&mut [T]) -> A,
+    ) -> Outcome
+    where
+        T: Clone + PartialEq + Debug,
+        A: PartialEq + Debug,
+    {
+        let call = format!("{call}, a buffer of {}", held.len());
+        let (mut buffer, mut other) = (held.clone(), held);
+        let answers = (proved(&mut buffer), second(&mut other));
         self.proved(call, (answers.0, buffer), (answers.1, other))
     }
 
@@ -205,15 +219,36 @@ impl Comparison {
         Ok(())
     }
 
-    /// The chart and the graph6.
+    /// The chart, the graph6, and the crossings of every edge.
     fn written(&mut self, l: Layout) -> Outcome {
         let n = l.n.min(64) as usize;
-        // Three headers, n, the ends of the edges, the order.
         let ends: u32 = l.adjacency.iter().map(|word| word.count_ones()).sum();
-        self.written_by(WRITE, l, 10 + ends as usize + n)?;
+        let ends = ends as usize;
+        // Three headers, n, the ends of the edges, the order.
+        self.written_by(WRITE, l, 10 + ends + n)?;
         // The size, and six pairs in a byte.
         let size = if n < 63 { 1 } else { 4 };
-        self.written_by(EXPORT, l, size + most_edges(n as u8).div_ceil(6))
+        self.written_by(EXPORT, l, size + most_edges(n as u8).div_ceil(6))?;
+        self.edge_crossings(l, ends / 2)
+    }
+
+    /// The crossings of every edge, of so many, in tables of that length, shorter
+    /// and longer, which held what can be a number of crossings and what cannot.
+    fn edge_crossings(&mut self, l: Layout, edges: usize) -> Outcome {
+        let shorter = self.random.below(edges + 1);
+        let lent = &fields(&l);
+        let lengths = [0, shorter, edges.saturating_sub(1), edges, edges + 1];
+        for length in lengths.into_iter().chain([MOST_EDGES, LONG]) {
+            for fill in [0xA5, u32::MAX] {
+                self.with_lent(
+                    "perlink",
+                    vec![fill; length],
+                    |table| proved::edge_crossings(lent, table).told(),
+                    |table| calls::edge_crossings(l, table),
+                )?;
+            }
+        }
+        Ok(())
     }
 
     /// What a call writes, in buffers as long as it is, shorter and longer, and

@@ -151,6 +151,10 @@ pub fn export_and_import(l: &Fields, buffer: &mut [u8], other: &Fields) -> Left<
     import_graph6(other, &buffer[..length])
 }
 
+pub fn edge_crossings(l: &Fields, table: &mut [u32]) -> Left<ffi::EdgesCounted> {
+    lend(l, |l| ffi::edge_crossings(l, table))
+}
+
 pub fn first_crossing(l: &Fields) -> Left<ffi::Crossing> {
     lend(l, |l| ffi::rl_first_crossing(l))
 }
@@ -217,6 +221,14 @@ impl Report for ffi::Written {
 
     fn parts(self) -> (u8, usize) {
         (self.refusal, self.length)
+    }
+}
+
+impl Report for ffi::EdgesCounted {
+    type Value = usize;
+
+    fn parts(self) -> (u8, usize) {
+        (self.refusal, self.edges)
     }
 }
 

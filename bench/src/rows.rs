@@ -1,11 +1,12 @@
 //! The calls that are measured, each with the sides that it is measured on.
 
+use std::fmt::Debug;
 use std::hint::black_box;
 
 use baseline::WithoutOptima;
 use layouts::{chart, fan, graph6, layout, pairs, with_isolated};
 use rostulanda::ffi::ANSWER_NUMBERS;
-use rostulanda::{Fields, Start, GRAPH6_BYTES, PLACES, WRITTEN_CHART_BYTES};
+use rostulanda::{Fields, Start, GRAPH6_BYTES, MOST_EDGES, PLACES, WRITTEN_CHART_BYTES};
 use second::calls;
 use second::layout::Layout;
 
@@ -58,6 +59,7 @@ pub fn for_each(mut does: impl FnMut(&Row)) -> Outcome {
     charts(rows)?;
     written_charts(rows)?;
     graph6s(rows)?;
+    edge_crossings(rows)?;
     appending(rows)?;
     sifting(rows)?;
     playing(rows)?;
@@ -113,18 +115,22 @@ impl Rows<'_> {
         )
     }
 
-    /// A layout written to a buffer of so many bytes.
-    fn writing<const BYTES: usize, P: Told>(
+    /// What a layout has, written to a buffer of so many elements.
+    fn writing<const LENGTH: usize, T, P>(
         &mut self,
         name: &str,
         l: Layout,
-        proved: impl Fn(&Fields, &mut [u8]) -> P,
-        second: impl Fn(Layout, &mut [u8]) -> P::As,
-    ) -> Outcome {
+        proved: impl Fn(&Fields, &mut [T]) -> P,
+        second: impl Fn(Layout, &mut [T]) -> P::As,
+    ) -> Outcome
+    where
+        T: Copy + Default + PartialEq + Debug,
+        P: Told,
+    {
         let lent = fields(&l);
         self.two(
             name,
-            || into_buffer::<BYTES, _>(|buffer| proved(&lent, buffer)),
+            || into_buffer::<LENGTH, _, _>(|buffer| proved(&lent, buffer)),
             || into_buffer(|buffer| second(l, buffer)),
         )
     }
@@ -191,7 +197,7 @@ fn accepted(rows: &mut Rows, edges: usize) -> Outcome {
         || calls::move_after(l, c, d),
     )?;
     rows.two(&name("count"), || proved::count(&lent), || calls::count(l))?;
-    rows.writing::<PLACES, _>(&name("order"), l, proved::order, calls::order)?;
+    rows.writing::<PLACES, _, _>(&name("order"), l, proved::order, calls::order)?;
     rows.two(
         &name("pair"),
         || proved::first_crossing(&lent),
@@ -240,7 +246,7 @@ fn written_charts(rows: &mut Rows) -> Outcome {
     let empty = fields(&Layout::EMPTY);
     let layouts = [1000, 2016].map(|edges| (edges, layout(64, edges)));
     for (edges, l) in layouts {
-        rows.writing::<WRITTEN_CHART_BYTES, _>(
+        rows.writing::<WRITTEN_CHART_BYTES, _, _>(
             &of_64("writing a chart", edges),
             l,
             proved::write_chart,
@@ -248,7 +254,7 @@ fn written_charts(rows: &mut Rows) -> Outcome {
         )?;
     }
     for (edges, l) in layouts {
-        rows.writing::<WRITTEN_CHART_BYTES, _>(
+        rows.writing::<WRITTEN_CHART_BYTES, _, _>(
             &of_64("writing a chart and reading it back", edges),
             l,
             |l, buffer| proved::write_and_read(l, buffer, &empty),
@@ -276,11 +282,24 @@ fn graph6s(rows: &mut Rows) -> Outcome {
         expected::import_graph6,
     )?;
     for (edges, l) in layouts {
-        rows.writing::<GRAPH6_BYTES, _>(
+        rows.writing::<GRAPH6_BYTES, _, _>(
             &of_64("exporting a graph6", edges),
             l,
             proved::export_graph6,
             calls::write_graph6,
+        )?;
+    }
+    Ok(())
+}
+
+/// The crossings of every edge of 64 vertices.
+fn edge_crossings(rows: &mut Rows) -> Outcome {
+    for edges in [1000, 2016] {
+        rows.writing::<MOST_EDGES, _, _>(
+            &of_64("crossings of every edge", edges),
+            layout(64, edges),
+            proved::edge_crossings,
+            calls::edge_crossings,
         )?;
     }
     Ok(())
@@ -338,9 +357,11 @@ fn playing(rows: &mut Rows) -> Outcome {
     )
 }
 
-/// With a buffer of so many bytes.
-fn into_buffer<const BYTES: usize, A>(write: impl Fn(&mut [u8]) -> A) -> (A, [u8; BYTES]) {
-    let mut buffer = [0; BYTES];
+/// With a buffer of so many elements.
+fn into_buffer<const LENGTH: usize, T: Copy + Default, A>(
+    write: impl Fn(&mut [T]) -> A,
+) -> (A, [T; LENGTH]) {
+    let mut buffer = [T::default(); LENGTH];
     (write(&mut buffer), buffer)
 }
 

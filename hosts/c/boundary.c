@@ -53,6 +53,9 @@ int main(void)
     SIZE(rl_written);
     AT(rl_written, refusal);
     AT(rl_written, length);
+    SIZE(rl_edges_counted);
+    AT(rl_edges_counted, refusal);
+    AT(rl_edges_counted, edges);
     SIZE(rl_played);
     AT(rl_played, refusal);
     AT(rl_played, layout);
@@ -77,5 +80,6 @@ int main(void)
     REFUSAL(GRAPH6_SIZE);
     REFUSAL(GRAPH6_DATA);
     REFUSAL(GRAPH6_PADDING);
+    REFUSAL(TABLE_TOO_SHORT);
     return 0;
 }

@@ -13,9 +13,10 @@
 #define RECORD 32
 
 /* The longest buffers that a list can lend: for an order, and for a chart or
- * graph6. */
+ * graph6; and the longest table, for the crossings of every edge. */
 #define LONGEST_ORDER 255
 #define LONGEST_WRITTEN 8192
+#define LONGEST_TABLE 2100
 
 /* A list, and how far it is played. */
 typedef struct list {
@@ -133,10 +134,16 @@ static void play_converge(rl_layout *l, uint64_t limit)
            run.converged ? "yes" : "no", run.optima);
 }
 
+/* How many elements the record lends, up to the longest. */
+static size_t lent_length(size_t longest, record r)
+{
+    return r.a < longest ? r.a : longest;
+}
+
 /* Fills as much of the buffer as the record lends; how many bytes that is. */
 static size_t fill_buffer(uint8_t *buffer, size_t longest, record r)
 {
-    size_t length = r.a < longest ? r.a : longest;
+    size_t length = lent_length(longest, r);
     memset(buffer, (uint8_t)r.b, length);
     return length;
 }
@@ -163,6 +170,18 @@ static void play_write(const rl_layout *l, record r, const char *name, writer *w
     rl_written written = write(l, buffer, length);
     printf("%s %u %zu", name, written.refusal, written.length);
     print_buffer(buffer, length);
+}
+
+static void play_edge_crossings(const rl_layout *l, record r)
+{
+    uint32_t table[LONGEST_TABLE];
+    size_t length = lent_length(LONGEST_TABLE, r);
+    for (size_t i = 0; i < length; i++)
+        table[i] = (uint32_t)r.b;
+    rl_edges_counted counted = rl_edge_crossings(l, table, length);
+    printf("perlink %u %zu table", counted.refusal, counted.edges);
+    for (size_t i = 0; i < length; i++)
+        printf(" %u", table[i]);
 }
 
 static void play_first_crossing(const rl_layout *l)
@@ -237,6 +256,9 @@ static bool play_call(rl_layout *l, list *rest, record r)
         return play_start(l, rest, r.a, "import", rl_import_graph6);
     case 29:
         play_write(l, r, "export", rl_export_graph6);
+        return true;
+    case 30:
+        play_edge_crossings(l, r);
         return true;
     default:
         return false;

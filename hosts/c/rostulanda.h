@@ -11,8 +11,8 @@
  * What holds for every call:
  *
  * - A call answers a refusal code, RL_ACCEPTED or the first question that was
- *   answered "no". A refused call leaves the layout and every lent buffer as
- *   they came; its other numbers are 0 and its bools false.
+ *   answered "no". A refused call leaves the layout and every lent buffer or
+ *   table as they came; its other numbers are 0 and its bools false.
  * - Every pointer is non-NULL and aligned for its type, also where the length
  *   beside it is 0. A length counts elements, not bytes.
  * - Two things lent to one call do not overlap.
@@ -43,6 +43,9 @@ extern "C" {
 
 /* The most bytes that rl_export_graph6 writes. */
 #define RL_GRAPH6_BYTES 340
+
+/* The most edges, and the most entries that rl_edge_crossings writes. */
+#define RL_MOST_EDGES 2016
 
 /* The least buffer for rl_list_chart. */
 #define RL_LISTING_BYTES 1024
@@ -78,7 +81,10 @@ enum rl_refusal {
     /* Importing a graph6. */
     RL_GRAPH6_SIZE = 20,
     RL_GRAPH6_DATA = 21,
-    RL_GRAPH6_PADDING = 22
+    RL_GRAPH6_PADDING = 22,
+
+    /* The crossings of every edge. */
+    RL_TABLE_TOO_SHORT = 23
 };
 
 /* The question that a refused call answered "no". */
@@ -106,6 +112,7 @@ static inline const char *rl_refusal_text(uint8_t refusal)
     case RL_GRAPH6_SIZE: return "does the graph6 start with a size from 0 to 64, in its shortest form?";
     case RL_GRAPH6_DATA: return "has the graph6 as many bytes as its size asks for, each from 63 to 126?";
     case RL_GRAPH6_PADDING: return "are the padding bits of the graph6 all 0?";
+    case RL_TABLE_TOO_SHORT: return "has the table an entry for each edge?";
     default: return "unknown";
     }
 }
@@ -192,6 +199,12 @@ typedef struct rl_written {
     size_t length;
 } rl_written;
 
+/* How many edges there are, and so how many entries of the table were written. */
+typedef struct rl_edges_counted {
+    uint8_t refusal;
+    size_t edges;
+} rl_edges_counted;
+
 /* A list of calls played: the layout at the end, and how many calls it had. */
 typedef struct rl_played {
     uint8_t refusal;
@@ -247,6 +260,9 @@ RL_AT(rl_crossing, second, 24);
 RL_SIZE(rl_written, 16);
 RL_AT(rl_written, refusal, 0);
 RL_AT(rl_written, length, 8);
+RL_SIZE(rl_edges_counted, 16);
+RL_AT(rl_edges_counted, refusal, 0);
+RL_AT(rl_edges_counted, edges, 8);
 RL_SIZE(rl_played, 608);
 RL_AT(rl_played, refusal, 0);
 RL_AT(rl_played, layout, 8);
@@ -324,6 +340,12 @@ rl_written rl_write_chart(const rl_layout *l, uint8_t *buffer, size_t length);
  * buffer; the bytes beyond it keep what they hold. Neither the order nor the
  * carried count is in it. Refused: 19, for fewer bytes than the graph6 has. */
 rl_written rl_export_graph6(const rl_layout *l, uint8_t *buffer, size_t length);
+
+/* Writes for each edge how many crossings it takes part in, to the start of the
+ * table, edges sorted by lower, then higher end; the entries beyond them keep what
+ * they hold (document 02, Note 7). The carried count is not looked at: the numbers'
+ * sum is twice the crossings. Refused: 23, for fewer entries than edges. */
+rl_edges_counted rl_edge_crossings(const rl_layout *l, uint32_t *table, size_t length);
 
 /* Whether the layout is valid (whole): all of the fields as rl_layout says,
  * but for the count. */

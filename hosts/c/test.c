@@ -310,6 +310,94 @@ static void exports_the_largest(void)
     }
 }
 
+/* The crossings of every edge, into a table of any length: the numbers are due, and
+ * the entries beyond them, or all if they are too few, keep what they hold. */
+static void counts_into(const rl_layout *l, const uint32_t *due, size_t edges)
+{
+    uint32_t table[RL_MOST_EDGES + 1];
+    memset(table, 77, sizeof table);
+    for (size_t length = 0; length < edges; length++) {
+        rl_edges_counted counted = rl_edge_crossings(l, table, length);
+        HOLDS(counted.refusal == RL_TABLE_TOO_SHORT && counted.edges == 0);
+    }
+    HOLDS(holds_only((const uint8_t *)table, sizeof table, 77));
+    for (size_t more = 0; more < 2; more++) {
+        memset(table, 77, sizeof table);
+        rl_edges_counted counted = rl_edge_crossings(l, table, edges + more);
+        HOLDS(counted.refusal == RL_ACCEPTED && counted.edges == edges);
+        size_t written = edges * sizeof *due;
+        HOLDS(memcmp(table, due, written) == 0);
+        HOLDS(holds_only((const uint8_t *)table + written, sizeof table - written, 77));
+    }
+}
+
+/* The crossings of every edge, whatever the carried count; no edge has no number. */
+static void edge_crossings(void)
+{
+    /* 3-5 2-4 0-1 5-0 2-1 4-3 5-2, in the order 0 3 2 1 5 4. */
+    static const uint8_t tangled[] = {
+        0x44, 0, 1, 6, 0x4C, 0, 14, 3, 5, 2, 4, 0, 1, 5, 0, 2, 1, 4, 3, 5, 2,
+        0x52, 0, 6, 0, 3, 2, 1, 5, 4,
+    };
+    /* 0-1, 0-5, 1-2, 2-4, 2-5, 3-4, 3-5. */
+    static const uint32_t due[] = {4, 2, 0, 3, 1, 2, 2};
+    rl_layout l = rl_empty();
+    HOLDS(rl_read_chart(&l, tangled, sizeof tangled) == RL_ACCEPTED && l.count == 7);
+    l.count = 77;
+    rl_layout before = l;
+    counts_into(&l, due, sizeof due / sizeof *due);
+    HOLDS(same(&l, &before));
+    l = rl_empty();
+    counts_into(&l, due, 0);
+    HOLDS(rl_add_vertex(&l).refusal == RL_ACCEPTED);
+    counts_into(&l, due, 0);
+}
+
+/* All edges of 64 vertices: the chord between two places with k others on its one
+ * side is crossed by all that join these and the 62 - k on the other. */
+static void edge_crossings_of_all_edges(void)
+{
+    rl_layout l = complete(RL_PLACES);
+    uint32_t due[RL_MOST_EDGES];
+    size_t edges = 0;
+    for (uint32_t low = 0; low < RL_PLACES; low++)
+        for (uint32_t high = low + 1; high < RL_PLACES; high++) {
+            uint32_t between = high - low - 1;
+            due[edges++] = between * (RL_PLACES - 2 - between);
+        }
+    HOLDS(edges == RL_MOST_EDGES);
+    counts_into(&l, due, edges);
+}
+
+/* Is the sum of all edges' crossings twice the count? */
+static bool sums_to_twice_the_count(const rl_layout *l)
+{
+    uint32_t table[RL_MOST_EDGES];
+    rl_edges_counted counted = rl_edge_crossings(l, table, RL_MOST_EDGES);
+    uint32_t sum = 0;
+    for (size_t i = 0; i < counted.edges; i++)
+        sum += table[i];
+    return counted.refusal == RL_ACCEPTED && sum == 2 * l->count;
+}
+
+/* After each call of many, with up to 24 vertices and one edge in three. */
+static void sums_of_edge_crossings(void)
+{
+    rl_layout l = rl_empty();
+    for (size_t v = 0; v < 24; v++) {
+        HOLDS(rl_add_vertex(&l).vertex == v);
+        for (size_t w = v % 3; w < v; w += 3) {
+            HOLDS(rl_add_edge(&l, w, v) == RL_ACCEPTED);
+            HOLDS(sums_to_twice_the_count(&l));
+        }
+    }
+    HOLDS(l.count > 0);
+    for (size_t v = 0; v < l.n; v++) {
+        HOLDS(rl_sift(&l, v).refusal == RL_ACCEPTED);
+        HOLDS(sums_to_twice_the_count(&l));
+    }
+}
+
 /* Fields of any content: refused, and left. */
 static void invalid(void)
 {
@@ -317,7 +405,9 @@ static void invalid(void)
     memset(&l, 0xFF, sizeof l);
     rl_layout before = l;
     uint8_t buffer[RL_PLACES];
+    uint32_t table[RL_PLACES];
     memset(buffer, 77, sizeof buffer);
+    memset(table, 77, sizeof table);
     HOLDS(!rl_is_valid(&l));
     rl_vertex added = rl_add_vertex(&l);
     HOLDS(added.refusal == RL_INVALID_LAYOUT && added.vertex == 0);
@@ -344,6 +434,10 @@ static void invalid(void)
     HOLDS(written.refusal == RL_INVALID_LAYOUT && written.length == 0);
     HOLDS(rl_export_graph6(&l, buffer, 0).refusal == RL_INVALID_LAYOUT);
     HOLDS(holds_only(buffer, sizeof buffer, 77));
+    rl_edges_counted edges = rl_edge_crossings(&l, table, RL_PLACES);
+    HOLDS(edges.refusal == RL_INVALID_LAYOUT && edges.edges == 0);
+    HOLDS(rl_edge_crossings(&l, table, 0).refusal == RL_INVALID_LAYOUT);
+    HOLDS(holds_only((const uint8_t *)table, sizeof table, 77));
     rl_crossing crossing = rl_first_crossing(&l);
     HOLDS(crossing.refusal == RL_INVALID_LAYOUT && !crossing.found);
     HOLDS(crossing.first.low == 0 && crossing.first.high == 0);
@@ -440,6 +534,9 @@ int main(void)
     exports();
     writes_the_longest();
     exports_the_largest();
+    edge_crossings();
+    edge_crossings_of_all_edges();
+    sums_of_edge_crossings();
     invalid();
     listing();
     lists();

@@ -17,6 +17,7 @@ STRUCTS = {
     "rl_counted": rostulanda._Counted,
     "rl_crossing": rostulanda._Crossing,
     "rl_written": rostulanda._Written,
+    "rl_edges_counted": rostulanda._EdgesCounted,
     "rl_played": rostulanda._Played,
 }
 

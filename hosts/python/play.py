@@ -5,6 +5,7 @@ Prints the answer lines. Both formats are in tests/README.md.
 
 import struct
 import sys
+from array import array
 from typing import Callable, Dict, Iterator, List, Optional
 
 import rostulanda
@@ -13,9 +14,11 @@ from rostulanda import PLACES, Layout
 #: Bytes in a record; a chart or graph6 is padded to a multiple of it.
 RECORD = 32
 
-#: The longest buffers that a list can lend: for an order, and for a chart or graph6.
+#: The longest buffers that a list can lend: for an order, and for a chart or graph6;
+#: and the longest table, for the crossings of every edge.
 LONGEST_ORDER = 255
 LONGEST_WRITTEN = 8192
+LONGEST_TABLE = 2100
 
 
 class CallsEnd(Exception):
@@ -65,6 +68,12 @@ def written(name: str, write: Callable[[bytearray], int], length: int, fill: int
     return f"{told} buffer{numbers(list(buffer))}"
 
 
+def edge_crossings(layout: Layout, length: int, fill: int) -> str:
+    table = array("I", [fill % 2**32]) * min(length, LONGEST_TABLE)
+    told = answered("perlink", " 0", lambda: f" {layout.write_edge_crossings(table)}")
+    return f"{told} table{numbers(list(table))}"
+
+
 #: What each op but the starts plays, with the numbers a and b.
 OPS: Dict[int, Callable[[Layout, int, int], str]] = {
     16: lambda l, a, b: answered("add", " 0", lambda: f" {l.add_vertex()}"),
@@ -80,6 +89,7 @@ OPS: Dict[int, Callable[[Layout, int, int], str]] = {
     26: lambda l, a, b: answered("pair", " refused", lambda: first_crossing(l)),
     27: lambda l, a, b: written("write", l.write_chart, a, b),
     29: lambda l, a, b: written("export", l.export_graph6, a, b),
+    30: edge_crossings,
 }
 
 

@@ -20,9 +20,10 @@ import ctypes
 import enum
 import operator
 import os
+from array import array
 from ctypes import c_bool, c_char_p, c_size_t, c_uint8, c_uint32, c_uint64
 from pathlib import Path
-from typing import Any, Callable, Dict, Hashable, Iterable, List, NamedTuple, Optional, Sequence, Tuple
+from typing import Any, Callable, Dict, Hashable, Iterable, List, NamedTuple, Optional, Sequence, Tuple, TypeVar
 
 #: The most vertices, and the places of an order.
 PLACES = 64
@@ -32,6 +33,9 @@ WRITTEN_CHART_BYTES = 4106
 
 #: The most bytes that a graph6 has.
 GRAPH6_BYTES = 340
+
+#: The most edges.
+MOST_EDGES = 2016
 
 #: The least buffer that a listing needs.
 LISTING_BYTES = 1024
@@ -43,6 +47,9 @@ ANSWER_NUMBERS = 5
 LIMIT = 50
 
 Edge = Tuple[int, int]
+
+#: A buffer or a table.
+_Lent = TypeVar("_Lent", bytearray, "array[int]")
 
 
 class Refusal(enum.IntEnum):
@@ -68,6 +75,7 @@ class Refusal(enum.IntEnum):
     GRAPH6_SIZE = 20
     GRAPH6_DATA = 21
     GRAPH6_PADDING = 22
+    TABLE_TOO_SHORT = 23
 
 
 #: The question that each refusal answers "no".
@@ -92,6 +100,7 @@ QUESTIONS: Dict[int, str] = {
     Refusal.GRAPH6_SIZE: "does the graph6 start with a size from 0 to 64, in its shortest form?",
     Refusal.GRAPH6_DATA: "has the graph6 as many bytes as its size asks for, each from 63 to 126?",
     Refusal.GRAPH6_PADDING: "are the padding bits of the graph6 all 0?",
+    Refusal.TABLE_TOO_SHORT: "has the table an entry for each edge?",
 }
 
 
@@ -166,6 +175,10 @@ class _Written(ctypes.Structure):
     _fields_ = [("refusal", c_uint8), ("length", c_size_t)]
 
 
+class _EdgesCounted(ctypes.Structure):
+    _fields_ = [("refusal", c_uint8), ("edges", c_size_t)]
+
+
 class _Played(ctypes.Structure):
     _fields_ = [("refusal", c_uint8), ("layout", Fields), ("calls", c_size_t)]
 
@@ -188,6 +201,7 @@ _FUNCTIONS: Dict[str, Tuple[Any, List[Any]]] = {
     "rl_first_crossing": (_Crossing, [ctypes.POINTER(Fields)]),
     "rl_write_chart": (_Written, [ctypes.POINTER(Fields), ctypes.POINTER(c_uint8), c_size_t]),
     "rl_export_graph6": (_Written, [ctypes.POINTER(Fields), ctypes.POINTER(c_uint8), c_size_t]),
+    "rl_edge_crossings": (_EdgesCounted, [ctypes.POINTER(Fields), ctypes.POINTER(c_uint32), c_size_t]),
     "rl_is_valid": (c_bool, [ctypes.POINTER(Fields)]),
     "rl_list_chart": (c_size_t, [c_char_p, c_size_t, ctypes.POINTER(c_uint8), c_size_t]),
     "rl_play": (
@@ -495,16 +509,21 @@ class Layout:
         _accept(self._write(_library.rl_order, buffer))
 
     def _write(self, call: Callable[..., Any], buffer: bytearray) -> Any:
-        """What a call answers that writes to a lent buffer.
+        """What a call answers that writes to a lent buffer."""
+        if not isinstance(buffer, bytearray):
+            # Another kind of buffer might be part of the layout itself.
+            raise TypeError("the buffer is to be a bytearray")
+        return self._lend(call, buffer, c_uint8)
+
+    def _lend(self, call: Callable[..., Any], held: _Lent, entry: Any) -> Any:
+        """What a call answers that is lent a buffer or table of such entries.
 
         It is looked at when nothing holds the buffer any more: a traceback that
         did would keep the buffer from changing its size.
         """
-        if not isinstance(buffer, bytearray):
-            # Another kind of buffer might be part of the layout itself.
-            raise TypeError("the buffer is to be a bytearray")
-        lent = (c_uint8 * len(buffer)).from_buffer(buffer)
-        return call(self.fields, lent, len(buffer))
+        # The buffer of no entries may be at any address; a new one is aligned.
+        lent = (entry * len(held)).from_buffer(held) if held else (entry * 0)()
+        return call(self.fields, lent, len(held))
 
     def first_crossing(self) -> Optional[Tuple[Edge, Edge]]:
         """The first two edges that cross (document 01: shown crossing pair), or None.
@@ -524,7 +543,7 @@ class Layout:
         The carried count is not in it: read again, it gives this layout with its
         true crossings.
         """
-        return _written(self.write_chart, WRITTEN_CHART_BYTES)
+        return bytes(_written(self.write_chart, bytearray(WRITTEN_CHART_BYTES)))
 
     def write_chart(self, buffer: bytearray) -> int:
         """Writes the chart to the start of the buffer; the bytes beyond keep what they hold.
@@ -538,7 +557,7 @@ class Layout:
 
         Neither the order nor the carried count is in it.
         """
-        return _written(self.export_graph6, GRAPH6_BYTES)
+        return bytes(_written(self.export_graph6, bytearray(GRAPH6_BYTES)))
 
     def export_graph6(self, buffer: bytearray) -> int:
         """Writes the graph6 to the start of the buffer; the bytes beyond keep what they hold.
@@ -552,6 +571,27 @@ class Layout:
         answer = self._write(call, buffer)
         _accept(answer.refusal)
         return answer.length
+
+    def edge_crossings(self) -> List[Tuple[Edge, int]]:
+        """The edges, each with the number of crossings that it takes part in (document 02, Note 7).
+
+        Edges are lower end first, sorted by lower, then higher end. The carried
+        count is not looked at: the numbers' sum is twice the crossings.
+        """
+        numbers = _written(self.write_edge_crossings, array("I", [0]) * MOST_EDGES)
+        return list(zip(self.edges(), numbers))
+
+    def write_edge_crossings(self, table: "array[int]") -> int:
+        """Writes each edge's number of crossings to the start of a table, an array("I").
+
+        The entries beyond keep what they hold. Gives how many edges there are, at
+        most MOST_EDGES.
+        """
+        if not isinstance(table, array) or table.typecode != "I":
+            raise TypeError('the table is to be an array("I")')
+        answer = self._lend(_library.rl_edge_crossings, table, c_uint32)
+        _accept(answer.refusal)
+        return answer.edges
 
     def is_valid(self) -> bool:
         """Whether the layout is valid (document 01: whole)."""
@@ -572,11 +612,10 @@ class Layout:
         return Row(len(order), len(self.edges()), before, self.count(), run.rounds, run.converged, order)
 
 
-def _written(write: Callable[[bytearray], int], most: int) -> bytes:
-    """What is written to a buffer of the most bytes that it can have."""
-    buffer = bytearray(most)
-    length = write(buffer)
-    return bytes(buffer[:length])
+def _written(write: Callable[[_Lent], int], room: _Lent) -> _Lent:
+    """What is written to the start of a buffer or table that has room for it."""
+    length = write(room)
+    return room[:length]
 
 
 def _pair(edge: Any) -> Tuple[Any, Any]:

@@ -4,6 +4,8 @@ import itertools
 import pathlib
 import random
 import unittest
+from array import array
+from collections import Counter
 
 import rostulanda
 from rostulanda import Layout, Refusal, Refused
@@ -21,13 +23,15 @@ CHART = pathlib.Path(__file__).resolve().parents[2].joinpath("charts", "first.ch
 GRAPH6 = bytes([4 + 63, 0b010010 + 63])
 
 
-def crossings(order, edges):
+def crossing_pairs(order, edges):
     """The pairs of edges that cross, from the definition."""
     place = {v: i for i, v in enumerate(order)}
-    spans = [sorted((place[a], place[b])) for a, b in edges]
-    return sum(
-        a < c < b < d or c < a < d < b for (a, b), (c, d) in itertools.combinations(spans, 2)
-    )
+    spans = [(*sorted((place[a], place[b])), (a, b)) for a, b in edges]
+    return [
+        (one, other)
+        for (a, b, one), (c, d, other) in itertools.combinations(spans, 2)
+        if a < c < b < d or c < a < d < b
+    ]
 
 
 class LayoutTest(unittest.TestCase):
@@ -163,13 +167,42 @@ class LayoutTest(unittest.TestCase):
 
     def test_a_refused_call_lets_go_of_its_buffer(self):
         layout = Layout.from_chart(CHART)
-        for write in (layout.write_order, layout.write_chart, layout.export_graph6):
-            short = bytearray(1)
+        for write, short in (
+            (layout.write_order, bytearray(1)),
+            (layout.write_chart, bytearray(1)),
+            (layout.export_graph6, bytearray(1)),
+            (layout.write_edge_crossings, array("I", [0])),
+        ):
             try:
                 write(short)
             except Refused:
                 short.append(77)
             self.assertEqual(len(short), 2)
+
+    def test_the_crossings_of_every_edge(self):
+        edges = [(3, 5), (2, 4), (0, 1), (5, 0), (2, 1), (4, 3), (5, 2)]
+        layout = Layout.from_edges(edges, order=[0, 3, 2, 1, 5, 4])
+        self.assertEqual(layout.count(), 7)
+        layout.fields.count = 77
+        due = {(0, 1): 4, (0, 5): 2, (1, 2): 0, (2, 4): 3, (2, 5): 1, (3, 4): 2, (3, 5): 2}
+        self.assertEqual(layout.edge_crossings(), list(due.items()))
+        for n in (0, 1, 64):
+            self.assertEqual(Layout.from_edges([], n=n).edge_crossings(), [])
+
+    def test_the_crossings_of_every_edge_go_into_a_lent_table(self):
+        layout = Layout.from_chart(CHART)
+        for beyond in ([], [77]):
+            table = array("I", [77, 77] + beyond)
+            self.assertEqual(layout.write_edge_crossings(table), 2)
+            self.assertEqual(table, array("I", [1, 1] + beyond))
+        for length in (0, 1):
+            short = array("I", [77] * length)
+            self.refuses(Refusal.TABLE_TOO_SHORT, layout.write_edge_crossings, short)
+            self.assertEqual(short, array("I", [77] * length))
+        self.assertEqual(Layout().write_edge_crossings(array("I")), 0)
+        for other in (array("Q", [0, 0]), bytearray(8), memoryview(layout.fields.order)):
+            with self.assertRaises(TypeError):
+                layout.write_edge_crossings(other)
 
     def test_an_invalid_layout_is_refused_and_left(self):
         layout = Layout.from_chart(CHART)
@@ -185,12 +218,14 @@ class LayoutTest(unittest.TestCase):
             layout.first_crossing,
             layout.chart,
             layout.graph6,
+            layout.edge_crossings,
             layout.row,
         ):
             self.refuses(Refusal.INVALID_LAYOUT, call)
         self.refuses(Refusal.INVALID_LAYOUT, layout.sift, 0)
         self.refuses(Refusal.INVALID_LAYOUT, layout.write_chart, bytearray())
         self.refuses(Refusal.INVALID_LAYOUT, layout.export_graph6, bytearray())
+        self.refuses(Refusal.INVALID_LAYOUT, layout.write_edge_crossings, array("I"))
         self.assertEqual(layout, before)
 
     def test_a_copy_is_another_layout(self):
@@ -263,7 +298,10 @@ class FromEdgesTest(unittest.TestCase):
             order = chance.sample(range(n), n)
             layout = Layout.from_edges(edges, n=n, order=order)
             self.assertEqual(layout.edges(), edges)
-            self.assertEqual(layout.count(), crossings(order, edges))
+            pairs = crossing_pairs(order, edges)
+            self.assertEqual(layout.count(), len(pairs))
+            met = Counter(edge for pair in pairs for edge in pair)
+            self.assertEqual(layout.edge_crossings(), [(edge, met[edge]) for edge in edges])
             self.assertEqual(layout.chart(), rostulanda._chart(n, edges, order))
 
     def test_the_most_edges(self):
@@ -275,6 +313,12 @@ class FromEdgesTest(unittest.TestCase):
         graph6 = layout.graph6()
         self.assertEqual(len(graph6), rostulanda.GRAPH6_BYTES)
         self.assertEqual(Layout.from_graph6(graph6), layout)
+        # Each vertex on one side of a chord is joined to all on the other.
+        between = [(a, b, b - a - 1) for a, b in itertools.combinations(range(64), 2)]
+        due = [((a, b), k * (62 - k)) for a, b, k in between]
+        self.assertEqual(layout.edge_crossings(), due)
+        self.assertEqual(len(due), rostulanda.MOST_EDGES)
+        self.assertEqual(sum(number for _, number in due), 2 * layout.count())
 
 
 class GraphTest(unittest.TestCase):
@@ -310,7 +354,7 @@ class GraphTest(unittest.TestCase):
             undirected = graph.to_undirected()
             self.assertEqual(sorted(row.order), sorted(graph))
             self.assertEqual(row.edges, undirected.number_of_edges())
-            self.assertEqual(row.after, crossings(row.order, undirected.edges()))
+            self.assertEqual(row.after, len(crossing_pairs(row.order, undirected.edges())))
             self.assertTrue(row.converged)
 
     @unittest.skipIf(networkx is None, "networkx is not installed")

@@ -4,7 +4,9 @@
 use std::fmt::Write;
 use std::mem::{offset_of, size_of};
 
-use crate::ffi::{Convergence, Counted, Crossing, Played, Round, Sifted, Tally, Vertex, Written};
+use crate::ffi::{
+    Convergence, Counted, Crossing, EdgesCounted, Played, Round, Sifted, Tally, Vertex, Written,
+};
 use crate::refusal::REFUSALS;
 use crate::{Edge, Fields};
 
@@ -32,6 +34,7 @@ pub fn text() -> String {
     lines_of!(lines, "rl_counted", Counted, refusal count);
     lines_of!(lines, "rl_crossing", Crossing, refusal found first second);
     lines_of!(lines, "rl_written", Written, refusal length);
+    lines_of!(lines, "rl_edges_counted", EdgesCounted, refusal edges);
     lines_of!(lines, "rl_played", Played, refusal layout calls);
     for refusal in REFUSALS {
         let name = c_name(&format!("{refusal:?}"));

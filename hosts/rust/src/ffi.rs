@@ -16,6 +16,9 @@ pub const WRITTEN_CHART_BYTES: usize = 4106;
 /// The most bytes that a graph6 has.
 pub const GRAPH6_BYTES: usize = 340;
 
+/// The most edges.
+pub const MOST_EDGES: usize = 2016;
+
 /// The numbers of each answer of a list of calls: the refusal code, and four
 /// more.
 pub const ANSWER_NUMBERS: usize = 5;
@@ -77,6 +80,12 @@ pub struct Written {
 }
 
 #[repr(C)]
+pub struct EdgesCounted {
+    pub refusal: u8,
+    pub edges: usize,
+}
+
+#[repr(C)]
 pub struct Played {
     pub refusal: u8,
     pub layout: Fields,
@@ -102,6 +111,7 @@ unsafe extern "C" {
     unsafe fn rl_order(l: &Fields, buffer: *mut u8, length: usize) -> u8;
     unsafe fn rl_write_chart(l: &Fields, buffer: *mut u8, length: usize) -> Written;
     unsafe fn rl_export_graph6(l: &Fields, buffer: *mut u8, length: usize) -> Written;
+    unsafe fn rl_edge_crossings(l: &Fields, table: *mut u32, length: usize) -> EdgesCounted;
     unsafe fn rl_list_chart(
         chart: *const u8,
         length: usize,
@@ -142,6 +152,11 @@ pub fn write_chart(l: &Fields, buffer: &mut [u8]) -> Written {
 pub fn export_graph6(l: &Fields, buffer: &mut [u8]) -> Written {
     // SAFETY: pointer and length are those of a slice.
     unsafe { rl_export_graph6(l, buffer.as_mut_ptr(), buffer.len()) }
+}
+
+pub fn edge_crossings(l: &Fields, table: &mut [u32]) -> EdgesCounted {
+    // SAFETY: pointer and length are those of a slice.
+    unsafe { rl_edge_crossings(l, table.as_mut_ptr(), table.len()) }
 }
 
 pub fn list_chart(chart: &[u8], out: &mut [u8]) -> usize {

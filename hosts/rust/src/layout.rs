@@ -1,6 +1,6 @@
 //! A layout, held by the host and lent to each call.
 
-use crate::ffi::{self, GRAPH6_BYTES, PLACES, WRITTEN_CHART_BYTES};
+use crate::ffi::{self, GRAPH6_BYTES, MOST_EDGES, PLACES, WRITTEN_CHART_BYTES};
 use crate::refusal::{accepted, Refusal};
 use crate::row::Row;
 
@@ -250,6 +250,22 @@ impl Layout {
         accepted(answer.refusal, answer.length)
     }
 
+    /// The edges, sorted by lower, then higher end, each with the number of
+    /// crossings that it takes part in (document 02, Note 7). The carried count is
+    /// not looked at: the numbers' sum is twice the crossings.
+    pub fn edge_crossings(&self) -> Result<Vec<(Edge, u32)>, Refusal> {
+        let numbers = written(MOST_EDGES, |table| self.write_edge_crossings(table))?;
+        Ok(self.edges().into_iter().zip(numbers).collect())
+    }
+
+    /// Writes each edge's number of crossings to the start of the table, and gives
+    /// how many edges there are, at most [`MOST_EDGES`]; the entries beyond keep
+    /// what they hold.
+    pub fn write_edge_crossings(&self, table: &mut [u32]) -> Result<usize, Refusal> {
+        let answer = ffi::edge_crossings(&self.fields, table);
+        accepted(answer.refusal, answer.edges)
+    }
+
     /// Whether the layout is valid (document 01: whole).
     pub fn is_valid(&self) -> bool {
         ffi::rl_is_valid(&self.fields)
@@ -291,12 +307,12 @@ impl Layout {
     }
 }
 
-/// What is written to a buffer of the most bytes that it can have.
-fn written(
+/// What is written to a buffer of the most elements that it can have.
+fn written<T: Clone + Default>(
     most: usize,
-    write: impl FnOnce(&mut [u8]) -> Result<usize, Refusal>,
-) -> Result<Vec<u8>, Refusal> {
-    let mut buffer = vec![0; most];
+    write: impl FnOnce(&mut [T]) -> Result<usize, Refusal>,
+) -> Result<Vec<T>, Refusal> {
+    let mut buffer = vec![T::default(); most];
     let length = write(&mut buffer)?;
     buffer.truncate(length);
     Ok(buffer)
@@ -304,6 +320,8 @@ fn written(
 
 #[cfg(test)]
 mod tests {
+    use std::fmt::Debug;
+
     use super::*;
     use crate::{FIRST_CHART, FIRST_GRAPH6};
 
@@ -449,27 +467,80 @@ mod tests {
     }
 
     /// A call writes what is due to the start of a buffer that is long enough,
-    /// and nothing to a shorter one.
-    fn goes_into_a_buffer(write: fn(&Layout, &mut [u8]) -> Result<usize, Refusal>, due: &[u8]) {
+    /// and nothing to a shorter one, which is refused.
+    fn goes_into_a_buffer<T: Clone + PartialEq + Debug + From<u8>>(
+        write: fn(&Layout, &mut [T]) -> Result<usize, Refusal>,
+        due: &[T],
+        refusal: Refusal,
+    ) {
         let length = due.len();
+        let filled = |length| vec![T::from(77); length];
         for short in [0, length - 1] {
-            let mut buffer = vec![77; short];
-            let refused = write(&first(), &mut buffer);
-            assert_eq!(refused, Err(Refusal::WriteBufferTooShort));
-            assert_eq!(buffer, vec![77; short]);
+            let mut buffer = filled(short);
+            assert_eq!(write(&first(), &mut buffer), Err(refusal));
+            assert_eq!(buffer, filled(short));
         }
         for more in [0, 1] {
-            let mut buffer = vec![77; length + more];
+            let mut buffer = filled(length + more);
             assert_eq!(write(&first(), &mut buffer), Ok(length));
             assert_eq!(buffer[..length], *due);
-            assert_eq!(buffer[length..], vec![77; more]);
+            assert_eq!(buffer[length..], filled(more));
         }
     }
 
     #[test]
-    fn a_chart_or_graph6_goes_into_a_lent_buffer() {
-        goes_into_a_buffer(Layout::write_chart, FIRST_CHART);
-        goes_into_a_buffer(Layout::export_graph6, FIRST_GRAPH6);
+    fn what_is_written_goes_into_a_lent_buffer_or_table() {
+        let short = Refusal::WriteBufferTooShort;
+        goes_into_a_buffer(Layout::write_chart, FIRST_CHART, short);
+        goes_into_a_buffer(Layout::export_graph6, FIRST_GRAPH6, short);
+        let short = Refusal::TableTooShort;
+        goes_into_a_buffer(Layout::write_edge_crossings, &[1, 1], short);
+    }
+
+    #[test]
+    fn the_crossings_of_every_edge() {
+        let edges = [(3, 5), (2, 4), (0, 1), (5, 0), (2, 1), (4, 3), (5, 2)];
+        let mut layout = Layout::from_edges(6, &edges).unwrap();
+        for (a, b) in [(3, 0), (2, 3), (5, 1)] {
+            layout.move_after(a, b).unwrap();
+        }
+        assert_eq!(layout.order(), Ok(vec![0, 3, 2, 1, 5, 4]));
+        assert_eq!(layout.count(), Ok(7));
+        layout.fields_mut().count = 77;
+        let due = [
+            (0, 1, 4),
+            (0, 5, 2),
+            (1, 2, 0),
+            (2, 4, 3),
+            (2, 5, 1),
+            (3, 4, 2),
+            (3, 5, 2),
+        ];
+        let due = due.map(|(low, high, number)| (Edge { low, high }, number));
+        assert_eq!(layout.edge_crossings().as_deref(), Ok(due.as_slice()));
+    }
+
+    #[test]
+    fn no_edges_have_no_crossings() {
+        for n in [0, 1, PLACES] {
+            let layout = Layout::from_edges(n, &[]).unwrap();
+            assert_eq!(layout.edge_crossings(), Ok(vec![]));
+            assert_eq!(layout.write_edge_crossings(&mut []), Ok(0));
+        }
+    }
+
+    #[test]
+    fn the_crossings_of_the_most_edges() {
+        let layout = complete(PLACES);
+        let crossings = layout.edge_crossings().unwrap();
+        assert_eq!(crossings.len(), MOST_EDGES);
+        for &(edge, number) in &crossings {
+            // Each of so many on one side of the chord is joined to all on the other.
+            let between = edge.high - edge.low - 1;
+            assert_eq!(number as usize, between * (PLACES - 2 - between));
+        }
+        let sum: u32 = crossings.iter().map(|&(_, number)| number).sum();
+        assert_eq!(Ok(sum), layout.count().map(|count| 2 * count));
     }
 
     #[test]
@@ -550,6 +621,8 @@ mod tests {
         assert_eq!(layout.write_chart(&mut []).map(drop), refused);
         assert_eq!(layout.graph6().map(drop), refused);
         assert_eq!(layout.export_graph6(&mut []).map(drop), refused);
+        assert_eq!(layout.edge_crossings().map(drop), refused);
+        assert_eq!(layout.write_edge_crossings(&mut []).map(drop), refused);
         assert_eq!(layout.edges().len(), 64 * 63 / 2);
         assert_eq!(layout, before);
     }

@@ -27,7 +27,7 @@ mod list;
 mod refusal;
 mod row;
 
-pub use ffi::{GRAPH6_BYTES, PLACES, WRITTEN_CHART_BYTES};
+pub use ffi::{GRAPH6_BYTES, MOST_EDGES, PLACES, WRITTEN_CHART_BYTES};
 pub use layout::{Convergence, Edge, Fields, Layout, Round, Sifted};
 pub use list::{play, Answer, Call, Played, Start};
 pub use refusal::Refusal;

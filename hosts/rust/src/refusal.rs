@@ -7,7 +7,7 @@ use std::fmt;
 macro_rules! refusals {
     ($($name:ident $code:literal $question:literal)*) => {
         /// Why a call was refused: the first question that was answered "no".
-        /// The layout and every lent buffer are then as they were.
+        /// The layout and every lent buffer or table are then as they were.
         #[derive(Clone, Copy, Debug, PartialEq, Eq, Hash)]
         pub enum Refusal {
             $(#[doc = $question] $name,)*
@@ -67,6 +67,7 @@ refusals! {
     Graph6Size 20 "does the graph6 start with a size from 0 to 64, in its shortest form?"
     Graph6Data 21 "has the graph6 as many bytes as its size asks for, each from 63 to 126?"
     Graph6Padding 22 "are the padding bits of the graph6 all 0?"
+    TableTooShort 23 "has the table an entry for each edge?"
 }
 
 /// The value, unless the code says that the call was refused.

@@ -1,6 +1,7 @@
 //! Plays a list of calls from standard input through one lent layout and prints
 //! the answer lines. Both formats are in tests/README.md.
 
+use std::fmt::Display;
 use std::io::{self, Read, Write};
 
 use rostulanda::{Layout, Refusal, PLACES};
@@ -9,9 +10,10 @@ use rostulanda::{Layout, Refusal, PLACES};
 const RECORD: usize = 32;
 
 /// The longest buffers that a list can lend: for an order, and for a chart or
-/// graph6.
+/// graph6; and the longest table, for the crossings of every edge.
 const LONGEST_ORDER: u64 = 255;
 const LONGEST_WRITTEN: u64 = 8192;
+const LONGEST_TABLE: u64 = 2100;
 
 /// A record: the op and its three numbers.
 type Record = [u64; 4];
@@ -111,7 +113,7 @@ fn play_record(layout: &mut Layout, record: Record, list: &mut &[u8]) -> Option<
         }
         24 => told("count", " 0", layout.count().map(|c| format!(" {c}"))),
         25 => {
-            let mut buffer = filled(record, LONGEST_ORDER);
+            let mut buffer = filled(a, LONGEST_ORDER, b as u8);
             let written = layout.write_order(&mut buffer).map(none);
             told("order", "", written) + &buffer_text(&buffer)
         }
@@ -119,6 +121,7 @@ fn play_record(layout: &mut Layout, record: Record, list: &mut &[u8]) -> Option<
         27 => write(layout, "write", Layout::write_chart, record),
         28 => start(layout, "import", Layout::import_graph6, list, a)?,
         29 => write(layout, "export", Layout::export_graph6, record),
+        30 => edge_crossings(layout, record),
         _ => return None,
     })
 }
@@ -139,15 +142,21 @@ fn start(
 }
 
 /// Writes a chart or graph6.
-fn write(layout: &Layout, name: &str, write: Writing, record: Record) -> String {
-    let mut buffer = filled(record, LONGEST_WRITTEN);
+fn write(layout: &Layout, name: &str, write: Writing, [_, a, b, _]: Record) -> String {
+    let mut buffer = filled(a, LONGEST_WRITTEN, b as u8);
     let written = write(layout, &mut buffer);
     told(name, " 0", written.map(|l| format!(" {l}"))) + &buffer_text(&buffer)
 }
 
-/// The buffer that a record lends.
-fn filled([_, a, b, _]: Record, longest: u64) -> Vec<u8> {
-    vec![b as u8; a.min(longest) as usize]
+fn edge_crossings(layout: &Layout, [_, a, b, _]: Record) -> String {
+    let mut table = filled(a, LONGEST_TABLE, b as u32);
+    let edges = layout.write_edge_crossings(&mut table);
+    told("perlink", " 0", edges.map(|e| format!(" {e}"))) + " table" + &numbers(&table)
+}
+
+/// A buffer or table to be lent, of at most so many elements.
+fn filled<T: Clone>(length: u64, longest: u64, fill: T) -> Vec<T> {
+    vec![fill; length.min(longest) as usize]
 }
 
 fn sift_text(layout: &mut Layout, u: usize) -> Result<String, Refusal> {
@@ -197,8 +206,8 @@ fn buffer_text(buffer: &[u8]) -> String {
 }
 
 /// Each number with a space before it.
-fn numbers(bytes: &[u8]) -> String {
-    bytes.iter().map(|byte| format!(" {byte}")).collect()
+fn numbers<T: Display>(values: &[T]) -> String {
+    values.iter().map(|value| format!(" {value}")).collect()
 }
 
 /// The layout, with the adjacency words that differ from those before.
