@@ -133,4 +133,7 @@ module _ (l : Layout) (t : T (valid l)) {start ends : List ℕ} {end : ℕ} (siz
 
   pub search-shown : {s : Shown} → s ≡ found (firstPair (take (l .n) (l .order)) (listed ends (end / 2))) → s ≡ firstCrossingOf l
   unfolding vertexOrder
-  search-shown e = e ∙ ap (λ (es : List Edge). found (firstPair (vertexOrder l) es)) (all-listed (l .n) (l .adjacency) (sound l t .small) size put) ∙ found-valid l t
+  search-shown e =
+      e
+      ∙ ap (λ (es : List Edge). found (firstPair (vertexOrder l) es)) (all-listed (l .n) (l .adjacency) (sound l t .small) size put)
+      ∙ found-valid l t

@@ -9,7 +9,7 @@ use lib.ListN.{length, take, length-append}
 use lib.Dec.{T}
 use Rattle.model.specs.declared.Layout.{Layout}
 use Rattle.model.specs.Layouts.{valid}
-use Rattle.model.specs.Writing.{writeOf, writtenBytes}
+use Rattle.model.specs.Writing.{bufferShort, writeOf, writtenBytes}
 use Rattle.model.specs.Graph6.{bytesFor, packed, sizePart, pairsByHigher, pairBits, graph6Of}
 use Rattle.laws.specs.Layouts.Validity.{sound}
 use Rattle.laws.specs.Buffers.Writing.{Written, written-whole}
@@ -97,7 +97,7 @@ module _ (n : ℕ) {size bits : ℕ} (p : size ≡ length (sizePart n)) (q : bit
   parts-few = omega (arith, p, q, data-most n, size-most n)
 
 -- where all checks have passed
-module _ {l : Layout} {buffer : List ℕ} {long code : ℕ} (a : Asked 19 graph6Of l buffer long code) (z : code ≡ 0) where
+module _ {l : Layout} {buffer : List ℕ} {long code : ℕ} (a : Asked bufferShort graph6Of l buffer long code) (z : code ≡ 0) where
   pub fits : long ≡ counted (l .n) → (l .n ≤ 64) × (counted (l .n) ≤ length buffer)
   fits e = (sound l (is-valid a z) .small, rw e at (room a z))
 

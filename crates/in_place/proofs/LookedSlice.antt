@@ -1,6 +1,6 @@
--- A function `f(l: &Layout, s: &mut [uW]) -> N` with the body `g(*l, s)`, over a call by value `g(l: Layout, s: &mut [uW]) -> N` with the contract that r ≡ F l
--- (the numbers of s, W bits each) and that the numbers are G l of what they were: so it is with f, at the layout lent. The callee is given the slice for good, with the token
--- of its lifetime, and hands the token back.
+-- A function `f(l: &Layout, s: &mut [uW]) -> N` with the body `g(*l, s)`, over a call by value `g(l: Layout, s: &mut [uW]) -> N`: slices of numbers of W bits.
+-- The call's contract is that r ≡ F l (the numbers of s) and that the numbers are G l of what they were; so it is with f, at the layout lent. The callee is
+-- given the slice for good, with the token of its lifetime, and hands the token back.
 use mathlib.Core.Path.{_≡_, refl}
 use Prim.Native.Nat.{ℕ}
 use mathlib.Core.List.{[], _∷_, List}
@@ -131,7 +131,8 @@ module _ (w : Width) {N : RattleType} (Re : Result N) (F : Layout → List ℕ �
 
     -- at exit: [the layout's token; the slice's token; res; the borrow; the last bytes; what is returned]
     abbrev held : N .Denot → Val → List ℕ → List (Item 𝓤)
-    held r v zs = ‵ (flft κ q) ∷ token ∷ ‵ (fres γ (L.the-row .coded .code h)) ∷ ‵ (lent κ h b o) ∷ ‵ (finally (UInt w) (s .name) zs) ∷ ‵ (N .own r (v ∷ [])) ∷ []
+    held r v zs =
+        ‵ (flft κ q) ∷ token ∷ ‵ (fres γ (L.the-row .coded .code h)) ∷ ‵ (lent κ h b o) ∷ ‵ (finally (UInt w) (s .name) zs) ∷ ‵ (N .own r (v ∷ [])) ∷ []
 
     exits : (r : N .Denot) (v : Val) (zs : List ℕ) → r ≡ F h (s .now) → zs ≡ G h (s .now) → length zs ≡ length (s .now) → ent 𝓤 (⋆ 𝓤 H A (held r v zs)) (Post v)
     exits r v zs e e′ l =
@@ -197,5 +198,6 @@ module _ (w : Width) {N : RattleType} (Re : Result N) (F : Layout → List ℕ �
         (λ κs. (shr-tells (named 0) (κs .0) L.the-row, (mut-slice-tells (named 1) (κs .1 .0) (UInt w), tt)))
         (λ κs qs bounds a _ are. via 𝓤 _ (fst∗ 𝓤 _ (emp 𝓤))
         (walk 𝓤 H A W (κs .0) (κs .1 .0) (qs .0) (qs .1 .0) (a .0 .ptr .0) (a .0 .ptr .1) (a .0 .name) (a .0 .now) (a .1 .0)
-        (𝓣 .C) (𝓣 .Λ) (fmOf 𝓤 H (W .laws) 𝓣) g known (mut-slice-lawful 𝓤 H A W (named 1) (κs .1 .0) (UInt w) .typed (a .1 .0) _ (are .1 .0) .0) (are .1 .0 .0 .1))));
+        (𝓣 .C) (𝓣 .Λ) (fmOf 𝓤 H (W .laws) 𝓣) g known
+        (mut-slice-lawful 𝓤 H A W (named 1) (κs .1 .0) (UInt w) .typed (a .1 .0) _ (are .1 .0) .0) (are .1 .0 .0 .1))));
   }

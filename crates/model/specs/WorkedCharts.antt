@@ -11,7 +11,7 @@ use Rattle.model.specs.Layouts.{vertexOrder, eachOnce, zeroFrom, symmetr
 use Rattle.model.specs.Checks.{refusal, byRefusal, checked, isValid, roomFor}
 use Rattle.model.specs.Charts.{fieldsIn, fieldsOf, bodyOf, bodyLength, startsWithField, firstField, chartSize, edgesIn, chartEdges, chartOrder}
 use Rattle.model.specs.Charts.{sameList, sameEdge, joins, wordIn, chartLayout}
-use Rattle.model.specs.Writing.{writeChecks, writeOf, writtenBytes}
+use Rattle.model.specs.Writing.{writeOf, writtenBytes}
 use Rattle.model.specs.WrittenCharts.{fieldBytes, edgeBytes, chartOf}
 
 unfoldable pub chartWithLinks : List ℕ → List ℕ
@@ -41,7 +41,7 @@ pub worked-writes : let first : List ℕ = 0 ∷ 2 ∷ 1 ∷ 3 ∷ [] in
     && writesInto l 20 0 (chartWithLinks first)
     && writesInto invalid 0 11 []
     && writesInto invalid 20 11 [])
-unfolding chartWithLinks writesLinks writesInto chartOf fieldBytes edgeBytes writeChecks writeOf writtenBytes chartLayout chartSize chartEdges chartOrder
+unfolding chartWithLinks writesLinks writesInto chartOf fieldBytes edgeBytes writeOf writtenBytes chartLayout chartSize chartEdges chartOrder
     bodyOf fieldsOf fieldsIn startsWithField bodyLength firstField edgesIn wordIn joins sameEdge sameList crossings crosses edges linked bit between
     alternate upto every any keep one sumOver sumPairs noRepeats occurrences place refusal byRefusal checked isValid roomFor valid eachOnce zeroFrom symmetric
     loopless bitsBelow vertexOrder flatMap xor

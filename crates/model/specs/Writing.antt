@@ -24,18 +24,18 @@ module _ (short : ℕ) (format : Layout → List ℕ) (l : Layout) (buffer : Lis
 
 -- ---- a layout written out
 
+-- "Refused: 19 when the lent buffer is shorter than the chart, asked after 11."; "Export to a short buffer gives 19."
+abbrev pub bufferShort : ℕ
+bufferShort = 19
+
 abbrev pub writeAnswer : ℕ → ℕ → LayoutWritten
 writeAnswer r length = record { refusal = r; length = length }
 
 module _ (format : Layout → List ℕ) (l : Layout) (buffer : List ℕ) where
-  -- "Refused: 19 when the lent buffer is shorter than the chart, asked after 11."; "Export to a short buffer gives 19."
-  unfoldable pub writeChecks : List Check
-  writeChecks = fillChecks 19 format l buffer
-
   -- "It answers the chart's length"; "it answers its length"
   unfoldable pub writeOf : LayoutWritten
-  writeOf = fillAnswer 19 format l buffer writeAnswer
+  writeOf = fillAnswer bufferShort format l buffer writeAnswer
 
   -- the buffer's bytes after the call: "buffer bytes beyond the chart keep their contents"; "keeps buffer bytes beyond it"
   unfoldable pub writtenBytes : List ℕ
-  writtenBytes = filled 19 format l buffer
+  writtenBytes = filled bufferShort format l buffer

@@ -11,7 +11,7 @@ use borrow.Author.Tests.{le-leb}
 use Rattle.model.specs.declared.Layout.{Layout}
 use Rattle.model.specs.Crossings.{edges}
 use Rattle.model.specs.Layouts.{vertexOrder, valid}
-use Rattle.model.specs.Writing.{writeOf, writtenBytes}
+use Rattle.model.specs.Writing.{bufferShort, writeOf, writtenBytes}
 use Rattle.model.specs.WrittenCharts.{chartOf}
 use Rattle.laws.specs.Layouts.Validity.{sound}
 use Rattle.laws.specs.Buffers.Writing.{Written, written-whole}
@@ -29,7 +29,7 @@ counted-is l t = rw (le-leb (l .n) 64 (sound l t .small)) (sym (chart-size l t))
 
 -- what the call has asked
 pub record ChartAsked (l : Layout) (buffer : List ℕ) (long code : ℕ) : Type 0 where
-  pub asked : Asked 19 chartOf l buffer long code
+  pub asked : Asked bufferShort chartOf l buffer long code
   pub measured : long ≡ counted (l .n) (l .adjacency)
 
 -- where all checks have passed

@@ -8,7 +8,7 @@ use lib.Dec.{T, leb}
 use Rattle.model.specs.declared.Layout.{Layout}
 use Rattle.model.specs.Layouts.{valid}
 use Rattle.model.specs.Checks.{Check, refusal, isValid, roomFor}
-use Rattle.model.specs.Writing.{fillChecks, fillAnswer, filled, writeAnswer, writeOf, writtenBytes}
+use Rattle.model.specs.Writing.{fillChecks, fillAnswer, filled, bufferShort, writeAnswer, writeOf, writtenBytes}
 use Rattle.laws.specs.Layouts.Refusals.{when-refused}
 use Rattle.laws.specs.Buffers.Formats.{fill-accepted, fill-answered, filled-whole}
 
@@ -61,7 +61,7 @@ module _ {short : ℕ} {format : Layout → List ℕ} {l : Layout} {buffer : Lis
 
 -- ---- a layout written out
 
-module _ {format : Layout → List ℕ} {l : Layout} {buffer : List ℕ} {long code : ℕ} (a : Asked 19 format l buffer long code) where
+module _ {format : Layout → List ℕ} {l : Layout} {buffer : List ℕ} {long code : ℕ} (a : Asked bufferShort format l buffer long code) where
   pub refused : (code ≡ 0 → ⊥) → (record { refusal = code; length = 0 } ≡ writeOf format l buffer) × (buffer ≡ writtenBytes format l buffer)
   unfolding writeOf writtenBytes
   refused d = fill-refused a writeAnswer d

@@ -6,6 +6,7 @@ use mathlib.Core.Bool.{Bool}
 use lib.ListN.{length as len}
 use lib.Dec.{lit<}
 use Rattle.model.specs.Checks.{refusal}
+use Rattle.model.specs.Writing.{bufferShort}
 use Rattle.model.specs.Graph6.{graph6Of}
 use Rattle.writing.specs.Answers.{asks, Asked, refused}
 use Rattle.exporter.specs.Parts.{counted, counted-is, parts-long, parts-few, fits, graph-written}
@@ -37,7 +38,7 @@ parts c = let known = c .before .before in parts-long _ (known .before .size-len
 
 asked : (c : tie.After-write-refusal)
     → let known = c .before .before in let s = start known .args in
-    Asked 19 graph6Of (s .l) (s .buffer .now) (known .before .size-length .result + known .data-length .result) (c .write-refusal .result)
+    Asked bufferShort graph6Of (s .l) (s .buffer .now) (known .before .size-length .result + known .data-length .result) (c .write-refusal .result)
 asked c =
     let known = c .before .before in
     let s = start known .args in
@@ -45,7 +46,7 @@ asked c =
     record {
       numbered = lit< tt;
       measured = λ t. parts c ∙ counted-is (s .l) t;
-      told = c .write-refusal .ensures ∙ ap (λ (b : Bool). refusal (asks 19 b long (len (s .buffer .now)))) (c .before .is-valid .ensures);
+      told = c .write-refusal .ensures ∙ ap (λ (b : Bool). refusal (asks bufferShort b long (len (s .buffer .now)))) (c .before .is-valid .ensures);
     }
 
 returns : tie.Need-returns

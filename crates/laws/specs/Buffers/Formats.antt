@@ -11,7 +11,7 @@ use Rattle.model.specs.declared.Layout.{Layout}
 use Rattle.model.specs.declared.LayoutWritten.{LayoutWritten}
 use Rattle.model.specs.Layouts.{valid}
 use Rattle.model.specs.Checks.{refusal, isValid, roomFor}
-use Rattle.model.specs.Writing.{fillChecks, fillAnswer, filled, writeAnswer, writeOf, writtenBytes}
+use Rattle.model.specs.Writing.{fillChecks, fillAnswer, filled, bufferShort, writeAnswer, writeOf, writtenBytes}
 use Rattle.laws.specs.Sums.Lists.{none, also}
 use Rattle.laws.specs.Layouts.Refusals.{passed, all-passed, valid-passed, when-accepted, checked-number}
 
@@ -43,24 +43,27 @@ module _ (short : ℕ) (format : Layout → List ℕ) (l : Layout) (buffer : Lis
 
 module _ (format : Layout → List ℕ) (l : Layout) (buffer : List ℕ) where
   -- the answer's number is that of the checks
-  number : writeOf format l buffer .refusal ≡ refusal (fillChecks 19 format l buffer)
+  number : writeOf format l buffer .refusal ≡ refusal (fillChecks bufferShort format l buffer)
   unfolding writeOf
-  number = checked-number (fillChecks 19 format l buffer) _ _ (λ (w : LayoutWritten). w .refusal) refl (λ r. refl)
+  number = checked-number (fillChecks bufferShort format l buffer) _ _ (λ (w : LayoutWritten). w .refusal) refl (λ r. refl)
 
   pub write-accepted : writeOf format l buffer .refusal ≡ 0 → T (valid l) × (length (format l) ≤ length buffer)
-  write-accepted e = fill-accepted 19 format l buffer (lit< tt) (sym number ∙ e)
+  write-accepted e = fill-accepted bufferShort format l buffer (lit< tt) (sym number ∙ e)
+
+  both : refusal (fillChecks bufferShort format l buffer) ≡ 0
+      → (writeOf format l buffer ≡ record { refusal = 0; length = length (format l) })
+      × (writtenBytes format l buffer ≡ format l ++ drop (length (format l)) buffer)
+  unfolding writeOf writtenBytes
+  both e = (fill-answered bufferShort format l buffer e writeAnswer, filled-whole bufferShort format l buffer e)
 
   -- as many bytes of the buffer as the call answers are what is written
   pub written-front : writeOf format l buffer .refusal ≡ 0 → take (writeOf format l buffer .length) (writtenBytes format l buffer) ≡ format l
-  unfolding writeOf writtenBytes
+  unfolding writtenBytes
   written-front e =
       let done = sym number ∙ e in
-      ap (λ (w : LayoutWritten). take (w .length) (writtenBytes format l buffer)) (fill-answered 19 format l buffer done writeAnswer) ∙ filled-front 19 format l buffer done
+      ap (λ (w : LayoutWritten). take (w .length) (writtenBytes format l buffer)) (both done .0) ∙ filled-front bufferShort format l buffer done
 
   pub write-accepts : T (valid l) → length (format l) ≤ length buffer
       → (writeOf format l buffer ≡ record { refusal = 0; length = length (format l) })
       × (writtenBytes format l buffer ≡ format l ++ drop (length (format l)) buffer)
-  unfolding writeOf writtenBytes
-  write-accepts t room =
-      let done = fill-accepts 19 format l buffer t room in
-      (fill-answered 19 format l buffer done writeAnswer, filled-whole 19 format l buffer done)
+  write-accepts t room = both (fill-accepts bufferShort format l buffer t room)

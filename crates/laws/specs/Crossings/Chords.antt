@@ -122,6 +122,11 @@ module _ {n : ℕ} {o : List ℕ} (perm : Permutation n o) (i : ℕ) where
       ∙ ap (λ (v : ℕ). inside o i k ++ (v ∷ [])) (getD-drop (suc i) o (k - suc i) 0 ∙ ap (at o) last)
 
   module _ (W : ℕ → ℕ → ℕ) where
+    -- a chord to the next place crosses none
+    pub chord-first : chordCrossings W o i (suc i) ≡ 0
+    unfolding chordCrossings joining sumOver
+    chord-first = rw inside-none
+
     -- the edges from between places i and k to before i or to place k and behind it: those that the chord crosses, and those that end at k
     pub chord-closed : (k : ℕ) → k < n
         → joining W (inside o i k) (take i o ++ drop k o) ≡ chordCrossings W o i k + sumOver (λ a. W a (at o k)) (inside o i k)

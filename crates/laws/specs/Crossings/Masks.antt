@@ -16,7 +16,8 @@ use Rattle.model.specs.Edits.{withBit, withoutBit}
 use Rattle.laws.specs.Sums.Indicators.{order, one-eq, one-ne}
 use Rattle.laws.specs.Sums.Ranges.{sum, sum-ext, sum-zero, sum-add, sum-at-right, sum-below, sum-above}
 use Rattle.laws.specs.Sums.Lists.{All, none, also, all-take, all-drop, all-places, sumOver-take, sumOver-drop}
-use Rattle.laws.specs.Orders.Permutations.{at, Permutation, at-lt, occurrences-nil, occurrences-cons, occurrences-append, occurrences-last, alone-before, alone-after, none-beyond, sum-before, sum-behind}
+use Rattle.laws.specs.Orders.Permutations.{at, Permutation, at-lt, occurrences-nil, occurrences-cons, occurrences-append, occurrences-last}
+use Rattle.laws.specs.Orders.Permutations.{alone-before, alone-after, none-beyond, sum-before, sum-behind}
 use Rattle.laws.specs.Sums.Pairs.{pairSum, pairSum-ext, Symmetric}
 use Rattle.laws.specs.Sums.Bits.{bit-lt, bit-first, bit-next, bit-beyond, maskedOnes, set-same, set-other, clear-same, clear-other}
 use Rattle.laws.specs.Crossings.Counting.{placed, crossingSum-counted}

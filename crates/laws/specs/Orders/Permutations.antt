@@ -204,7 +204,8 @@ module _ {n : ℕ} {o : List ℕ} (perm : Permutation n o) where
       ∙ sum-ext (k - suc i) (λ j. f (at (drop (suc i) o) j)) behind (λ j l. ap f (getD-drop (suc i) o j 0))
       ∙ sym
       (sum-above n i (λ j. one (ltb j k) * f (at o j)) (omega arith)
-      ∙ sum-ext (n - suc i) (λ j. one (ltb (suc i + j) k) * behind j) (λ j. one (ltb j (k - suc i)) * behind j) (λ j l. ap (λ (x : ℕ). x * behind j) (shifted j))
+      ∙ sum-ext (n - suc i) (λ j. one (ltb (suc i + j) k) * behind j) (λ j. one (ltb j (k - suc i)) * behind j)
+      (λ j l. ap (λ (x : ℕ). x * behind j) (shifted j))
       ∙ sum-below (n - suc i) (k - suc i) behind (omega arith))
     where
       behind : ℕ → ℕ

@@ -6,6 +6,7 @@ use lib.ListN.{length as len}
 use lib.Seq.{length-take-le}
 use lib.Dec.{lit<}
 use Rattle.model.specs.Checks.{refusal}
+use Rattle.model.specs.Writing.{bufferShort}
 use Rattle.writing.specs.Answers.{asks, refused}
 use Rattle.writer.specs.Answers.{ChartAsked, counted-is, inside, fits, chart-written}
 use Rattle.writer.proofs.write.Statement.{statement}
@@ -38,7 +39,7 @@ asked c =
           record {
             numbered = lit< tt;
             measured = λ t. length .ensures ∙ counted-is _ t;
-            told = c .write-refusal .ensures ∙ ap (λ (b : Bool). refusal (asks 19 b (length .result) size)) (c .before .is-valid .ensures);
+            told = c .write-refusal .ensures ∙ ap (λ (b : Bool). refusal (asks bufferShort b (length .result) size)) (c .before .is-valid .ensures);
           };
       measured = length .ensures;
     }
