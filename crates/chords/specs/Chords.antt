@@ -4,7 +4,7 @@ use native.Mathlib.Nat.{le-refl, lt-of-le-of-lt, mul-le-mul, min-eq-left, mod-eq
 use native.Mathlib.Numerals.{add-one}
 use native.Mathlib.Omega.{arith}
 use mathlib.Core.Path.{_≡_, refl, sym, ap, ap₂, _∙_}
-use mathlib.Core.List.{List, [], _∷_, _++_}
+use mathlib.Core.List.{List, _++_}
 use mathlib.Core.Bool.{cond}
 use lib.Dec.{ltb, lit<}
 use lib.ListN.{length, getD, take, drop, set, length-append, length-take, length-drop, length-set}

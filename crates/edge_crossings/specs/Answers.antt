@@ -2,7 +2,7 @@
 use Prim.Native.Nat.{ℕ, _≤_}
 use mathlib.Core.Path.{_≡_, sym, ap, _∙_}
 use mathlib.Core.List.{List}
-use lib.ListN.{length, take}
+use lib.ListN.{length}
 use lib.Dec.{T}
 use Rattle.model.specs.declared.Layout.{Layout}
 use Rattle.model.specs.Crossings.{edges}

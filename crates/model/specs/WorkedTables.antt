@@ -1,8 +1,8 @@
 -- Tables of the crossings of every edge, worked by hand: rings of document 01 and others, and tables of several lengths.
 use Prim.Native.Nat.{ℕ}
 use mathlib.Core.Bool.{Bool, xor, _&&_}
-use mathlib.Core.List.{List, [], _∷_, _++_, map, flatMap}
-use lib.ListN.{length, take, replicate}
+use mathlib.Core.List.{List, [], _∷_, flatMap}
+use lib.ListN.{replicate}
 use lib.Dec.{T, eqb}
 use Rattle.model.specs.declared.Layout.{Layout}
 use Rattle.model.specs.Lists.{one, upto, every, any, keep, sumOver, sumPairs, noRepeats, occurrences, place}

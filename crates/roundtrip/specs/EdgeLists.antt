@@ -5,19 +5,19 @@ use native.Mathlib.Decide.{decLt}
 use native.Mathlib.Omega.{arith}
 use mathlib.Core.Path.{_≡_, refl, sym, ap, ap₂, _∙_}
 use mathlib.Core.Bool.{Bool, true, false, not, _&&_}
-use mathlib.Core.List.{List, [], _∷_, map, flatMap}
+use mathlib.Core.List.{List, [], _∷_, flatMap}
 use lib.ListN.{length, getD}
 use lib.Dec.{eqb, ltb}
 use lib.Pow.{pow-mono}
 use borrow.Author.Tests.{eq-eqb, ne-eqb}
 use Rattle.model.specs.declared.Edge.{Edge}
-use Rattle.model.specs.Lists.{one, upto, any, keep, noRepeats}
+use Rattle.model.specs.Lists.{one, any, noRepeats}
 use Rattle.model.specs.Crossings.{bit, linked, edges}
 use Rattle.model.specs.Charts.{edgesIn, sameEdge, edgeWithin}
 use Rattle.model.specs.WrittenCharts.{edgeBytes}
-use Rattle.laws.specs.Sums.Indicators.{Order, less, same, more, order, one-and, one-le, one-lt, one-ge, one-ne, both-left, both-right}
+use Rattle.laws.specs.Sums.Indicators.{Order, less, same, more, order, one-and, one-le, one-lt, one-ge, one-ne}
 use Rattle.laws.specs.Sums.Ranges.{sum, sum-ext, sum-zero, sum-at}
-use Rattle.laws.specs.Sums.Lists.{All, none, also, all-upto, all-kept, all-map, all-flatMap}
+use Rattle.laws.specs.Sums.Lists.{All, none, also, all-flatMap}
 use Rattle.laws.specs.Sums.Pairs.{pairSum, Symmetric}
 use Rattle.laws.specs.Sums.Bits.{bit-beyond}
 use Rattle.laws.specs.Crossings.Edges.{weight, edge as rising, sumOver-edges}

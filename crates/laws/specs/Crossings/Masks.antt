@@ -14,8 +14,8 @@ use Rattle.model.specs.Lists.{one, sumOver, occurrences}
 use Rattle.model.specs.Crossings.{bit, linked, crossings}
 use Rattle.model.specs.Edits.{withBit, withoutBit}
 use Rattle.laws.specs.Sums.Indicators.{order, one-eq, one-ne}
-use Rattle.laws.specs.Sums.Ranges.{sum, sum-ext, sum-zero, sum-add, sum-at-right, sum-below, sum-above}
-use Rattle.laws.specs.Sums.Lists.{All, none, also, all-take, all-drop, all-places, sumOver-take, sumOver-drop}
+use Rattle.laws.specs.Sums.Ranges.{sum, sum-ext, sum-zero, sum-add, sum-at-right}
+use Rattle.laws.specs.Sums.Lists.{All, none, also, all-take, all-drop, all-places}
 use Rattle.laws.specs.Orders.Permutations.{at, Permutation, at-lt, occurrences-nil, occurrences-cons, occurrences-append, occurrences-last}
 use Rattle.laws.specs.Orders.Permutations.{alone-before, alone-after, none-beyond, sum-before, sum-behind}
 use Rattle.laws.specs.Sums.Pairs.{pairSum, pairSum-ext, Symmetric}
