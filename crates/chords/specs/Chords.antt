@@ -7,7 +7,7 @@ use mathlib.Core.Path.{_≡_, refl, sym, ap, ap₂, _∙_}
 use mathlib.Core.List.{List, _++_}
 use mathlib.Core.Bool.{cond}
 use lib.Dec.{ltb, lit<}
-use lib.ListN.{length, getD, take, drop, set, length-append, length-take, length-drop, length-set}
+use lib.ListN.{length, getD, take, drop, set, replicate, length-append, length-take, length-drop, length-set, length-replicate, getD-replicate}
 use lib.Seq.{split-at, drop-cons, getD-set-same, getD-set-other}
 use Rattle.model.specs.Lists.{sumOver, occurrences}
 use Rattle.model.specs.Crossings.{bit, linked}
@@ -24,10 +24,11 @@ use Rattle.laws.specs.Crossings.Chords.{inside-none, inside-next, chord-closed,
 use Rattle.laws.specs.Layouts.Recount.{Drawn, drawn-vertex}
 use Rattle.chords.specs.declared.Chord.{Chord}
 
--- the number of each chord, places i < k at entry i * 64 + k
+-- the number of each chord, places i < k at entry i * 64 + k, and 0 at all others
 pub record ChordsOf (n : ℕ) (order adj chords : List ℕ) : Type 0 where
   pub size : length chords ≡ 4096
   pub number : (i k : ℕ) → i < k → k < n → getD chords (i * 64 + k) 0 ≡ chordCrossings (weight adj) (take n order) i k
+  pub others : (i k : ℕ) → i < 64 → k < 64 → (i < k → k < n → ⊥) → getD chords (i * 64 + k) 0 ≡ 0
 
 -- ---- the next chord
 
@@ -47,10 +48,10 @@ next-exact {taken = taken} hc ho e d f g x p q =
 
 -- ---- one row
 
--- the chords from place i are numbered, and the rows before it are as they were
+-- the chords from place i are numbered, and all other entries are as they were
 pub record RowOf (n : ℕ) (order adj : List ℕ) (i : ℕ) (before after : List ℕ) : Type 0 where
   pub size : length after ≡ length before
-  pub kept : (x : ℕ) → x < i * 64 → getD after x 0 ≡ getD before x 0
+  pub kept : (j k : ℕ) → k < 64 → (j ≡ i → i < k → k < n → ⊥) → getD after (j * 64 + k) 0 ≡ getD before (j * 64 + k) 0
   pub number : Drawn n order adj → (k : ℕ) → i < k → k < n → getD after (i * 64 + k) 0 ≡ chordCrossings (weight adj) (take n order) i k
 
 -- what the words hold when place k is next
@@ -151,7 +152,7 @@ pub record ChordsTo (n : ℕ) (order adj : List ℕ) (i : ℕ) (before chords : 
   pub later : i < k
   pub within : k ≤ n
   pub size : length chords ≡ 4096
-  pub kept : (x : ℕ) → x < i * 64 → getD chords x 0 ≡ getD before x 0
+  pub kept : (j m : ℕ) → m < 64 → (j ≡ i → i < m → m < n → ⊥) → getD chords (j * 64 + m) 0 ≡ getD before (j * 64 + m) 0
   pub present : Drawn n order adj → ChordAt n order adj i k chord
   pub number : Drawn n order adj → (j : ℕ) → i < j → j < k → getD chords (i * 64 + j) 0 ≡ chordCrossings (weight adj) (take n order) i j
 
@@ -165,7 +166,7 @@ module _ {n : ℕ} {order adj : List ℕ} {i : ℕ} {before : List ℕ} where
         later = omega arith;
         within = h;
         size = size;
-        kept = λ x l. refl;
+        kept = λ j m l other. refl;
         present = λ d. chord-start d i h e v b;
         number = λ d j l m. absurd (omega arith);
       })
@@ -180,7 +181,10 @@ module _ {n : ℕ} {order adj : List ℕ} {i : ℕ} {before : List ℕ} where
           later = omega (arith, r .later);
           within = h;
           size = length-set chords (i * 64 + k) (next .crossed) ∙ r .size;
-          kept = λ x l. getD-set-other chords (i * 64 + k) x (next .crossed) 0 (λ q. omega arith) ∙ r .kept x l;
+          kept = λ j m l other.
+              getD-set-other chords (i * 64 + k) (j * 64 + m) (next .crossed) 0
+              (λ q. other (omega (arith, r .few)) (omega (arith, r .few, r .later)) (omega (arith, r .few)))
+              ∙ r .kept j m l other;
           present = λ d. chord-next d i (r .present d) (r .later) h e p;
           number = λ d j l m. elim (which j k) [ less b ↦ before-k d j l b | same q ↦ rw q (at-last d) | more b ↦ absurd (omega arith) ];
         })
@@ -204,12 +208,20 @@ pub record ChordsUpTo (n : ℕ) (order adj chords : List ℕ) (i : ℕ) : Type 0
   pub within : i ≤ n
   pub size : length chords ≡ 4096
   pub number : Drawn n order adj → (j k : ℕ) → j < i → j < k → k < n → getD chords (j * 64 + k) 0 ≡ chordCrossings (weight adj) (take n order) j k
+  pub others : (j k : ℕ) → j < 64 → k < 64 → (j < k → k < n → ⊥) → getD chords (j * 64 + k) 0 ≡ 0
 
-module _ {n : ℕ} {order adj chords : List ℕ} where
-  pub rows-start : n ≤ 64 → length chords ≡ 4096 → ChordsUpTo n order adj chords 0
-  rows-start few size = record { few = few; within = omega arith; size = size; number = λ d j k l. absurd (omega arith) }
+module _ {n : ℕ} {order adj : List ℕ} where
+  pub rows-start : n ≤ 64 → ChordsUpTo n order adj (replicate 4096 0) 0
+  rows-start few =
+      record {
+        few = few;
+        within = omega arith;
+        size = length-replicate {A = ℕ} 4096 0;
+        number = λ d j k l. absurd (omega arith);
+        others = λ j k l m none. getD-replicate 4096 (j * 64 + k) 0 0 (omega arith);
+      }
 
-  module _ {i : ℕ} (r : ChordsUpTo n order adj chords i) where
+  module _ {chords : List ℕ} {i : ℕ} (r : ChordsUpTo n order adj chords i) where
     pub rows-next : i < n → {next : List ℕ} → RowOf n order adj i chords next → ChordsUpTo n order adj next (i + 1)
     rows-next h row =
         rw (add-one i)
@@ -219,11 +231,12 @@ module _ {n : ℕ} {order adj chords : List ℕ} where
           size = row .size ∙ r .size;
           number = λ d j k l m b.
               elim (which j i) [
-                | less q ↦ row .kept (j * 64 + k) (omega (arith, r .few)) ∙ r .number d j k q m b
+                | less q ↦ row .kept j k (omega (arith, r .few)) (λ e f g. omega arith) ∙ r .number d j k q m b
                 | same q ↦ rw q (row .number d k (omega arith) b)
                 | more q ↦ absurd (omega arith)
               ];
+          others = λ j k l m none. row .kept j k m (λ e f g. none (omega arith) g) ∙ r .others j k l m none;
         })
 
     pub rows-end : n ≤ i → Drawn n order adj → ChordsOf n order adj chords
-    rows-end h d = record { size = r .size; number = λ j k l m. r .number d j k (omega (arith, r .within)) l m }
+    rows-end h d = record { size = r .size; number = λ j k l m. r .number d j k (omega (arith, r .within)) l m; others = r .others }

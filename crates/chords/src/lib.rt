@@ -7,9 +7,9 @@ ghost use lib.ListN.{length};
 ghost use Rattle.laws.specs.Layouts.Recount.{Drawn};
 ghost use Rattle.chords.specs.Chords.{ChordsOf, RowOf, NextChord};
 
-// A chord from one place to a later one: the vertices strictly between the two, those beyond them, the
-// edges from the former to the latter, which it crosses, and the edges that the vertex at its end joins
-// to those beyond added to these.
+// How far the chords from one place are: the vertices behind it up to the present place, those before
+// it and behind the present one, the edges that the chord between the two crosses, and all edges from
+// the former vertices to the latter.
 struct Chord {
     inside: u64,
     beyond: u64,
@@ -55,8 +55,8 @@ fn chord_row(chords: &mut [u32], n: usize, order: &[u8; 64], adjacency: &[u64; 6
     }
 }
 
-// The chord to the next place, where v stands, whose adjacency word is given: the edges from inside to v
-// are crossed no more.
+// The chord to the next place, where v stands, whose adjacency word is given: it crosses the outgoing
+// edges that do not end at v.
 fn next_chord(chord: Chord, word: u64, v: usize) -> Chord
     ensures { λ r. ⌜ NextChord chord word v r ⌝ }
 {

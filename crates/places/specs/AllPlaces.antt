@@ -4,16 +4,17 @@ use native.Mathlib.Nat.{mod-eq-of-lt}
 use native.Mathlib.Omega.{arith}
 use mathlib.Core.Path.{_≡_, sym, ap, _∙_}
 use mathlib.Core.List.{List}
-use lib.ListN.{length, getD, take, set, replicate, length-replicate, length-set}
+use lib.ListN.{length, getD, take, set, replicate, length-replicate, getD-replicate, length-set}
 use lib.Seq.{getD-take, getD-set-same, getD-set-other}
 use Rattle.model.specs.Lists.{place}
 use Rattle.laws.specs.Sums.Indicators.{less, same, more, order as which}
 use Rattle.laws.specs.Orders.Permutations.{Permutation, at-lt, at-of-place, place-of-at, place-below}
 
--- places says where each vertex stands in the first n places of order
+-- places says where each vertex stands in the first n places of order, and 0 of all other numbers
 pub record PlacesOf (n : ℕ) (order places : List ℕ) : Type 0 where
   pub size : length places ≡ 64
   pub stands : (v : ℕ) → v < n → getD places v 0 ≡ place (take n order) v
+  pub others : (v : ℕ) → n ≤ v → v < 64 → getD places v 0 ≡ 0
 
 -- the vertices before place p; of an order that holds each vertex once
 pub record PlacesUpTo (n : ℕ) (order places : List ℕ) (p : ℕ) : Type 0 where
@@ -21,10 +22,18 @@ pub record PlacesUpTo (n : ℕ) (order places : List ℕ) (p : ℕ) : Type 0 whe
   pub inside : p ≤ n
   pub size : length places ≡ 64
   pub stand : Permutation n (take n order) → (k : ℕ) → k < p → getD places (getD order k 0) 0 ≡ k
+  pub others : Permutation n (take n order) → (v : ℕ) → n ≤ v → v < 64 → getD places v 0 ≡ 0
 
 module _ {n : ℕ} {order : List ℕ} where
   pub places-start : n ≤ 64 → PlacesUpTo n order (replicate 64 0) 0
-  places-start few = record { few = few; inside = omega arith; size = length-replicate {A = ℕ} 64 0; stand = λ perm k l. absurd (omega arith) }
+  places-start few =
+      record {
+        few = few;
+        inside = omega arith;
+        size = length-replicate {A = ℕ} 64 0;
+        stand = λ perm k l. absurd (omega arith);
+        others = λ perm v h l. getD-replicate 64 v 0 0 l;
+      }
 
   module _ {places : List ℕ} {p : ℕ} (r : PlacesUpTo n order places p) where
     -- the byte at the next place is taken modulo 64
@@ -37,6 +46,9 @@ module _ {n : ℕ} {order : List ℕ} where
           stand = λ perm k l.
               rw (vertex perm)
               (elim (which k p) [ less b ↦ before perm k b | same e ↦ rw e (here perm) | more b ↦ absurd (omega arith) ]);
+          others = λ perm v b l.
+              rw (vertex perm)
+              (getD-set-other places (getD order p 0) v p 0 (λ e. omega (arith, below perm p h)) ∙ r .others perm v b l);
         }
       where
         below : Permutation n (take n order) → (k : ℕ) → k < n → getD order k 0 < n
@@ -66,4 +78,5 @@ module _ {n : ℕ} {order : List ℕ} where
               let below : k < n = place-below perm v l in
               let stands-there : getD order k 0 ≡ v = sym (getD-take n order k 0 below) ∙ at-of-place perm v l in
               ap (λ (u : ℕ). getD places u 0) (sym stands-there) ∙ r .stand perm k (omega arith);
+          others = r .others perm;
         }

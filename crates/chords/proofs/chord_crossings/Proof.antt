@@ -16,7 +16,7 @@ returns : tie.Need-returns Inv-loop μ-loop
 returns c drawn = absurd (omega (arith, drawn .small, c .if1 .taken))
 
 loop-holds : tie.Need-loop-holds Inv-loop μ-loop
-loop-holds c = rows-start (c .if1 .left) (search needs)
+loop-holds c = rows-start (c .if1 .left)
 
 slice-aggregate-chord-row : tie.Need-slice-aggregate-chord-row Inv-loop μ-loop
 slice-aggregate-chord-row c = let turn = c .before in sym (turn .before .loop .inv .size)
