@@ -8,7 +8,7 @@ use mathlib.Core.List.{List, _++_}
 use mathlib.Core.Bool.{cond}
 use lib.Dec.{ltb, lit<}
 use lib.ListN.{length, getD, take, drop, set, replicate, length-append, length-take, length-drop, length-set, length-replicate, getD-replicate}
-use lib.Seq.{split-at, drop-cons, getD-set-same, getD-set-other}
+use lib.Seq.{split-at, getD-set-same, getD-set-other}
 use Rattle.model.specs.Lists.{sumOver, occurrences}
 use Rattle.model.specs.Crossings.{bit, linked}
 use Rattle.model.specs.Edits.{withBit, withoutBit}
@@ -16,7 +16,7 @@ use Rattle.laws.specs.Sums.Indicators.{less, same, more, order as which, one-le
 use Rattle.laws.specs.Sums.Lists.{All, all-mono, sumOver-ext}
 use Rattle.laws.specs.Sums.Bits.{bit-none, maskedOnes, set-within}
 use Rattle.laws.specs.Sums.Wrapping.{exact-less}
-use Rattle.laws.specs.Orders.Permutations.{at, Permutation, at-lt, occurrences-nil}
+use Rattle.laws.specs.Orders.Permutations.{at, Permutation, at-lt, from-place, occurrences-nil}
 use Rattle.laws.specs.Crossings.Edges.{weight}
 use Rattle.laws.specs.Crossings.Masks.{vertexAt, Holds, holds-all, holds-set, holds-clear, masked-sum, weight-bit}
 use Rattle.laws.specs.Crossings.Chords.{joining, joining-most, inside, beyond, chordCrossings, inside-below, beyond-below, inside-not, beyond-not}
@@ -115,7 +115,7 @@ module _ {n : ℕ} {order adj : List ℕ} (d : Drawn n order adj) (i : ℕ) wher
     beyond-held =
         rw (p .beyond-is, here)
         (holds-clear (chord .beyond) (at o k) (take i o) (drop (suc k) o)
-        (λ y l. c .beyond-held y l ∙ ap (λ (xs : List ℕ). occurrences y (take i o ++ xs)) (drop-cons o k 0 (omega (arith, perm .size))))
+        (λ y l. c .beyond-held y l ∙ ap (λ (xs : List ℕ). occurrences y (take i o ++ xs)) (from-place perm k kn))
         (beyond-not perm i k (omega arith) kn))
 
     leaving : maskedOnes (getD adj v 0) (next .beyond) ≡ sumOver (W (at o k)) (beyond o i k)

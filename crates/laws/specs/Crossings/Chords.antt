@@ -7,7 +7,7 @@ use native.Mathlib.Omega.{arith}
 use mathlib.Core.Path.{_≡_, sym, ap, ap₂, _∙_}
 use mathlib.Core.List.{List, [], _∷_, _++_}
 use lib.ListN.{length, getD, take, drop, length-drop}
-use lib.Seq.{drop-cons, take-suc, getD-drop}
+use lib.Seq.{take-suc, getD-drop}
 use lib.Dec.{eqb, ltb}
 use Rattle.model.specs.declared.Edge.{Edge}
 use Rattle.model.specs.Lists.{one, sumOver, occurrences, place}
@@ -17,7 +17,7 @@ use Rattle.laws.specs.Sums.Indicators.{less, same, more, order, one-ne, 
 use Rattle.laws.specs.Sums.Ranges.{double, halves, sum, sum-ext, sum-zero, sum-add, sum-scale, sum-swap}
 use Rattle.laws.specs.Sums.Lists.{All, all-append, all-take, all-drop, all-places, sumOver-ext, sumOver-add, sumOver-append, sumOver-last, sumOver-most}
 use Rattle.laws.specs.Sums.Pairs.{pairSum, pairSum-ext, pairSum-twice, Symmetric, pair-vertices}
-use Rattle.laws.specs.Orders.Permutations.{at, Permutation, at-lt, place-of-at, place-below, sum-before, sum-behind, sum-between}
+use Rattle.laws.specs.Orders.Permutations.{at, Permutation, at-lt, place-of-at, place-below, sum-before, sum-behind, sum-between, from-place}
 use Rattle.laws.specs.Crossings.Alternation.{cross, rising, cross-ordered, cross-swap-left, cross-swap-right}
 use Rattle.laws.specs.Crossings.Counting.{placed}
 use Rattle.laws.specs.Crossings.Edges.{weight, Within, edge-crossed}
@@ -64,9 +64,6 @@ joining-most W c h xs ys =
 -- ---- from one place to the next
 
 module _ {n : ℕ} {o : List ℕ} (perm : Permutation n o) (i : ℕ) where
-  from-place : (k : ℕ) → k < n → drop k o ≡ at o k ∷ drop (suc k) o
-  from-place k h = drop-cons o k 0 (omega (arith, perm .size))
-
   all-below : All (λ a. a < n) o
   all-below = all-places o (λ j l. at-lt perm j (rw (perm .size) at l))
 
@@ -131,7 +128,7 @@ module _ {n : ℕ} {o : List ℕ} (perm : Permutation n o) (i : ℕ) where
     pub chord-closed : (k : ℕ) → k < n
         → joining W (inside o i k) (take i o ++ drop k o) ≡ chordCrossings W o i k + sumOver (λ a. W a (at o k)) (inside o i k)
     unfolding chordCrossings
-    chord-closed k h = rw (from-place k h) (joining-out W (at o k) (inside o i k) (take i o) (drop (suc k) o))
+    chord-closed k h = rw (from-place perm k h) (joining-out W (at o k) (inside o i k) (take i o) (drop (suc k) o))
 
     -- one place further: those that the chord crosses, and those that leave from k
     pub chord-opened : (k : ℕ) → i < k → k < n
@@ -254,7 +251,7 @@ module _ {n : ℕ} {o : List ℕ} (perm : Permutation n o) {W : ℕ → ℕ → 
         chord-closed perm i W (suc k) kn,
         chord-opened perm i W k ik (omega arith),
         ap (sumOver (λ a. W a (at o (suc k)))) (inside-next perm i k ik (omega arith)) ∙ sumOver-last (at o k) (λ a. W a (at o (suc k))) (inside o i k),
-        ap (λ (xs : List ℕ). sumOver (W (at o k)) (take i o ++ xs)) (from-place perm i (suc k) kn)
+        ap (λ (xs : List ℕ). sumOver (W (at o k)) (take i o ++ xs)) (from-place perm (suc k) kn)
             ∙ sumOver-out W (at o (suc k)) (W (at o k)) (take i o) (drop (suc (suc k)) o),
         sumOver-ext (λ a. W a (at o (suc k))) (W (at o (suc k))) (inside-below perm i k) (λ a l. symmetry .swap a (at o (suc k)) l (at-lt perm (suc k) kn)),
       )

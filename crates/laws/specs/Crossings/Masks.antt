@@ -5,7 +5,7 @@ use native.Mathlib.Omega.{arith}
 use mathlib.Core.Path.{_≡_, refl, sym, ap, ap₂, _∙_}
 use mathlib.Core.List.{List, [], _∷_, _++_}
 use lib.ListN.{getD, take, drop}
-use lib.Seq.{take-suc, drop-cons}
+use lib.Seq.{take-suc}
 use lib.Dec.{eqb, ltb}
 use lib.Arith.{dbl-pred, digits-div, digits-mod}
 use lib.Pow.{pow-pos, ones-lt}
@@ -17,7 +17,7 @@ use Rattle.laws.specs.Sums.Indicators.{order, one-eq, one-ne}
 use Rattle.laws.specs.Sums.Ranges.{sum, sum-ext, sum-zero, sum-add, sum-at-right}
 use Rattle.laws.specs.Sums.Lists.{All, none, also, all-take, all-drop, all-places}
 use Rattle.laws.specs.Orders.Permutations.{at, Permutation, at-lt, occurrences-nil, occurrences-cons, occurrences-append, occurrences-last}
-use Rattle.laws.specs.Orders.Permutations.{alone-before, alone-after, none-beyond, sum-before, sum-behind}
+use Rattle.laws.specs.Orders.Permutations.{from-place, alone-before, alone-after, none-beyond, sum-before, sum-behind}
 use Rattle.laws.specs.Sums.Pairs.{pairSum, pairSum-ext, Symmetric}
 use Rattle.laws.specs.Sums.Bits.{bit-lt, bit-first, bit-next, bit-beyond, maskedOnes, set-same, set-other, clear-same, clear-other}
 use Rattle.laws.specs.Crossings.Counting.{placed, crossingSum-counted}
@@ -143,7 +143,7 @@ module _ (n : ℕ) (order o : List ℕ) (small : n ≤ 64) (perm : Permutation n
   holds-from (suc k) h =
       rw (same-vertex k h)
       (holds-clear (maskFrom n order k) (at o k) [] (drop (suc k) o)
-      (λ v l. holds-from k (omega arith) v l ∙ ap (occurrences v) (drop-cons o k 0 (omega (arith, perm .size)))) (alone-after perm k h))
+      (λ v l. holds-from k (omega arith) v l ∙ ap (occurrences v) (from-place perm k h)) (alone-after perm k h))
 
   within : All (λ x. x < 64) o
   within = all-places o (λ i l. lt-of-lt-of-le (at-lt perm i (rw (perm .size) at l)) small)

@@ -219,8 +219,9 @@ module _ {n : ℕ} {o : List ℕ} (perm : Permutation n o) where
             | more l ↦ one-ge (suc i + j) k (omega arith) ∙ sym (one-ge j (k - suc i) (omega arith))
           ]
 
-  pub from-next : (j : ℕ) → j < n → (v : ℕ) → occurrences v (drop j o) ≡ one (eqb v (at o j)) + occurrences v (drop (suc j) o)
-  from-next j h v = ap (occurrences v) (drop-cons o j 0 (omega (arith, perm .size))) ∙ occurrences-cons v (at o j) (drop (suc j) o)
+  -- what stands from a place on
+  pub from-place : (k : ℕ) → k < n → drop k o ≡ at o k ∷ drop (suc k) o
+  from-place k h = drop-cons o k 0 (omega (arith, perm .size))
 
   pub alone-before : (j : ℕ) → j < n → occurrences (at o j) (take j o) ≡ 0
   alone-before j h = omega (arith, occurrences-split (at o j) o j (rw (perm .size) h), perm .once (at o j) (at-lt j h), one-eq (at o j) (at o j) refl)
