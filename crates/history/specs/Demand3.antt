@@ -13,18 +13,21 @@ use Rattle.model.specs.declared.Call.the-variants as call
 use Rattle.model.specs.Lists.{upto, sumOver, All, none, also}
 use Rattle.model.specs.Layouts.{vertexOrder, crossingsOf, eachOnce, valid}
 use Rattle.model.specs.Edits.{moveOf}
-use Rattle.model.specs.Histories.{Start, Step, afterStep, steps, played, Follow, ended, next, Sift, Round, outcome, answerOf, accepted}
-use Rattle.model.specs.Histories.{siftCalled, roundsOfCall, siftsOfRound, roundsOfStep, siftsOfStep, roundsIn, siftsIn, sifting, roundsDue}
+use Rattle.model.specs.Search.{Sift, Round}
+use Rattle.model.specs.Sifting.{ring, optimaAt, siftsOfRound}
+use Rattle.model.specs.Histories.{Start, Step, afterStep, steps, played, Follow, ended, next, outcome, answerOf, accepted}
+use Rattle.model.specs.Histories.{siftCalled, roundsOfCall, roundsOfStep, siftsOfStep, roundsIn, siftsIn, sifting, roundsDue}
 use Rattle.model.specs.Histories.{saysConverged, optimaTold, placesWith}
 use Rattle.model.specs.Histories.{butLast, BestPlace, LocalMinimum}
 use Rattle.laws.specs.Sums.Indicators.{T-true}
 use Rattle.laws.specs.Sums.Lists.{all-mono, all-flatMap}
 use Rattle.laws.specs.Layouts.Validity.{sound, permutation-eachOnce}
 use Rattle.laws.specs.Append.Calls.{lay-tally}
-use Rattle.laws.specs.Sifting.Rounds.{ProperSift, ProperRound, best-sifted, round-no-more}
+use Rattle.laws.specs.Sifting.Sweeps.{round-no-more, rounds-length}
+use Rattle.laws.specs.Sifting.Rounds.{Valid, ProperSift, ProperRound, best-sifted}
 use Rattle.laws.specs.Sifting.Optima.{optima-least, optima-counted, optima-some, optima-below}
 use Rattle.history.specs.StepLaws.{Right, start-right, call-keeps, call-refused, CallFacts, call-facts, stepOn, step-sifts, step-rounds}
-use Rattle.history.specs.StepLaws.{rounds-sifts, refused-says-nothing}
+use Rattle.history.specs.StepLaws.{refused-says-nothing}
 
 -- ---- what is said of a step and of a round
 
@@ -48,9 +51,9 @@ TallyRight s first = s .call ≡ call.GreedyAppend first → s .answer .first �
 -- reached, behind as many of them as the number says it has just as many, and with two vertices or more there is one
 pub record OptimaRight (x : Sift Layout) : Type 0 where
   pub none-fewer : (v : ℕ) → v < x .before .n → (x .vertex ≡ v → ⊥) → crossingsOf (x .after) ≤ crossingsOf (moveOf (x .before) (x .vertex) v .layout)
-  pub just-as-many : x .optima ≡ placesWith (x .before) (x .vertex) (crossingsOf (x .after))
-  pub some : 2 ≤ x .before .n → 1 ≤ x .optima
-  pub not-all : x .optima < x .before .n
+  pub just-as-many : optimaAt x ≡ placesWith (x .before) (x .vertex) (crossingsOf (x .after))
+  pub some : 2 ≤ x .before .n → 1 ≤ optimaAt x
+  pub not-all : optimaAt x < x .before .n
 
 -- nothing is left out of an accepted step: a sift contributes one sift, a round one round, a settling as many as it answers, and each round n sifts;
 -- the sifts lead from the layout before to the layout after, and the number of best places that is told is the sum of theirs
@@ -58,7 +61,7 @@ pub record Complete (s : Step) : Type 0 where
   pub number-of-rounds : length (roundsOfStep s) ≡ roundsDue (s .call) (s .answer)
   pub number-of-sifts : length (siftsOfStep s) ≡ length (siftCalled (s .before) (s .call)) + length (roundsOfStep s) * (s .before .n)
   pub sifts-lead : T (sifting (s .call)) → Follow (λ (x : Sift Layout). x .before) (λ x. x .after) (s .before) (siftsOfStep s) (afterStep s)
-  pub optima-summed : optimaTold (s .call) (s .answer) ≡ sumOver (λ (x : Sift Layout). x .optima) (siftsOfStep s)
+  pub optima-summed : optimaTold (s .call) (s .answer) ≡ sumOver optimaAt (siftsOfStep s)
 
 -- a round sifts each vertex once, in rising number, from the layout before it to the layout after it
 pub record WholeRound (r : Round Layout) : Type 0 where
@@ -140,6 +143,7 @@ module _ (l : Layout) (c : Call) where
   sifts-are t = rw (rounds-are t, T-true (accepted (stepOn l c)) t)
 
   is-complete : T (accepted (stepOn l c)) → Complete (stepOn l c)
+  unfolding siftCalled roundsOfCall
   is-complete t =
       let f = facts t in
       record {
@@ -147,8 +151,8 @@ module _ (l : Layout) (c : Call) where
         number-of-sifts =
             rw (sifts-are t, rounds-are t)
             (length-append (siftCalled l c) (flatMap siftsOfRound (roundsOfCall l c))
-            ∙ ap (λ (k : ℕ). length (siftCalled l c) + k) (rounds-sifts (f .follow) (f .rounds)));
-        sifts-lead = λ s. rw (sifts-are t) (f .lead s);
+            ∙ ap (λ (k : ℕ). length (siftCalled l c) + k) (rounds-length ring Valid (f .run .follow) (f .run .rounds)));
+        sifts-lead = λ s. rw (sifts-are t, ← f .reached s) (f .run .lead);
         optima-summed = rw (sifts-are t) (f .optima-are);
       }
 
@@ -161,11 +165,11 @@ module _ (l : Layout) (c : Call) where
   reaches-limit t limit e z = rw (rounds-are t) (facts t .spent limit e z)
 
   goes-on : All (λ (r : Round Layout). 0 < r .moved) (butLast (roundsOfStep (stepOn l c)))
-  unfolding roundsOfStep butLast
+  unfolding roundsOfStep roundsOfCall butLast
   goes-on = by-test (accepted (stepOn l c)) refl
     where
       by-test : (b : Bool) → accepted (stepOn l c) ≡ b → All (λ (r : Round Layout). 0 < r .moved) (butLast (cond b (roundsOfCall l c) []))
-      by-test true e = facts (rw e tt) .moved
+      by-test true e = facts (rw e tt) .run .moved
       by-test false e = none
 
   is-minimum : T (saysConverged c (answerOf l c)) → LocalMinimum (answerOf l c .layout)
@@ -203,7 +207,7 @@ demand-3 {start} s calls =
       tallies-right = all-steps (λ x. T (accepted x) → (first : ℕ) → TallyRight x first) (λ l c q. is-tally l c) r calls;
       best-places = all-mono sifted (λ x p. best-sifted p);
       optima-right = all-mono sifted (λ x p. is-optima p);
-      no-round-raised = all-mono proper (λ x p. round-no-more p);
+      no-round-raised = all-mono proper (λ x p. round-no-more ring Valid p);
       converged-is-minimum = all-steps (λ x. T (saysConverged (x .call) (x .answer)) → LocalMinimum (afterStep x)) (λ l c q. is-minimum l c) r calls;
       limit-reached = all-steps (λ x. T (accepted x) → (limit : ℕ) → LimitReached x limit) (λ l c q. reaches-limit l c) r calls;
       went-on-after-a-move = all-steps (λ x. All (λ (y : Round Layout). 0 < y .moved) (butLast (roundsOfStep x))) (λ l c q. goes-on l c) r calls;

@@ -18,8 +18,10 @@ use Rattle.model.specs.Reading.{pairWith, orElse, firstPair, firstCrossi
 use Rattle.model.specs.GreedyAppend.{unplaced, waiting, isolated, hasEdges, degreeIn, preferred, bestOf, nextVertex, closing, open′}
 use Rattle.model.specs.GreedyAppend.{frontCrossings, backCrossings, alone, placeFront, placeBack, placeVertex, placeMore, placeAtBack, placeLinked}
 use Rattle.model.specs.GreedyAppend.{placeAll, formerPlaceAll, layChecks, layOf, formerLayOf}
-use Rattle.model.specs.Sifting.{clockwiseFrom, candidates, least, leastCrossings, improves, siftedOrder, sifted, reduction, siftChecks, siftOf}
-use Rattle.model.specs.Sifting.{countWith, optima, optimaOf, moves, siftAll, siftRound, roundOf, afterRound, stopped, roundsUpTo, settleChecks, settleOf}
+use Rattle.model.specs.Search.{least, countWith, reached, movedIn, lastStill, siftBest, siftMoves, bestCandidates, siftsThrough, savedIn, roundBy}
+use Rattle.model.specs.Search.{siftsOfAll, roundAt, roundsWithin}
+use Rattle.model.specs.Sifting.{clockwiseFrom, candidateLayouts, reduction, siftChecks, siftOf, optimaIn, swept, siftRound, roundOf, settled}
+use Rattle.model.specs.Sifting.{roundsUpTo, settleChecks, settleOf}
 use Rattle.model.specs.Charts.{sameList, sameEdge, joins, wordIn}
 
 -- ---- the tables
@@ -206,6 +208,7 @@ unfolding starred withIsolated withOptima withTally first complete _to_ layoutOf
     symmetric loopless bitsBelow valid carried changed reordered refusal byRefusal checked isValid isVertex differ limitFits changedOr insertAfter
     movedAfter moveChecks moveOf pairWith orElse firstPair firstCrossingOf unplaced waiting isolated hasEdges degreeIn preferred bestOf nextVertex
     closing open′ frontCrossings backCrossings alone placeFront placeBack placeVertex placeMore placeAtBack placeLinked placeAll formerPlaceAll
-    layChecks layOf formerLayOf clockwiseFrom candidates least leastCrossings countWith optima optimaOf improves siftedOrder sifted reduction
-    siftChecks siftOf moves siftAll siftRound roundOf afterRound stopped roundsUpTo settleChecks settleOf sameList sameEdge joins wordIn flatMap xor
+    layChecks layOf formerLayOf clockwiseFrom candidateLayouts least countWith reached movedIn lastStill siftBest siftMoves bestCandidates siftsThrough savedIn
+    roundBy siftsOfAll roundAt roundsWithin reduction siftChecks siftOf optimaIn swept siftRound roundOf settled roundsUpTo settleChecks
+    settleOf sameList sameEdge joins wordIn flatMap xor
 starred-holds = tt

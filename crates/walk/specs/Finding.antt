@@ -11,11 +11,11 @@ use borrow.Author.Tests.{lt-ltb, le-ltb}
 use Rattle.model.specs.Lists.{place}
 use Rattle.model.specs.Crossings.{crossings}
 use Rattle.model.specs.Edits.{movedAfter}
-use Rattle.model.specs.Sifting.{candidates, least, leastCrossings, improves, siftedOrder, optima, countWith}
+use Rattle.model.specs.Search.{least, countWith}
 use Rattle.laws.specs.Sums.Indicators.{less, same, more, order}
 use Rattle.laws.specs.Orders.Permutations.{at, at-lt, place-below, place-of-at}
 use Rattle.laws.specs.Sifting.LocalSearch.{least-default, count-most}
-use Rattle.laws.specs.Sifting.Candidates.{sift-stays}
+use Rattle.laws.specs.Sifting.Candidates.{candidates, leastCrossings, improves, siftedOrder, optima, sift-stays}
 use Rattle.laws.specs.Sifting.Walk.{last-stays}
 use Rattle.places.specs.MovedPlaces.{shifted, shifted-moved}
 use Rattle.walk.specs.declared.Kept.{Kept}
@@ -122,7 +122,7 @@ module _ {n : ℕ} {places adj : List ℕ} {u p : ℕ} (seat : Seated n places a
           order =
               sym
               (ap (λ (x : List ℕ). x ++ drop n places)
-              (sift-stays (perm seat) adj u (below seat) (le-ltb (leastCrossings n adj u o) (crossings n o adj) (omega (arith, e, fewest))))
+              (sift-stays n adj u o (le-ltb (leastCrossings n adj u o) (crossings n o adj) (omega (arith, e, fewest))))
               ∙ take-append-drop n places);
           after = sym fewest;
           optima-are = told;

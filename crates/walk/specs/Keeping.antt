@@ -11,7 +11,7 @@ use lib.Dec.{eqb, ltb}
 use borrow.Author.Count.{below-more}
 use borrow.Author.Tests.{lt-ltb, le-ltb, eq-eqb, ne-eqb}
 use Rattle.model.specs.Lists.{one, firstWith}
-use Rattle.model.specs.Sifting.{least, countWith}
+use Rattle.model.specs.Search.{least, countWith}
 use Rattle.laws.specs.Sums.Indicators.{less, same, more, order, one-eq, one-ne, one-le}
 use Rattle.laws.specs.Sums.Ranges.{sum, sum-ext, sum-zero}
 use Rattle.laws.specs.Sums.Lists.{all-at, sumOver-places}
