@@ -10,7 +10,7 @@ use Rattle.model.specs.declared.Edge.{Edge}
 use Rattle.model.specs.declared.LayoutRead.{LayoutRead}
 use Rattle.model.specs.declared.Layout.{Layout}
 use Rattle.model.specs.Lists.{one, upto, every, any, keep, sumPairs}
-use Rattle.model.specs.Crossings.{edges, crossings}
+use Rattle.model.specs.Crossings.{weightedEdges, crossings}
 use Rattle.model.specs.Layouts.{emptyLayout, vertexOrder, crossingsOf, eachOnce, zeroFrom, symmetric, loopless, bitsBelow, valid}
 use Rattle.model.specs.Checks.{refusal}
 use Rattle.model.specs.Charts.{bodyOf, chartSize, chartEdges, chartOrder, sameEdge, joins, chartChecks, sizeChecks, endChecks, repeatChecks, placeChecks}
@@ -67,7 +67,7 @@ unfolding valid emptyLayout vertexOrder eachOnce zeroFrom symmetric loopless bit
 empty-valid = tt
 
 pub empty-count : emptyLayout .count ≡ crossingsOf emptyLayout
-unfolding emptyLayout crossingsOf vertexOrder crossings edges sumPairs upto flatMap
+unfolding emptyLayout crossingsOf vertexOrder crossings weightedEdges sumPairs upto flatMap
 empty-count = refl
 
 pub read-refused : (s : List ℕ) → (readOf s .refusal ≡ 0 → ⊥) → readOf s ≡ refusedRead (readOf s .refusal)

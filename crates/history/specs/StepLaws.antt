@@ -3,25 +3,23 @@ use Prim.Native.Nat.{ℕ, _<_}
 use native.Mathlib.Nat.{add-zero}
 use native.Mathlib.Omega.{arith}
 use mathlib.Core.Path.{_≡_, refl, sym, ap, _∙_, subst}
-use mathlib.Core.Bool.{Bool, true, false, cond, false≢true}
-use mathlib.Core.List.{[], _++_, flatMap, append-nil}
+use mathlib.Core.Bool.{Bool, true, false, false≢true}
+use mathlib.Core.List.{_++_, flatMap, append-nil}
 use lib.ListN.{length}
 use lib.Dec.{T, eqb}
-use borrow.Author.Tests.{eqb-true}
 use Rattle.model.specs.declared.Layout.{Layout}
 use Rattle.model.specs.declared.Converged.{Converged}
 use Rattle.model.specs.declared.Call.{Call}
 use Rattle.model.specs.declared.Call.the-variants as call
-use Rattle.model.specs.Lists.{one, sumOver, All, none}
+use Rattle.model.specs.Lists.{one, sumOver, All}
 use Rattle.model.specs.Layouts.{crossingsOf, valid}
 use Rattle.model.specs.Search.{Round, Sweep, no-sift, one-sift, one-round, some-rounds, roundsRun, siftRun, siftsOfAll, roundAt, roundBy}
 use Rattle.model.specs.Sifting.{ring, optimaOf, optimaAt, optimaIn, siftOf, siftRound, swept, roundOf, siftsOfRound, settled, roundsUpTo, settleOf}
-use Rattle.model.specs.Histories.{Start, empty, read, imported, Step, outcome, ofAdded, ofChanged, ofAppended, ofSifted, ofRounded}
-use Rattle.model.specs.Histories.{ofConverged, answerOf, accepted, sweepOf, roundsOfStep, siftsOfStep}
+use Rattle.model.specs.Histories.{Start, empty, read, imported, outcome, ofAdded, ofChanged, ofAppended, ofSifted, ofRounded}
+use Rattle.model.specs.Histories.{ofConverged, answerOf, sweepOf}
 use Rattle.model.specs.Histories.{sifting, siftCalled, roundsOfCall, roundsDue, saysConverged, optimaTold, LocalMinimum}
-use Rattle.laws.specs.Sums.Lists.{all-append}
-use Rattle.laws.specs.Sifting.Sweeps.{SweepFacts, nothing-swept, sweep-facts, sweptTo, Names, rounds-sifts, rounds-spent}
-use Rattle.laws.specs.Sifting.Rounds.{Valid, ProperSift, ProperRound, lawful, settled-minimum}
+use Rattle.laws.specs.Sifting.Sweeps.{SweepFacts, nothing-swept, sweep-facts, sweptTo, Names, rounds-spent}
+use Rattle.laws.specs.Sifting.Rounds.{Valid, lawful, settled-minimum}
 use Rattle.laws.specs.Sifting.Calls.{sift-passed, sift-accepted, sift-refused, sift-keeps}
 use Rattle.laws.specs.Sifting.Calls.{round-passed, round-accepted, round-refused, round-keeps}
 use Rattle.laws.specs.Sifting.Calls.{settle-passed, settle-accepted, settle-refused, settle-keeps}
@@ -50,7 +48,7 @@ pub record CallFacts (l : Layout) (c : Call) : Type 0 where
 
 module _ (l : Layout) (u : ℕ) where
   sift-facts : siftOf l u .refusal ≡ 0 → CallFacts l (call.Sift u)
-  unfolding answerOf sweepOf siftCalled roundsOfCall siftRun roundsRun roundsDue optimaTold saysConverged flatMap sumOver sweptTo Names
+  unfolding answerOf sweepOf siftRun roundsRun roundsDue optimaTold saysConverged flatMap sumOver sweptTo Names
   sift-facts e =
       let p = sift-passed l u e in
       let same = sift-accepted l u (p .0) (p .1) in
@@ -67,7 +65,7 @@ module _ (l : Layout) (u : ℕ) where
 
 module _ (l : Layout) where
   round-facts : roundOf l .refusal ≡ 0 → CallFacts l call.SiftingRound
-  unfolding answerOf sweepOf siftCalled roundsOfCall siftRun roundsRun roundsDue optimaTold saysConverged flatMap sweptTo Names roundAt roundBy siftRound
+  unfolding answerOf sweepOf siftRun roundsRun roundsDue optimaTold saysConverged flatMap sweptTo Names roundAt roundBy siftRound
       swept optimaIn
   round-facts e =
       let t = round-passed l e in
@@ -95,7 +93,7 @@ one-false false e = refl
 
 module _ (l : Layout) (limit : ℕ) where
   settle-facts : settleOf l limit .refusal ≡ 0 → CallFacts l (call.Converge limit)
-  unfolding answerOf sweepOf siftCalled roundsOfCall siftRun roundsRun roundsDue optimaTold saysConverged sweptTo Names roundsUpTo settled optimaIn
+  unfolding answerOf sweepOf siftRun roundsRun roundsDue optimaTold saysConverged sweptTo Names roundsUpTo settled optimaIn
   settle-facts e =
       let p = settle-passed l limit e in
       let same = settle-accepted l limit (p .0) (p .1) (p .2) in
@@ -114,7 +112,7 @@ module _ (l : Layout) (limit : ℕ) where
 
 no-sifts : (l : Layout) (c : Call) → sweepOf c ≡ no-sift → roundsDue c (answerOf l c) ≡ 0 → optimaTold c (answerOf l c) ≡ 0
     → saysConverged c (answerOf l c) ≡ false → sifting c ≡ false → CallFacts l c
-unfolding sweepOf siftCalled roundsOfCall siftRun roundsRun flatMap sumOver sifting
+unfolding sweepOf siftRun roundsRun flatMap sumOver sifting
 no-sifts l c e due told says sifts =
     record {
       run = subst (SweepFacts ring Valid l) (sym e) (nothing-swept ring Valid l);
@@ -136,32 +134,6 @@ call-facts l (call.AddEdge a b) e = no-sifts l (call.AddEdge a b) refl refl refl
 call-facts l (call.RemoveEdge a b) e = no-sifts l (call.RemoveEdge a b) refl refl refl refl refl
 call-facts l (call.MoveAfter a b) e = no-sifts l (call.MoveAfter a b) refl refl refl refl refl
 call-facts l (call.GreedyAppend s) e = no-sifts l (call.GreedyAppend s) refl refl refl refl refl
-
--- ---- the sifts and rounds of a step
-
-abbrev pub stepOn : Layout → Call → Step
-stepOn l c = record { before = l; call = c; answer = answerOf l c }
-
--- of a refused call there are none
-module _ (l : Layout) (c : Call) where
-  pub step-sifts : All ProperSift (siftsOfStep (stepOn l c))
-  unfolding siftsOfStep roundsOfStep accepted flatMap siftCalled roundsOfCall
-  step-sifts = by-test (eqb (answerOf l c .refusal) 0) refl
-    where
-      by-test : (b : Bool) → eqb (answerOf l c .refusal) 0 ≡ b
-          → All ProperSift (cond b (siftCalled l c) [] ++ flatMap siftsOfRound (cond b (roundsOfCall l c) []))
-      by-test true e =
-          let facts = call-facts l c (eqb-true (answerOf l c .refusal) 0 e) in
-          all-append (facts .run .sift) (rounds-sifts ring Valid (facts .run .rounds))
-      by-test false e = none
-
-  pub step-rounds : All ProperRound (roundsOfStep (stepOn l c))
-  unfolding roundsOfStep accepted roundsOfCall
-  step-rounds = by-test (eqb (answerOf l c .refusal) 0) refl
-    where
-      by-test : (b : Bool) → eqb (answerOf l c .refusal) 0 ≡ b → All ProperRound (cond b (roundsOfCall l c) [])
-      by-test true e = call-facts l c (eqb-true (answerOf l c .refusal) 0 e) .run .rounds
-      by-test false e = none
 
 -- ---- every call, refused or accepted, keeps what the layouts of a list have
 

@@ -1,10 +1,13 @@
--- Sifting: the best of a state and its candidates (LocalSearch); sifts, rounds and settlings of any lawful search (Sweeps), and of one whose candidates are
--- orders read clockwise (Circles); the ring as an instance (Candidates, Rounds, Optima, Calls).
+-- Sifting: the best of a state and its candidates (LocalSearch), and what is kept of candidates on the way (Keeping); sifts, rounds and settlings of any
+-- lawful search (Sweeps), and lists of calls (Runs); a search whose candidates are orders read clockwise (Circles); the ring as an instance (Candidates,
+-- Rounds, Optima, Calls).
 -- Others cite walked-next, candidate-walked and last-stays (the walk through the candidates, Walk);
 -- sweep-facts, round-no-more, rounds-spent, settled-minimum; lawful, proper-sift, proper-round, best-sifted; sifted-order, sifted-optima;
 -- and of the calls the lemmas accepted, refused and keeps.
 pub mod LocalSearch
+pub mod Keeping
 pub mod Sweeps
+pub mod Runs
 pub mod Candidates
 pub mod Walk
 pub mod Circles

@@ -17,7 +17,7 @@ use Rattle.model.specs.declared.SizeFound.{SizeFound}
 use Rattle.model.specs.declared.SizeFound.the-variants as size
 use Rattle.model.specs.Lists.{upto, every, any, sumOver, noRepeats}
 use Rattle.model.specs.Crossings.{crossings}
-use Rattle.model.specs.Layouts.{capacity, emptyLayout, eachOnce}
+use Rattle.model.specs.Layouts.{capacity, emptyLayout, eachOnce, uncounted, weight}
 use Rattle.model.specs.Checks.{Check, checked}
 
 -- ---- fields
@@ -155,7 +155,7 @@ padded o = take capacity (o ++ replicate capacity 0)
 abbrev pub layoutWith : ℕ → List Edge → List ℕ → Layout
 layoutWith n es o =
     let adj = map (wordIn es) (upto capacity) in
-    record { n = n; order = padded o; adjacency = adj; count = crossings n o adj }
+    record { n = n; order = padded o; adjacency = adj; count = crossings n o (weight (uncounted n (padded o) adj)) }
 
 -- "a ring read from a chart [carries] its true crossings"
 unfoldable pub chartLayout : List ℕ → Layout

@@ -2,8 +2,8 @@
 -- rounds that were run in it.
 use Prim.Native.Nat.{ℕ, _≤_, _<_}
 use mathlib.Core.Path.{_≡_}
-use mathlib.Core.Bool.{Bool, true, false, cond, not, _&&_}
-use mathlib.Core.List.{List, [], _∷_, _++_, flatMap}
+use mathlib.Core.Bool.{Bool, true, false, not, _&&_}
+use mathlib.Core.List.{List, flatMap}
 use lib.Dec.{eqb}
 use Rattle.model.specs.declared.Layout.{Layout}
 use Rattle.model.specs.declared.Added.{Added}
@@ -20,7 +20,8 @@ use Rattle.model.specs.Layouts.{emptyLayout, crossingsOf}
 use Rattle.model.specs.Edits.{addOf, linkOf, unlinkOf, moveOf}
 use Rattle.model.specs.GreedyAppend.{layOf}
 use Rattle.model.specs.Search.{Sift, Round, Sweep, no-sift, one-sift, one-round, some-rounds, roundsRun, siftRun}
-use Rattle.model.specs.Sifting.{ring, siftOf, roundOf, settleOf, siftsOfRound}
+use Rattle.model.specs.Runs.{Calls, StepOf, stepsFrom, playedFrom, acceptedAt, roundsAt, siftsAt}
+use Rattle.model.specs.Sifting.{ring, siftOf, roundOf, settleOf}
 use Rattle.model.specs.Charts.{readOf}
 use Rattle.model.specs.Graph6.{importOf}
 
@@ -69,38 +70,6 @@ pub data Start : Layout → Type 0 where
   read : (s : List ℕ) → readOf s .refusal ≡ 0 → Start (readOf s .layout)
   imported : (s : List ℕ) → importOf s .refusal ≡ 0 → Start (importOf s .layout)
 
--- a step: the layout before the call, the call, and its whole answer, with the layout after it
-pub record Step : Type 0 where
-  pub before : Layout
-  pub call : Call
-  pub answer : Outcome
-
-abbrev pub afterStep : Step → Layout
-afterStep s = s .answer .layout
-
--- the steps of the calls played one after the other from l; "Nothing else writes the ring between two calls of the list."
-unfoldable pub steps : Layout → List Call → List Step
-steps l [] = []
-steps l (c ∷ cs) = record { before = l; call = c; answer = answerOf l c } ∷ steps (answerOf l c .layout) cs
-
--- the layout after them
-unfoldable pub played : Layout → List Call → Layout
-played l [] = l
-played l (c ∷ cs) = played (answerOf l c .layout) cs
-
--- things that lead from one state to another, each beginning where the one before it ended
-pub data Follow {A S : Type 0} (start end : A → S) : S → List A → S → Type 0 where
-  ended : {s : S} → Follow start end s [] s
-  next : {x : A} {xs : List A} {t : S} → Follow start end (end x) xs t → Follow start end (start x) (x ∷ xs) t
-
--- each entry but the last
-unfoldable pub butLast : {A : Type 0} → List A → List A
-butLast [] = []
-butLast (x ∷ []) = []
-butLast (x ∷ y ∷ ys) = x ∷ butLast (y ∷ ys)
-
--- ---- the sifts and rounds that a list ran
-
 -- what a call sifts
 unfoldable pub sweepOf : Call → Sweep
 sweepOf (call.Sift u) = one-sift u
@@ -112,22 +81,41 @@ sweepOf (call.RemoveEdge a b) = no-sift
 sweepOf (call.MoveAfter a b) = no-sift
 sweepOf (call.GreedyAppend s) = no-sift
 
--- the rounds that an accepted call runs, and the sifts besides those of its rounds: the one called
-unfoldable pub roundsOfCall : Layout → Call → List (Round Layout)
-roundsOfCall l c = roundsRun ring l (sweepOf c)
+abbrev pub ringCalls : Calls Layout Call Outcome
+ringCalls = record { search = ring; answers = answerOf; code = λ a. a .refusal; after = λ a. a .layout; sweep = sweepOf }
 
-unfoldable pub siftCalled : Layout → Call → List (Sift Layout)
-siftCalled l c = siftRun ring l (sweepOf c)
+-- a step: the layout before the call, the call, and its whole answer, with the layout after it
+abbrev pub Step : Type 0
+Step = StepOf Layout Call Outcome
+
+abbrev pub afterStep : Step → Layout
+afterStep s = s .answer .layout
+
+-- the steps of the calls played one after the other from a layout, and the layout after them
+abbrev pub steps : Layout → List Call → List Step
+steps = stepsFrom ringCalls
+
+abbrev pub played : Layout → List Call → Layout
+played = playedFrom ringCalls
 
 -- was the call accepted?
-unfoldable pub accepted : Step → Bool
-accepted s = eqb (s .answer .refusal) 0
+abbrev pub accepted : Step → Bool
+accepted = acceptedAt ringCalls
 
-unfoldable pub roundsOfStep : Step → List (Round Layout)
-roundsOfStep s = cond (accepted s) (roundsOfCall (s .before) (s .call)) []
+-- ---- the sifts and rounds that a list ran
 
-unfoldable pub siftsOfStep : Step → List (Sift Layout)
-siftsOfStep s = cond (accepted s) (siftCalled (s .before) (s .call)) [] ++ flatMap siftsOfRound (roundsOfStep s)
+-- the rounds that a call runs where it is accepted, and the sifts besides those of its rounds: the one called
+abbrev pub roundsOfCall : Layout → Call → List (Round Layout)
+roundsOfCall l c = roundsRun ring l (sweepOf c)
+
+abbrev pub siftCalled : Layout → Call → List (Sift Layout)
+siftCalled l c = siftRun ring l (sweepOf c)
+
+abbrev pub roundsOfStep : Step → List (Round Layout)
+roundsOfStep = roundsAt ringCalls
+
+abbrev pub siftsOfStep : Step → List (Sift Layout)
+siftsOfStep = siftsAt ringCalls
 
 -- "What demand 3 says of sifts and rounds holds too for the sifts that an accepted round or settling runs, and for the rounds that an accepted
 -- settling runs."

@@ -81,9 +81,6 @@ unfoldable pub swept : Layout → List (Sift Layout) → Rounded
 swept l xs =
     record { refusal = 0; layout = reached (λ x. x .after) l xs; reduction = savedIn ring xs; moved = movedIn xs; optima = optimaIn xs }
 
-unfoldable pub siftAll : List ℕ → Layout → Rounded
-siftAll us l = swept l (siftsFrom us l)
-
 -- "sifts devices 0 to n − 1 in rising number"
 unfoldable pub siftRound : Layout → Rounded
 siftRound l = swept l (siftsOfAll ring l)

@@ -10,10 +10,9 @@ use borrow.Author.Tests.{le-leb, eq-eqb}
 use Rattle.model.specs.declared.Edge.{Edge}
 use Rattle.model.specs.declared.Layout.{Layout}
 use Rattle.model.specs.Lists.{noRepeats}
-use Rattle.model.specs.Crossings.{crossings}
 use Rattle.model.specs.Layouts.{eachOnce}
 use Rattle.model.specs.Checks.{refusal}
-use Rattle.model.specs.Charts.{Field, Fields, fieldsOf, bodyOf, chartSize, chartEdges, chartOrder, edgesIn, sameList, sameEdge, edgeWithin}
+use Rattle.model.specs.Charts.{Field, Fields, fieldsOf, bodyOf, chartSize, chartEdges, chartOrder, edgesIn, sameList, sameEdge, edgeWithin, layoutWith}
 use Rattle.model.specs.Charts.{chartChecks, sizeChecks, endChecks, repeatChecks, placeChecks, chartLayout, readOf}
 use Rattle.model.specs.WrittenCharts.{edgeBytes}
 use Rattle.laws.specs.Sums.Indicators.{T-true}
@@ -107,11 +106,11 @@ module _ (n : ℕ) (es : List Edge) (o : List ℕ) (p : Proper n es o) where
 
   -- ---- so the layout has the vertices, the order and the edges that were written, and their crossings
 
-  layout-read : chartLayout chart ≡ record { n = n; order = padded o; adjacency = adjacencyOf es; count = crossings n o (adjacencyOf es) }
+  layout-read : chartLayout chart ≡ layoutWith n es o
   unfolding chartLayout chartSize chartEdges chartOrder
   layout-read = rw (body 0, body 1, body 2, listed)
 
   pub chart-read : readOf (chartWith n es o)
-      ≡ record { refusal = 0; layout = record { n = n; order = padded o; adjacency = adjacencyOf es; count = crossings n o (adjacencyOf es) } }
+      ≡ record { refusal = 0; layout = layoutWith n es o }
   unfolding chart
   chart-read = read-is chart (read-number chart ∙ accepted) ∙ ap (λ (l : Layout). record { refusal = 0; layout = l }) layout-read

@@ -1,44 +1,43 @@
 -- A round as a loop over the vertices, and settling as a loop over rounds.
 use Prim.Native.Nat.{ℕ, suc, _+_, _-_, _*_, _≤_, _<_}
-use native.Mathlib.Nat.{add-zero, zero-add, add-assoc, le-antisymm, sub-zero, sub-eq-zero-of-le}
+use native.Mathlib.Nat.{add-zero, le-antisymm, sub-zero, sub-eq-zero-of-le}
 use native.Mathlib.Numerals.{add-one}
 use native.Mathlib.Omega.{arith}
 use mathlib.Core.Path.{_≡_, refl, sym, ap, ap₂, _∙_}
 use mathlib.Core.Bool.{Bool, true, false, cond}
-use mathlib.Core.List.{List, [], _∷_, _++_, flatMap}
-use lib.ListN.{drop}
+use mathlib.Core.List.{List, [], _∷_, _++_, flatMap, append-assoc, append-nil}
+use lib.ListN.{drop, length-append}
 use lib.Dec.{T, eqb}
 use borrow.Author.Tests.{eq-eqb, ne-eqb}
 use Rattle.model.specs.declared.Layout.{Layout}
 use Rattle.model.specs.declared.Rounded.{Rounded}
 use Rattle.model.specs.declared.Converged.{Converged}
 use Rattle.model.specs.Lists.{one, upto, sumOver, All}
-use Rattle.model.specs.Layouts.{vertexOrder, valid, crossingsOf, modulus, carried, changed, reordered}
+use Rattle.model.specs.Layouts.{vertexOrder, valid, weight, crossingsOf, modulus, carried, changed, reordered}
 use Rattle.model.specs.Search.{Sift, Round, reached, movedIn, lastStill, siftsThrough, savedIn, siftsOfAll, roundAt, roundBy, roundsWithin}
-use Rattle.model.specs.Sifting.{ring, sifted, reduction, moves, optimaOf, optimaAt, optimaIn, siftAnswer, siftOn, siftsFrom, swept, siftAll, siftRound}
+use Rattle.model.specs.Sifting.{ring, sifted, reduction, moves, optimaOf, optimaAt, optimaIn, siftAnswer, siftOn, siftsFrom, swept, siftRound}
 use Rattle.model.specs.Sifting.{roundOn, siftsOfRound, roundsFrom, settled, roundsUpTo}
-use Rattle.laws.specs.Sums.Lists.{all-upto, all-mono, length-upto, sumOver-append, sumOver-last}
+use Rattle.laws.specs.Sums.Lists.{all-upto, all-mono, length-upto, flatMap-append, sumOver-append, sumOver-last}
 use Rattle.laws.specs.Crossings.Bound.{mostCrossings}
 use Rattle.laws.specs.Layouts.Validity.{sound, crossings-bound}
-use Rattle.laws.specs.Sifting.Sweeps as sweeps
-use Rattle.laws.specs.Sifting.Sweeps.{sift-lowers, sifts-snoc, reached-snoc, still-more}
+use Rattle.laws.specs.Sifting.Sweeps.{sift-lowers, sifts-snoc, reached-snoc, still-snoc, rounds-more, rounds-still}
 use Rattle.laws.specs.Sifting.Candidates.{leastCrossings, siftedOrder, sifted-crossings, sifted-order}
-use Rattle.laws.specs.Sifting.Rounds.{Valid, proper-sift, sifts-reduced, round-reduced}
-use Rattle.laws.specs.Sifting.Optima.{mostOptima, sifts-few, rounds-few}
+use Rattle.laws.specs.Sifting.Rounds.{Valid, proper-sift, siftAll, sifts-reduced, round-reduced}
+use Rattle.laws.specs.Sifting.Optima.{mostOptima, sifts-few, round-few}
 
 -- ---- one sift
 
 module _ (l : Layout) (t : T (valid l)) (u : ℕ) (h : u < l .n) where
   -- what the walk finds: the order, the crossings before and the fewest of a candidate
-  module _ {before fewest : ℕ} (b : before ≡ crossingsOf l) (f : fewest ≡ leastCrossings (l .n) (l .adjacency) u (vertexOrder l)) where
+  module _ {before fewest : ℕ} (b : before ≡ crossingsOf l) (f : fewest ≡ leastCrossings (l .n) (weight l) u (vertexOrder l)) where
     sifted-fewest : crossingsOf (sifted l u) ≡ fewest
     sifted-fewest = sifted-crossings l t u h ∙ sym f
 
     -- the layout that they give
     pub sifted-carried : {places : List ℕ} {count : ℕ} → l .count < modulus
-        → places ≡ siftedOrder (l .n) (l .adjacency) u (vertexOrder l) ++ drop (l .n) (l .order) → count ≡ carried (l .count) before fewest
+        → places ≡ siftedOrder (l .n) (weight l) u (vertexOrder l) ++ drop (l .n) (l .order) → count ≡ carried (l .count) before fewest
         → record { n = l .n; order = places; adjacency = l .adjacency; count = count } ≡ sifted l u
-    unfolding reordered changed crossingsOf vertexOrder
+    unfolding reordered changed crossingsOf vertexOrder weight
     sifted-carried fits o c =
         ap₂ (λ (xs : List ℕ) (k : ℕ). record { n = l .n; order = xs; adjacency = l .adjacency; count = k }) o
         (c ∙ ap₂ (carried (l .count)) b (sym sifted-fewest ∙ ap crossingsOf (sifted-order l t u h fits)))
@@ -138,154 +137,111 @@ round-end {l} {s} {u} r h = r .state ∙ ap (λ (k : ℕ). siftAll (upto k) l) (
 
 -- ---- settling
 
--- a round before others, and whether the last of them moved nothing
-unfoldable afterRound : Rounded → Converged → Bool → Converged
-afterRound first rest still =
-    record {
-      refusal = 0;
-      layout = rest .layout;
-      reduction = first .reduction + rest .reduction;
-      rounds = suc (rest .rounds);
-      converged = still;
-      optima = first .optima + rest .optima;
-    }
+abbrev pub answered : Layout → ℕ → ℕ → Bool → ℕ → Converged
+answered m saved run still told = record { refusal = 0; layout = m; reduction = saved; rounds = run; converged = still; optima = told }
 
-one-more-round : (m : Layout) (rs : List (Round Layout))
-    → settled m (roundOn m ∷ rs) ≡ afterRound (siftRound m) (settled (siftRound m .layout) rs) (lastStill (roundOn m ∷ rs))
-unfolding settled afterRound siftRound swept roundAt roundBy reached flatMap savedIn optimaIn
-one-more-round m rs =
+-- one round more behind those that were run
+settled-snoc : (l m : Layout) (rs : List (Round Layout)) → let before = settled l rs in let r = siftRound m in settled l (rs ++ (roundOn m ∷ []))
+    ≡ answered (r .layout) (before .reduction + r .reduction) (before .rounds + 1) (eqb (r .moved) 0) (before .optima + r .optima)
+unfolding settled siftRound swept roundAt roundBy savedIn optimaIn flatMap
+settled-snoc l m rs =
     let xs = flatMap siftsOfRound rs in
     rw (
-      sumOver-append (λ (x : Sift Layout). crossingsOf (x .before) - crossingsOf (x .after)) (siftsOfAll ring m) xs,
-      sumOver-append optimaAt (siftsOfAll ring m) xs,
+      reached-snoc (λ (x : Round Layout). x .after) l rs (roundOn m),
+      flatMap-append siftsOfRound rs (roundOn m ∷ []),
+      append-nil (siftsOfAll ring m),
+      sumOver-append (λ (x : Sift Layout). crossingsOf (x .before) - crossingsOf (x .after)) xs (siftsOfAll ring m),
+      sumOver-append optimaAt xs (siftsOfAll ring m),
+      length-append rs (roundOn m ∷ []),
+      still-snoc rs (roundOn m),
     )
     refl
 
--- rounds that were run, before those that follow
-unfoldable pub afterRounds : ℕ → ℕ → ℕ → Converged → Converged
-afterRounds saved run told rest =
-    record {
-      refusal = 0;
-      layout = rest .layout;
-      reduction = saved + rest .reduction;
-      rounds = run + rest .rounds;
-      converged = rest .converged;
-      optima = told + rest .optima;
-    }
+settled-more : (l : Layout) {m : Layout} {saved run told : ℕ} (rs : List (Round Layout)) → settled l rs ≡ answered m saved run false told
+    → settled l (rs ++ (roundOn m ∷ []))
+    ≡ answered (siftRound m .layout) (saved + siftRound m .reduction) (run + 1) (eqb (siftRound m .moved) 0) (told + siftRound m .optima)
+settled-more l {m} rs e =
+    let r = siftRound m in
+    settled-snoc l m rs
+    ∙ ap (λ (c : Converged). answered (r .layout) (c .reduction + r .reduction) (c .rounds + 1) (eqb (r .moved) 0) (c .optima + r .optima)) e
 
--- run rounds lead from l to m, none of them still, and the rest is settled from there
+-- the rounds done lead from l to m, none of them still, and the rest is run from there
 pub record SettlingUpTo (l : Layout) (limit : ℕ) (m : Layout) (saved run told : ℕ) : Type 0 where
+  pub done : List (Round Layout)
+  pub answers : settled l done ≡ answered m saved run false told
+  pub rest : roundsFrom limit l ≡ done ++ roundsFrom (limit - run) m
   pub inside : run ≤ limit
   pub is-valid : T (valid m)
   pub exact : crossingsOf m + saved ≡ crossingsOf l
-  pub whole : roundsUpTo limit l ≡ afterRounds saved run told (roundsUpTo (limit - run) m)
+  pub few : told ≤ mostOptima * run
 
 pub settling-start : (l : Layout) (limit : ℕ) → T (valid l) → SettlingUpTo l limit l 0 0 0
-unfolding afterRounds roundsUpTo settled
+unfolding settled reached flatMap savedIn optimaIn sumOver lastStill
 settling-start l limit t =
     record {
+      done = [];
+      answers = refl;
+      rest = ap (λ (k : ℕ). roundsFrom k l) (sym (sub-zero limit));
       inside = omega arith;
       is-valid = t;
       exact = add-zero (crossingsOf l);
-      whole = sym (ap (λ (k : ℕ). afterRounds 0 0 0 (roundsUpTo k l)) (sub-zero limit) ∙ nothing-yet (roundsUpTo limit l) refl);
+      few = omega arith;
     }
-  where
-    nothing-yet : (c : Converged) → c .refusal ≡ 0 → afterRounds 0 0 0 c ≡ c
-    nothing-yet c e = rw (zero-add (c .reduction), zero-add (c .rounds), zero-add (c .optima), ← e)
-
--- a round that moves something, and one that does not
-rounds-more : (k : ℕ) (m : Layout) → (siftRound m .moved ≡ 0 → ⊥)
-    → roundsUpTo (suc k) m
-    ≡ afterRound (siftRound m) (roundsUpTo k (siftRound m .layout)) (roundsUpTo k (siftRound m .layout) .converged)
-unfolding roundsUpTo settled roundAt roundBy siftRound swept
-rounds-more k m d =
-    let rs = roundsFrom k (siftRound m .layout) in
-    ap (settled m) (sweeps.rounds-more ring k m d)
-    ∙ one-more-round m rs
-    ∙ ap (afterRound (siftRound m) (settled (siftRound m .layout) rs)) (still-more (roundOn m) rs (ne-eqb (roundOn m .moved) 0 d))
-
-rounds-still : (k : ℕ) (m : Layout) → siftRound m .moved ≡ 0 → roundsUpTo (suc k) m ≡ afterRound (siftRound m) (settled (siftRound m .layout) []) true
-unfolding roundsUpTo lastStill roundAt roundBy siftRound swept
-rounds-still k m e =
-    ap (settled m) (sweeps.rounds-still ring k m e)
-    ∙ one-more-round m []
-    ∙ ap (afterRound (siftRound m) (settled (siftRound m .layout) [])) (eq-eqb (roundOn m .moved) 0 e)
-
-after-more : (saved run told : ℕ) (first : Rounded) (rest : Converged)
-    → afterRounds saved run told (afterRound first rest (rest .converged)) ≡ afterRounds (saved + first .reduction) (run + 1) (told + first .optima) rest
-unfolding afterRounds afterRound
-after-more saved run told first rest =
-    let one-more : run + suc (rest .rounds) ≡ run + 1 + rest .rounds = omega arith in
-    rw (add-assoc saved (first .reduction) (rest .reduction), add-assoc told (first .optima) (rest .optima), one-more)
-
--- what is told of the rounds still to come is no less than what the next one tells
-next-told : (k : ℕ) (m : Layout) → siftRound m .optima ≤ roundsUpTo (suc k) m .optima
-unfolding roundsUpTo roundsWithin afterRound
-next-told k m =
-    let rs : List (Round Layout) = elim (eqb (roundOn m .moved) 0) [ true ↦ [] | false ↦ roundsFrom k (roundOn m .after) ] in
-    omega (arith, ap (λ (c : Converged). c .optima) (one-more-round m rs))
-
-none-after : (saved run told : ℕ) (m : Layout)
-    → afterRounds saved run told (settled m []) ≡ record { refusal = 0; layout = m; reduction = saved; rounds = run; converged = false; optima = told }
-unfolding afterRounds settled reached flatMap savedIn optimaIn sumOver lastStill
-none-after saved run told m = rw (add-zero saved, add-zero run, add-zero told)
-
-still-after : (saved run told : ℕ) (first : Rounded) (m : Layout)
-    → afterRounds saved run told (afterRound first (settled m []) true)
-    ≡ record { refusal = 0; layout = m; reduction = saved + first .reduction; rounds = run + 1; converged = true; optima = told + first .optima }
-unfolding afterRounds afterRound settled reached flatMap savedIn optimaIn sumOver
-still-after saved run told first m = rw (add-zero (first .reduction), add-zero (first .optima), add-one run)
 
 module _ {l : Layout} {limit : ℕ} {m : Layout} {saved run told : ℕ} (s : SettlingUpTo l limit m saved run told) where
-  one-more-left : run < limit → limit - run ≡ suc (limit - (run + 1))
-  one-more-left h = omega arith
+  -- where rounds are left, the next one stands behind those done
+  module _ (h : run < limit) where
+    abbrev left : ℕ
+    left = limit - (run + 1)
 
-  pub settling-next : {r : Rounded} → run < limit → r ≡ siftRound m → (r .moved ≡ 0 → ⊥)
-      → SettlingUpTo l limit (r .layout) (saved + r .reduction) (run + 1) (told + r .optima)
-  settling-next {r} h e d =
-      let p = round-reduced m (s .is-valid) in
-      rw e
-      (record {
-        inside = omega arith;
-        is-valid = p .rearranged .valid-after;
-        exact = omega (arith, p .exact, s .exact);
-        whole =
-            s .whole
-            ∙ ap (λ (k : ℕ). afterRounds saved run told (roundsUpTo k m)) (one-more-left h)
-            ∙ ap (afterRounds saved run told) (rounds-more (limit - (run + 1)) m (λ z. d (ap (λ (x : Rounded). x .moved) e ∙ z)))
-            ∙ after-more saved run told (siftRound m) (roundsUpTo (limit - (run + 1)) (siftRound m .layout));
-      })
+    one-more-left : roundsFrom limit l ≡ s .done ++ roundsFrom (suc left) m
+    one-more-left = s .rest ∙ ap (λ (k : ℕ). s .done ++ roundsFrom k m) (omega arith)
 
-  pub settling-still : {r : Rounded} → run < limit → r ≡ siftRound m → r .moved ≡ 0
-      → record { refusal = 0; layout = r .layout; reduction = saved + r .reduction; rounds = run + 1; converged = true; optima = told + r .optima }
-      ≡ roundsUpTo limit l
-  settling-still {r} h e z =
-      rw e
-      (sym
-      (s .whole
-      ∙ ap (λ (k : ℕ). afterRounds saved run told (roundsUpTo k m)) (one-more-left h)
-      ∙ ap (afterRounds saved run told) (rounds-still (limit - (run + 1)) m (ap (λ (x : Rounded). x .moved) (sym e) ∙ z))
-      ∙ still-after saved run told (siftRound m) (siftRound m .layout)))
+    pub settling-next : {r : Rounded} → r ≡ siftRound m → (r .moved ≡ 0 → ⊥)
+        → SettlingUpTo l limit (r .layout) (saved + r .reduction) (run + 1) (told + r .optima)
+    unfolding siftRound swept roundAt roundBy
+    settling-next {r} e d =
+        let p = round-reduced m (s .is-valid) in
+        let moved : siftRound m .moved ≡ 0 → ⊥ = λ z. d (ap (λ (x : Rounded). x .moved) e ∙ z) in
+        rw e
+        (record {
+          done = s .done ++ (roundOn m ∷ []);
+          answers =
+              settled-more l (s .done) (s .answers)
+              ∙ ap (λ (b : Bool). answered (siftRound m .layout) (saved + siftRound m .reduction) (run + 1) b (told + siftRound m .optima))
+              (ne-eqb (siftRound m .moved) 0 moved);
+          rest =
+              one-more-left
+              ∙ ap (λ (rs : List (Round Layout)). s .done ++ rs) (rounds-more ring left m moved)
+              ∙ sym (append-assoc (s .done) (roundOn m ∷ []) (roundsFrom left (siftRound m .layout)));
+          inside = omega arith;
+          is-valid = p .rearranged .valid-after;
+          exact = omega (arith, p .exact, s .exact);
+          few = omega (arith, s .few, round-few m (s .is-valid));
+        })
 
-  pub settling-limit : limit ≤ run
-      → record { refusal = 0; layout = m; reduction = saved; rounds = run; converged = false; optima = told } ≡ roundsUpTo limit l
+    pub settling-still : {r : Rounded} → r ≡ siftRound m → r .moved ≡ 0
+        → answered (r .layout) (saved + r .reduction) (run + 1) true (told + r .optima) ≡ roundsUpTo limit l
+    unfolding roundsUpTo siftRound swept roundAt roundBy
+    settling-still {r} e z =
+        let still : siftRound m .moved ≡ 0 = ap (λ (x : Rounded). x .moved) (sym e) ∙ z in
+        rw e
+        (sym
+        (ap (settled l) (one-more-left ∙ ap (λ (rs : List (Round Layout)). s .done ++ rs) (rounds-still ring left m still))
+        ∙ settled-more l (s .done) (s .answers)
+        ∙ ap (λ (b : Bool). answered (siftRound m .layout) (saved + siftRound m .reduction) (run + 1) b (told + siftRound m .optima))
+        (eq-eqb (siftRound m .moved) 0 still)))
+
+    -- the numbers stay small
+    pub settling-bounds : {r : Rounded} → T (valid l) → r ≡ siftRound m
+        → (saved + r .reduction ≤ mostCrossings) × (told + r .optima ≤ mostOptima * limit)
+    settling-bounds {r} t e = (
+      omega (arith, crossings-bound l t, s .exact, round-reduced m (s .is-valid) .exact, ap (λ (x : Rounded). x .reduction) e),
+      omega (arith, s .few, round-few m (s .is-valid), ap (λ (x : Rounded). x .optima) e),
+    )
+
+  pub settling-limit : limit ≤ run → answered m saved run false told ≡ roundsUpTo limit l
   unfolding roundsUpTo roundsWithin
   settling-limit h =
       sym
-      (s .whole ∙ ap (λ (k : ℕ). afterRounds saved run told (roundsUpTo k m)) (sub-eq-zero-of-le h) ∙ none-after saved run told m)
-
-  -- the numbers stay small: they are part of those of the whole settling
-  pub settling-bounds : {r : Rounded} → T (valid l) → run < limit → r ≡ siftRound m
-      → (saved + r .reduction ≤ mostCrossings) × (told + r .optima ≤ mostOptima * limit)
-  unfolding afterRounds
-  settling-bounds {r} t h e = (
-    omega (arith, crossings-bound l t, s .exact, round-reduced m (s .is-valid) .exact, ap (λ (x : Rounded). x .reduction) e),
-    omega (
-      arith,
-      rounds-few limit l t,
-      ap (λ (x : Converged). x .optima) (s .whole),
-      ap (λ (k : ℕ). roundsUpTo k m .optima) (one-more-left h),
-      next-told (limit - (run + 1)) m,
-      ap (λ (x : Rounded). x .optima) e,
-    ),
-  )
+      (ap (settled l) (s .rest ∙ ap (λ (k : ℕ). s .done ++ roundsFrom k m) (sub-eq-zero-of-le h) ∙ append-nil (s .done)) ∙ s .answers)

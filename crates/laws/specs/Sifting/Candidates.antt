@@ -9,8 +9,8 @@ use lib.Seq.{length-take-le, getD-take, getD-drop}
 use lib.Dec.{T, eqb, ltb}
 use Rattle.model.specs.declared.Layout.{Layout}
 use Rattle.model.specs.Lists.{one, sumOver, occurrences, place, firstWith}
-use Rattle.model.specs.Crossings.{crossings}
-use Rattle.model.specs.Layouts.{vertexOrder, crossingsOf, valid, modulus, carried, changed, reordered}
+use Rattle.model.specs.Crossings.{unitWeight, crossings}
+use Rattle.model.specs.Layouts.{vertexOrder, weight, crossingsOf, valid, modulus, carried, changed, reordered}
 use Rattle.model.specs.Edits.{movedAfter}
 use Rattle.model.specs.Search.{least, countWith, leastCost, chosen, siftBest, bestCandidates}
 use Rattle.model.specs.Sifting.{clockwiseFrom, candidateLayouts, sifted, optimaOf}
@@ -87,22 +87,22 @@ module _ {n : ℕ} {o : List ℕ} (perm : Permutation n o) (u : ℕ) (h : u < n)
 unfoldable pub candidates : ℕ → List ℕ → List (List ℕ)
 candidates u o = map (λ v. movedAfter u v o) (clockwiseFrom u o)
 
-module _ (n : ℕ) (adj : List ℕ) (u : ℕ) (o : List ℕ) where
+module _ (n : ℕ) (W : ℕ → ℕ → ℕ) (u : ℕ) (o : List ℕ) where
   unfoldable pub leastCrossings : ℕ
-  leastCrossings = least (λ c. crossings n c adj) (crossings n o adj) (candidates u o)
+  leastCrossings = least (λ c. crossings n c W) (crossings n o W) (candidates u o)
 
   unfoldable pub optima : ℕ
-  optima = countWith (λ c. crossings n c adj) leastCrossings (candidates u o)
+  optima = countWith (λ c. crossings n c W) leastCrossings (candidates u o)
 
   unfoldable pub improves : Bool
-  improves = ltb leastCrossings (crossings n o adj)
+  improves = ltb leastCrossings (crossings n o W)
 
   unfoldable pub siftedOrder : List ℕ
-  siftedOrder = cond improves (firstWith (λ c. eqb (crossings n c adj) leastCrossings) o (candidates u o)) o
+  siftedOrder = cond improves (firstWith (λ c. eqb (crossings n c W) leastCrossings) o (candidates u o)) o
 
   pub sift-stays : improves ≡ false → siftedOrder ≡ o
   unfolding siftedOrder improves leastCrossings
-  sift-stays e = chosen-stays (λ c. crossings n c adj) o (candidates u o) e
+  sift-stays e = chosen-stays (λ c. crossings n c W) o (candidates u o) e
 
 -- c is o with u moved behind another vertex
 pub record Candidate (n u : ℕ) (o c : List ℕ) : Type 0 where
@@ -158,6 +158,11 @@ rearranged-trans l m k p q =
           ∙ carried-carried (l .count) (crossingsOf l) (crossingsOf m) (crossingsOf k);
     }
 
+-- the same edges, the same weights
+pub rearranged-weight : {l m : Layout} → Rearranged l m → weight m ≡ weight l
+unfolding weight
+rearranged-weight p = ap unitWeight (p .same-adjacency)
+
 -- a right count stays right
 pub rearranged-count : {l m : Layout} → T (valid l) → Rearranged l m → CountRight l → CountRight m
 rearranged-count {l} {m} t p e =
@@ -168,7 +173,7 @@ rearranged-count {l} {m} t p e =
 -- any other order
 module _ (l : Layout) (t : T (valid l)) (o : List ℕ) (perm : Permutation (l .n) o) where
   pub reordered-rearranged : Rearranged l (reordered l o)
-  unfolding reordered changed crossingsOf vertexOrder
+  unfolding reordered changed crossingsOf vertexOrder weight
   reordered-rearranged =
       record {
         valid-after = reordered-valid l o t perm;
@@ -180,9 +185,9 @@ module _ (l : Layout) (t : T (valid l)) (o : List ℕ) (perm : Permutation (l .n
 
 -- the order that it has already changes nothing
 reordered-same : (l : Layout) → l .count < modulus → reordered l (vertexOrder l) ≡ l
-unfolding reordered changed crossingsOf vertexOrder
+unfolding reordered changed crossingsOf vertexOrder weight
 reordered-same l h =
-    rw (take-append-drop (l .n) (l .order), carried-same (l .count) (crossings (l .n) (take (l .n) (l .order)) (l .adjacency)) h) refl
+    rw (take-append-drop (l .n) (l .order), carried-same (l .count) (crossings (l .n) (take (l .n) (l .order)) (weight l)) h) refl
 
 -- ---- a layout sifted
 
@@ -199,33 +204,33 @@ module _ (l : Layout) (t : T (valid l)) (u : ℕ) (h : u < l .n) where
   unfolding candidateLayouts candidates
   as-orders = sym (map-map (reordered l) (λ v. movedAfter u v (vertexOrder l)) (clockwiseFrom u (vertexOrder l)))
 
-  as-crossings : All (λ c. crossingsOf (reordered l c) ≡ crossings (l .n) c (l .adjacency)) (candidates u (vertexOrder l))
+  as-crossings : All (λ c. crossingsOf (reordered l c) ≡ crossings (l .n) c (weight l)) (candidates u (vertexOrder l))
   as-crossings =
       all-mono (all-candidates (sound l t .permutation) u h)
       (λ c k. reordered-crossings l c (candidate-permutation (sound l t .permutation) u h k .size))
 
-  least-order : leastCost crossingsOf l (candidateLayouts u l) ≡ leastCrossings (l .n) (l .adjacency) u (vertexOrder l)
+  least-order : leastCost crossingsOf l (candidateLayouts u l) ≡ leastCrossings (l .n) (weight l) u (vertexOrder l)
   unfolding leastCrossings crossingsOf
   least-order =
       ap (λ (cs : List Layout). leastCost crossingsOf l cs) as-orders
-      ∙ least-same (λ c. crossings (l .n) c (l .adjacency)) crossingsOf (reordered l) (crossingsOf l) as-crossings
+      ∙ least-same (λ c. crossings (l .n) c (weight l)) crossingsOf (reordered l) (crossingsOf l) as-crossings
 
   -- its crossings, how many candidates have them, and the layout itself
-  pub sifted-crossings : crossingsOf (sifted l u) ≡ leastCrossings (l .n) (l .adjacency) u (vertexOrder l)
+  pub sifted-crossings : crossingsOf (sifted l u) ≡ leastCrossings (l .n) (weight l) u (vertexOrder l)
   unfolding siftBest
   sifted-crossings = chosen-least crossingsOf l (candidateLayouts u l) ∙ least-order
 
-  pub sifted-optima : optimaOf l u ≡ optima (l .n) (l .adjacency) u (vertexOrder l)
+  pub sifted-optima : optimaOf l u ≡ optima (l .n) (weight l) u (vertexOrder l)
   unfolding bestCandidates optima
   sifted-optima =
       rw (least-order, as-orders)
-      (count-same (λ c. crossings (l .n) c (l .adjacency)) crossingsOf (reordered l)
-      (leastCrossings (l .n) (l .adjacency) u (vertexOrder l)) as-crossings)
+      (count-same (λ c. crossings (l .n) c (weight l)) crossingsOf (reordered l)
+      (leastCrossings (l .n) (weight l) u (vertexOrder l)) as-crossings)
 
-  pub sifted-order : l .count < modulus → sifted l u ≡ reordered l (siftedOrder (l .n) (l .adjacency) u (vertexOrder l))
+  pub sifted-order : l .count < modulus → sifted l u ≡ reordered l (siftedOrder (l .n) (weight l) u (vertexOrder l))
   unfolding siftBest siftedOrder improves leastCrossings
   sifted-order fits =
       ap (λ (cs : List Layout). chosen crossingsOf l cs) as-orders
       ∙ ap (λ (m : Layout). chosen crossingsOf m (map (reordered l) (candidates u (vertexOrder l)))) (sym (reordered-same l fits))
-      ∙ chosen-same (λ c. crossings (l .n) c (l .adjacency)) crossingsOf (reordered l) (vertexOrder l)
+      ∙ chosen-same (λ c. crossings (l .n) c (weight l)) crossingsOf (reordered l) (vertexOrder l)
       (reordered-crossings l (vertexOrder l) (sound l t .permutation .size)) as-crossings

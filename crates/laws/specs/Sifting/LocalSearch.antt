@@ -163,6 +163,9 @@ module _ {A B : Type 0} (f : A → ℕ) (e : B → ℕ) (g : A → B) where
       let same : leastCost e (g p) (map g xs) ≡ leastCost f p xs = ap (λ (d : ℕ). least e d (map g xs)) r ∙ least-same (f p) rs in
       rw (same, r, first-same (leastCost f p xs) p rs) (by-test (better f p xs))
     where
-      by-test : (b : Bool) → cond b (g (firstWith (λ x. eqb (f x) (leastCost f p xs)) p xs)) (g p) ≡ g (cond b (firstWith (λ x. eqb (f x) (leastCost f p xs)) p xs) p)
+      first : A
+      first = firstWith (λ x. eqb (f x) (leastCost f p xs)) p xs
+
+      by-test : (b : Bool) → cond b (g first) (g p) ≡ g (cond b first p)
       by-test true = refl
       by-test false = refl

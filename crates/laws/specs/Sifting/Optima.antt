@@ -1,6 +1,6 @@
 -- How many candidate places of a sifted vertex have the least crossings: what the number says, and that it and its sums are small.
 use Prim.Native.Nat.{ℕ, suc, _-_, _*_, _≤_, _<_}
-use native.Mathlib.Nat.{zero-add, le-trans, mul-le-mul}
+use native.Mathlib.Nat.{zero-add}
 use native.Mathlib.Omega.{arith}
 use mathlib.Core.Path.{_≡_, refl, sym, ap, _∙_}
 use mathlib.Core.Bool.{Bool, true, false, not, _&&_}
@@ -10,12 +10,12 @@ use lib.Dec.{T, eqb}
 use borrow.Author.Tests.{eq-eqb, ne-eqb, eqb-false}
 use Rattle.model.specs.declared.Layout.{Layout}
 use Rattle.model.specs.Lists.{one, upto, sumOver}
-use Rattle.model.specs.Layouts.{vertexOrder, crossingsOf, valid, reordered}
+use Rattle.model.specs.Layouts.{vertexOrder, weight, crossingsOf, valid, reordered}
 use Rattle.model.specs.Edits.{movedAfter, moveOf}
 use Rattle.model.specs.Crossings.{crossings}
 use Rattle.model.specs.Search.{Sift, countWith, siftBest, bestCandidates, siftsOfAll}
 use Rattle.model.specs.Sifting.{sifted, siftOn, optimaOf}
-use Rattle.model.specs.Sifting.{ring, clockwiseFrom, candidateLayouts, optimaAt, optimaIn, siftAll, siftRound, swept, roundsFrom, roundsUpTo, settled}
+use Rattle.model.specs.Sifting.{ring, clockwiseFrom, candidateLayouts, optimaAt, optimaIn, siftRound, swept}
 use Rattle.model.specs.Histories.{placesWith}
 use Rattle.laws.specs.Sums.Lists.{All, all-map, all-mono, all-upto, length-upto, sumOver-ext, sumOver-map, sumOver-most, all-at}
 use Rattle.laws.specs.Orders.Permutations.{at, Permutation, order-sum}
@@ -24,10 +24,10 @@ use Rattle.laws.specs.Orders.Moves.{moved-permutation, moved-again}
 use Rattle.laws.specs.Layouts.Reordering.{move-layout, move-crossings, reordered-order, reordered-crossings}
 use Rattle.laws.specs.Sifting.LocalSearch.{least-stays, chosen-has}
 use Rattle.laws.specs.Sifting.Sweeps.{sift-best, still-below}
-use Rattle.laws.specs.Sifting.Sweeps.{none-less, best-most, best-some, sifts-proper, sifts-length, rounds-follow, rounds-within, rounds-sifts, rounds-length}
-use Rattle.laws.specs.Sifting.Candidates.{clockwise-sum, clockwise-others, clockwise-length, Rearranged, sifted-rearranged}
+use Rattle.laws.specs.Sifting.Sweeps.{none-less, best-most, best-some, sifts-proper, sifts-length}
+use Rattle.laws.specs.Sifting.Candidates.{clockwise-sum, clockwise-others, clockwise-length, Rearranged, sifted-rearranged, rearranged-weight}
 use Rattle.laws.specs.Sifting.Walk.{last-stays}
-use Rattle.laws.specs.Sifting.Rounds.{Valid, ProperSift, to-moves, lawful, proper-sift, proper-rounds}
+use Rattle.laws.specs.Sifting.Rounds.{Valid, ProperSift, to-moves, lawful, proper-sift, siftAll}
 
 module _ {x : Sift Layout} (p : ProperSift x) where
   -- the layout with the vertex moved behind v, and the vertices that it can be moved behind
@@ -88,11 +88,11 @@ module _ {x : Sift Layout} (p : ProperSift x) where
       (ap crossingsOf (List·getD-map behind others last 0)
       ∙ reordered-crossings (x .before) (movedAfter (x .vertex) (at others last) (vertexOrder (x .before)))
       (moved-permutation in-order (x .vertex) (p .vertex-below) (at others last) (other .0) (other .1) .size)
-      ∙ last-stays in-order (x .before .adjacency) (sound (x .before) (p .valid-before) .symmetry) (x .vertex) (p .vertex-below) two)
+      ∙ last-stays in-order (weight (x .before)) (sound (x .before) (p .valid-before) .symmetry) (x .vertex) (p .vertex-below) two)
 
 -- ---- sifted again, a vertex has as many best places: it can be moved to the same ones
 
-same-crossings : {n m : ℕ} {o p adj words : List ℕ} → n ≡ m → o ≡ p → adj ≡ words → crossings n o adj ≡ crossings m p words
+same-crossings : {n m : ℕ} {o p : List ℕ} {W U : ℕ → ℕ → ℕ} → n ≡ m → o ≡ p → W ≡ U → crossings n o W ≡ crossings m p U
 same-crossings a b c = rw (a, b, c) refl
 
 module _ (l : Layout) (t : T (valid l)) (u : ℕ) (h : u < l .n) where
@@ -119,7 +119,7 @@ module _ (l : Layout) (t : T (valid l)) (u : ℕ) (h : u < l .n) where
   same-behind : (v : ℕ) → v < l .n → (u ≡ v → ⊥) → crossingsOf (moveOf (sifted l u) u v .layout) ≡ crossingsOf (moveOf l u v .layout)
   same-behind v m d =
       move-crossings (sifted l u) (rearranged .valid-after) u (still-below ring Valid once) v (rw (rearranged .same-n) m) d
-      ∙ same-crossings (rearranged .same-n) (same-places v) (rearranged .same-adjacency)
+      ∙ same-crossings (rearranged .same-n) (same-places v) (rearranged-weight rearranged)
       ∙ sym (move-crossings l t u h v m d)
 
   -- nothing is left to gain
@@ -167,13 +167,3 @@ module _ (us : List ℕ) (l : Layout) (t : T (valid l)) (below : All (λ u. u < 
 pub round-few : (l : Layout) → T (valid l) → siftRound l .optima ≤ mostOptima
 unfolding siftRound siftsOfAll siftAll
 round-few l t = omega (arith, sifts-few (upto (l .n)) l t (all-upto (l .n)), length-upto (l .n), sound l t .small)
-
-pub rounds-few : (limit : ℕ) (l : Layout) → T (valid l) → roundsUpTo limit l .optima ≤ mostOptima * limit
-unfolding roundsUpTo settled
-rounds-few limit l t =
-    let proper = proper-rounds limit l t in
-    few (length (roundsFrom limit l)) (l .n) (all-few (rounds-sifts ring Valid proper)) (rounds-length ring Valid (rounds-follow ring limit l) proper)
-    (sound l t .small) (rounds-within ring limit l)
-  where
-    few : {told number : ℕ} (rounds n : ℕ) → told ≤ 63 * number → number ≡ rounds * n → n ≤ 64 → rounds ≤ limit → told ≤ mostOptima * limit
-    few rounds n a b c d = le-trans a (rw b (omega (arith, mul-le-mul d c)))

@@ -10,10 +10,10 @@ use Rattle.model.specs.declared.Layout.{Layout}
 use Rattle.model.specs.declared.Changed.{Changed}
 use Rattle.model.specs.declared.Rounded.{Rounded}
 use Rattle.model.specs.Lists.{upto}
-use Rattle.model.specs.Layouts.{vertexOrder, crossingsOf, valid, changed, reordered}
+use Rattle.model.specs.Layouts.{vertexOrder, weight, crossingsOf, valid, changed, reordered}
 use Rattle.model.specs.Edits.{moveOf}
 use Rattle.model.specs.Search.{Sift, Round, siftsOfAll, roundAt, roundBy}
-use Rattle.model.specs.Sifting.{ring, candidateLayouts, siftOn, siftAll, siftRound, roundOn, roundsFrom, roundsUpTo, swept, settled}
+use Rattle.model.specs.Sifting.{ring, candidateLayouts, siftOn, siftsFrom, siftRound, roundOn, roundsFrom, roundsUpTo, swept, settled}
 use Rattle.model.specs.Histories.{BestPlace, LocalMinimum}
 use Rattle.laws.specs.Sums.Lists.{All, all-upto}
 use Rattle.laws.specs.Layouts.Validity.{sound}
@@ -40,7 +40,7 @@ unfolding reordered changed
 reordered-n l o = refl
 
 reordered-twice : (l : Layout) (o p : List ℕ) → length o ≡ l .n → length p ≡ l .n → crossingsOf (reordered (reordered l o) p) ≡ crossingsOf (reordered l p)
-unfolding reordered changed
+unfolding reordered changed weight
 reordered-twice l o p e f = reordered-crossings (reordered l o) p f ∙ sym (reordered-crossings l p f)
 
 reorders : Reorders (λ l. l .n) crossingsOf vertexOrder reordered Valid
@@ -85,6 +85,10 @@ best-sifted {x} p =
     (below, best-place (x .after) (p .candidate .valid-after) (x .vertex) below (sift-best ring Valid p))
 
 -- ---- a round
+
+-- the vertices us sifted one after the other, and what that answers
+unfoldable pub siftAll : List ℕ → Layout → Rounded
+siftAll us l = swept l (siftsFrom us l)
 
 -- what the numbers of sifts one after the other say: the reduction is exact, and each vertex that moves takes at least one crossing away
 pub record Reduced (l : Layout) (r : Rounded) : Type 0 where

@@ -11,7 +11,7 @@ use borrow.Author.Tests.{ltb-true, eqb-true, eqb-false, eq-eqb, ne-eqb}
 use Rattle.model.specs.Lists.{one, upto, sumOver, All, none, also}
 use Rattle.model.specs.Search.{leastCost, Search, Sift, Round, reached, movedIn, lastStill, siftBest, siftMoves, siftAt, bestCandidates, siftsThrough, savedIn}
 use Rattle.model.specs.Search.{roundBy, siftsOfAll, roundAt, roundsWithin, Sweep, no-sift, one-sift, one-round, some-rounds, roundsRun, siftRun}
-use Rattle.model.specs.Histories.{Follow, ended, next, butLast}
+use Rattle.model.specs.Runs.{Follow, ended, next, butLast}
 use Rattle.laws.specs.Sums.Lists.{all-mono, all-map, all-below, all-upto, all-flatMap, length-upto}
 use Rattle.laws.specs.Sifting.LocalSearch.{least-each, count-most, least-counted, chosen-stays, chosen-has, chosen-least}
 
@@ -103,11 +103,6 @@ module _ {S : Type 0} where
   settles-follow (last e) = next ended
   settles-follow (further m q) = next (settles-follow q)
 
-  settles-within : {limit : ℕ} {s t : S} {rs : List (Round S)} {b : Bool} → Settles limit s rs t b → length rs ≤ limit
-  settles-within spent = zero-le
-  settles-within (last e) = suc-le-suc zero-le
-  settles-within (further m q) = suc-le-suc (settles-within q)
-
   settles-limit : {limit : ℕ} {s t : S} {rs : List (Round S)} {b : Bool} → Settles limit s rs t b → b ≡ false
       → (length rs ≡ limit) × All (λ r. 0 < r .moved) rs
   settles-limit spent e = (refl, none)
@@ -121,10 +116,17 @@ module _ {S : Type 0} where
   settles-moved (further {r = r} {rs = rs} m q) = but-last-more (λ (x : Round S). 0 < x .moved) r m rs (settles-moved q)
 
   -- a round that moves something, before others
-  pub still-more : (r : Round S) (rs : List (Round S)) → eqb (r .moved) 0 ≡ false → lastStill (r ∷ rs) ≡ lastStill rs
+  still-more : (r : Round S) (rs : List (Round S)) → eqb (r .moved) 0 ≡ false → lastStill (r ∷ rs) ≡ lastStill rs
   unfolding lastStill
   still-more r [] e = e
   still-more r (q ∷ rs) e = refl
+
+  -- the last of them tells
+  pub still-snoc : (rs : List (Round S)) (r : Round S) → lastStill (rs ++ (r ∷ [])) ≡ eqb (r .moved) 0
+  unfolding lastStill
+  still-snoc [] r = refl
+  still-snoc (q ∷ []) r = refl
+  still-snoc (q ∷ p ∷ rs) r = still-snoc (p ∷ rs) r
 
 positive : (j : ℕ) → (j ≡ 0 → ⊥) → 0 < j
 positive zero d = absurd (d refl)
@@ -176,9 +178,6 @@ module _ {S : Type 0} (k : Search S) where
     pub rounds-moved : All (λ (r : Round S). 0 < r .moved) (butLast (roundsWithin k limit s))
     rounds-moved = settles-moved (settles limit s)
 
-    pub rounds-within : length (roundsWithin k limit s) ≤ limit
-    rounds-within = settles-within (settles limit s)
-
     -- not settled: as many as the limit were run, and each moved a vertex
     pub rounds-spent : lastStill (roundsWithin k limit s) ≡ false
         → (length (roundsWithin k limit s) ≡ limit) × All (λ (r : Round S). 0 < r .moved) (roundsWithin k limit s)
@@ -193,6 +192,9 @@ module _ {S : Type 0} (k : Search S) where
   sweptTo s (one-sift u) = siftBest k s u
   sweptTo s one-round = roundAt k s .after
   sweptTo s (some-rounds limit) = lastReached k limit s
+
+  abbrev pub siftsOfRounds : List (Round S) → List (Sift S)
+  siftsOfRounds rs = flatMap (λ (r : Round S). siftsOfAll k (r .before)) rs
 
   -- is what it names a vertex?
   unfoldable pub Names : S → Sweep → Type 0
@@ -320,20 +322,17 @@ module _ {S : Type 0} (k : Search S) (Valid : S → Type 0) where
         u (rw round-size at h)
 
   -- the sifts of rounds that follow one another: they follow too, are proper, and n for each
-  abbrev pub siftsOfRounds : List (Round S) → List (Sift S)
-  siftsOfRounds rs = flatMap (λ (r : Round S). siftsOfAll k (r .before)) rs
-
-  pub rounds-chain : {s t : S} {rs : List (Round S)} → RoundChain s rs t → All Rounds rs → Chain k s (siftsOfRounds rs) t
+  pub rounds-chain : {s t : S} {rs : List (Round S)} → RoundChain s rs t → All Rounds rs → Chain k s (siftsOfRounds k rs) t
   rounds-chain q ps = follow-flat (λ (r : Round S). siftsOfAll k (r .before)) q (all-mono ps (λ r p. p .chain))
 
-  pub rounds-sifts : {rs : List (Round S)} → All Rounds rs → All Sifts (siftsOfRounds rs)
+  pub rounds-sifts : {rs : List (Round S)} → All Rounds rs → All Sifts (siftsOfRounds k rs)
   rounds-sifts ps = all-flatMap (λ (r : Round S). siftsOfAll k (r .before)) ps (λ r p. p .sifts)
 
-  pub rounds-length : {s t : S} {rs : List (Round S)} → RoundChain s rs t → All Rounds rs → length (siftsOfRounds rs) ≡ length rs * k .size s
+  pub rounds-length : {s t : S} {rs : List (Round S)} → RoundChain s rs t → All Rounds rs → length (siftsOfRounds k rs) ≡ length rs * k .size s
   unfolding flatMap
   rounds-length ended none = omega arith
   rounds-length (next {x = r} {xs = rs} q) (also p ps) =
-      length-append (siftsOfAll k (r .before)) (siftsOfRounds rs)
+      length-append (siftsOfAll k (r .before)) (siftsOfRounds k rs)
       ∙ rw (rounds-length q ps, round-size p, round-length p) (omega arith)
 
   settles-minimum : {limit : ℕ} {s t : S} {rs : List (Round S)} {b : Bool} → Settles limit s rs t b → All Rounds rs → b ≡ true → Minimum t
@@ -347,7 +346,7 @@ module _ {S : Type 0} (k : Search S) (Valid : S → Type 0) where
     pub rounds : All Rounds (roundsRun k s w)
     pub follow : RoundChain s (roundsRun k s w) (reached (λ r. r .after) s (roundsRun k s w))
     pub moved : All (λ (r : Round S). 0 < r .moved) (butLast (roundsRun k s w))
-    pub lead : Chain k s (siftRun k s w ++ siftsOfRounds (roundsRun k s w)) (sweptTo k s w)
+    pub lead : Chain k s (siftRun k s w ++ siftsOfRounds k (roundsRun k s w)) (sweptTo k s w)
 
   pub nothing-swept : (s : S) → SweepFacts s no-sift
   unfolding roundsRun siftRun sweptTo reached butLast flatMap

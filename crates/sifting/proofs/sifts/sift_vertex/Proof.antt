@@ -2,7 +2,7 @@ use borrow.Author.Needs.{needs}
 use Prim.Native.Nat.{_-_, _≤_, _<_}
 use native.Mathlib.Omega.{arith}
 use mathlib.Core.Path.{_≡_, sym, _∙_}
-use Rattle.model.specs.Layouts.{vertexOrder, crossingsOf, modulus}
+use Rattle.model.specs.Layouts.{vertexOrder, weight, crossingsOf, modulus}
 use Rattle.model.specs.Sifting.{sifted, reduction}
 use Rattle.laws.specs.Layouts.Recount.{drawn}
 use Rattle.laws.specs.Sifting.Candidates.{sifted-optima}
@@ -20,7 +20,7 @@ fits s = search needs
 
 -- what the walk finds
 found : (c : tie.After-best-order) → let s = start c .args in Found (s .l .n) (s .l .order) (s .l .adjacency) (s .u) (c .best-order .result)
-unfolding crossingsOf vertexOrder
+unfolding crossingsOf vertexOrder weight
 found c =
     let s = start c in
     c .best-order .ensures (record { size = search needs; drawn = drawn (s .args .l) (s .pre .0); vertex = s .pre .1 }) (s .pre .2)
@@ -30,7 +30,7 @@ saves : (c : tie.After-best-order)
     → let s = start c .args in
     let after = c .best-order .result .after in
     (after ≤ s .before) × (s .before - after ≡ reduction (s .l) (sifted (s .l) (s .u)))
-unfolding vertexOrder
+unfolding vertexOrder weight
 saves c =
     let s = start c .args in
     let ready = start c .pre in
@@ -46,7 +46,7 @@ sub-reduction : tie.Need-sub-reduction
 sub-reduction c = omega (arith, saves (c .before) .0)
 
 returns : tie.Need-returns
-unfolding crossingsOf vertexOrder
+unfolding crossingsOf vertexOrder weight
 returns c =
     let walked = c .before .before in
     let s = start walked .args in
