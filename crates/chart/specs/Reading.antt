@@ -22,13 +22,14 @@ use Rattle.model.specs.Charts.{endChecks, repeatChecks, placeChecks}
 use Rattle.laws.specs.Sums.Lists.{none, also}
 use Rattle.laws.specs.Sums.Indicators.{both-left, both-right}
 use Rattle.laws.specs.Layouts.Refusals.{Numbered, all-pass}
-use Rattle.pairs.specs.Edges.{within-mono}
-use Rattle.bodies.specs.Words.{adjacencyOf, wrapped, wrapped-checks, wordsOver, words-once}
+use Rattle.laws.specs.Charts.Ends.{within-mono}
+use Rattle.laws.specs.Charts.Words.{adjacencyOf}
+use Rattle.bodies.specs.Words.{wrapped, wrapped-checks, wordsOver, words-once}
 use Rattle.bodies.specs.Order.{orderQuestion, question-eight}
-use Rattle.readers.specs.Padded.{padded, padded-copy}
-use Rattle.readers.specs.Layouts.{Accepted, count-read}
-use Rattle.readers.specs.Passes.{refusedRead, acceptedRead, countedLayout, answer-accepted, pass-accepted, pass-refused, asked-passed, asked-on, asked-back}
-use Rattle.readers.specs.Passes.{last-passes, second-passes, same-checked}
+use Rattle.laws.specs.Charts.Padded.{padded, padded-copy}
+use Rattle.laws.specs.Charts.Layouts.{Accepted, count-read}
+use Rattle.laws.specs.Charts.Passes.{refusedRead, acceptedRead, countedLayout, answer-accepted, pass-accepted, pass-refused, asked-passed, asked-on, asked-back}
+use Rattle.laws.specs.Charts.Passes.{last-passes, second-passes, same-checked}
 
 -- the code of a refusal is handed back
 pub bodies-number : {k code : ℕ} {r : BodiesFound} → r ≡ bodies.Refused k → code ≡ bodiesFound r .code → refusedRead code ≡ refusedRead k

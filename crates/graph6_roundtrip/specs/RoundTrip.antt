@@ -23,13 +23,13 @@ use Rattle.laws.specs.Buffers.Formats.{write-accepted, write-accepts, written-f
 use Rattle.laws.specs.Graph6.Packing.{packedIn, packedIn-same, unpacked-length, unpacked-bits}
 use Rattle.laws.specs.Graph6.Pairs.{chosen-ext, pairBits-bits, pairBits-length}
 use Rattle.laws.specs.Graph6.Sizes.{size-starts, starts-with, size-found}
-use Rattle.bodies.specs.Words.{adjacencyOf}
-use Rattle.readers.specs.Padded.{padded}
-use Rattle.readers.specs.Passes.{acceptedRead}
-use Rattle.readers.specs.Graph6.{Graph6, all-asked, import-number, import-is, imported-graph6, imported-valid}
-use Rattle.chart.specs.Laws.{same-words}
-use Rattle.chart.specs.Sequence.{same-member}
-use Rattle.roundtrip.specs.EdgeLists.{edges-words}
+use Rattle.laws.specs.Charts.Words.{adjacencyOf}
+use Rattle.laws.specs.Charts.Padded.{padded}
+use Rattle.laws.specs.Charts.Passes.{acceptedRead}
+use Rattle.laws.specs.Graph6.Imports.{Graph6, all-asked, import-number, import-is, imported-graph6, imported-valid}
+use Rattle.laws.specs.Charts.Reading.{same-words}
+use Rattle.laws.specs.Charts.Sequence.{same-member}
+use Rattle.laws.specs.Charts.EdgeLists.{edges-words}
 use Rattle.graph6_roundtrip.specs.Bits.{Six, all-six, six-all, unset-from, unpadded, unpacked-packed, packed-unpacked}
 use Rattle.graph6_roundtrip.specs.Edges.{own-chosen, own-edges, chosen-bits}
 use Rattle.graph6_roundtrip.specs.Exports.{bitBytes, export-parts, bit-bytes-length, bit-bytes-six}

@@ -27,12 +27,12 @@ use Rattle.laws.specs.Layouts.Reordering.{Keeps, move-refused, move-keeps}
 use Rattle.laws.specs.Layouts.EditCalls.{add-refused, add-keeps, link-refused, link-keeps, unlink-refused, unlink-keeps}
 use Rattle.laws.specs.Append.Calls.{lay-refused, lay-keeps}
 use Rattle.laws.specs.Layouts.Sizes.{Sized, empty-sized, add-sized, link-sized, unlink-sized, move-sized}
-use Rattle.chart.specs.Laws.{read-sized}
+use Rattle.laws.specs.Charts.Reading.{read-sized}
 use Rattle.laws.specs.Append.Calls.{lay-sized}
 use Rattle.laws.specs.Sifting.Calls.{sift-sized, round-sized}
 use Rattle.laws.specs.Sifting.Calls.{settle-sized}
-use Rattle.readers.specs.Graph6.{imported-valid, imported-sized}
-use Rattle.chart.specs.Laws.{empty-valid, empty-count, read-valid}
+use Rattle.laws.specs.Graph6.Imports.{imported-valid, imported-sized}
+use Rattle.laws.specs.Charts.Reading.{empty-valid, empty-count, read-valid}
 
 -- what an accepted call gives
 pub record CallFacts (l : Layout) (c : Call) : Type 0 where

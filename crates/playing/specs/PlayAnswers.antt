@@ -19,9 +19,9 @@ use Rattle.model.specs.Runs.{stepsFrom, playedFrom}
 use Rattle.model.specs.Histories.{Start, empty, read, imported, played}
 use Rattle.model.specs.Playing.{callsOf, answerWidth, answersOf, startOf, playChecks, playedCalls, playOf, tableOf}
 use Rattle.laws.specs.Layouts.Refusals.{when-accepted, when-refused}
-use Rattle.readers.specs.Passes.{refusedRead}
-use Rattle.readers.specs.Graph6.{import-refused}
-use Rattle.chart.specs.Laws.{read-refused}
+use Rattle.laws.specs.Charts.Passes.{refusedRead}
+use Rattle.laws.specs.Graph6.Imports.{import-refused}
+use Rattle.laws.specs.Charts.Reading.{read-refused}
 use Rattle.history.specs.Demand3.{Demand3, demand-3}
 
 -- what comes back and the table are those of the definition

@@ -23,12 +23,12 @@ use Rattle.laws.specs.Layouts.Validity.{permutation-eachOnce}
 use Rattle.laws.specs.Crossings.Bound.{mostEdges}
 use Rattle.laws.specs.Buffers.EdgeBytes.{edge-bytes-length}
 use Rattle.laws.specs.Buffers.Charts.{chartWith, chart-length}
-use Rattle.bodies.specs.Words.{adjacencyOf}
-use Rattle.readers.specs.Padded.{padded}
-use Rattle.chart.specs.Laws.{read-number, read-is}
+use Rattle.laws.specs.Charts.Words.{adjacencyOf}
+use Rattle.laws.specs.Charts.Padded.{padded}
+use Rattle.laws.specs.Charts.Reading.{read-number, read-is}
 use Rattle.roundtrip.specs.Fields.{fieldOf, field-bytes, allBytes, fields-read}
 use Rattle.laws.specs.Crossings.Edges.{edge-rises, edge-below}
-use Rattle.roundtrip.specs.EdgeLists.{edge-bytes-all, edge-bytes-read}
+use Rattle.laws.specs.Charts.EdgeLists.{edge-bytes-all, edge-bytes-read}
 
 -- the three fields
 abbrev fieldsWith : ℕ → List Edge → List ℕ → List Field

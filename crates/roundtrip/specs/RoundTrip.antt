@@ -24,11 +24,11 @@ pub use Rattle.laws.specs.Buffers.Charts.{chart-size}
 use Rattle.laws.specs.Buffers.Formats.{write-accepted, written-front}
 use Rattle.laws.specs.Layouts.Sizes.{Sized}
 use Rattle.laws.specs.Layouts.Validity.{sound, words-symmetric}
-use Rattle.readers.specs.Padded.{padded, padded-length, padded-at}
-use Rattle.chart.specs.Laws.{read-valid, read-sized, same-charts}
-use Rattle.chart.specs.Sequence.{Rewritten, rewriting-free}
+use Rattle.laws.specs.Charts.Padded.{padded, padded-length, padded-at}
+use Rattle.laws.specs.Charts.Reading.{read-valid, read-sized, same-charts}
+use Rattle.laws.specs.Charts.Sequence.{Rewritten, rewriting-free}
 use Rattle.laws.specs.Crossings.Edges.{edges-within}
-use Rattle.roundtrip.specs.EdgeLists.{edges-once, edges-words}
+use Rattle.laws.specs.Charts.EdgeLists.{edges-once, edges-words}
 use Rattle.roundtrip.specs.Listings.{Proper, chart-bytes, chart-read}
 
 -- a list that is 0 from place n on is its first n entries, filled up with 0

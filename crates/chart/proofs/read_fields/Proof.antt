@@ -2,7 +2,7 @@ use borrow.Author.Needs.{needs}
 use mathlib.Core.Path.{_≡_, ap, ap₂, _∙_}
 use Rattle.model.specs.Charts.{bodyOf, sizeFound, sizeAnswer}
 use Rattle.passes.specs.Fields.{size-part, links-part, order-part}
-use Rattle.readers.specs.Passes.{size-number}
+use Rattle.laws.specs.Charts.Passes.{size-number}
 use Rattle.chart.specs.Reading.{readBodies, SizeRead, size-read, read-missized}
 use Rattle.chart.proofs.read_fields.Statement.{statement}
 use Rattle.chart.proofs.read_fields.Tie as tie

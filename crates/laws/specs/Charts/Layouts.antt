@@ -14,13 +14,13 @@ use Rattle.model.specs.Lists.{one, every, any}
 use Rattle.model.specs.Crossings.{linked, crossings, unitWeight}
 use Rattle.model.specs.Layouts.{vertexOrder, weight, crossingsOf, eachOnce, valid}
 use Rattle.model.specs.Charts.{edgeWithin, joins, layoutWith}
 use Rattle.laws.specs.Orders.Permutations.{Permutation}
 use Rattle.laws.specs.Sums.Pairs.{Symmetric}
 use Rattle.laws.specs.Layouts.Validity.{each-once, sound-valid}
 use Rattle.laws.specs.Layouts.Recount.{Drawn, counted, counted-crossings}
-use Rattle.pairs.specs.Edges.{Ends, joins-none, joins-swap}
-use Rattle.bodies.specs.Words.{wordOf-below, adjacencyOf, adjacency-at, adjacency-linked}
-use Rattle.readers.specs.Padded.{padded, padded-length, padded-at}
+use Rattle.laws.specs.Charts.Ends.{Ends, joins-none, joins-swap}
+use Rattle.laws.specs.Charts.Words.{wordOf-below, adjacencyOf, adjacency-at, adjacency-linked}
+use Rattle.laws.specs.Charts.Padded.{padded, padded-length, padded-at}
 
 -- edges whose ends are below n, and an order that holds each vertex once
 pub record Accepted (n : ℕ) (es : List Edge) (o : List ℕ) : Type 0 where

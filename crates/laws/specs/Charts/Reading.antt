@@ -15,15 +15,15 @@ use Rattle.model.specs.Layouts.{emptyLayout, vertexOrder, crossingsOf, eachOnce
 use Rattle.model.specs.Checks.{refusal}
 use Rattle.model.specs.Charts.{bodyOf, chartSize, chartEdges, chartOrder, sameEdge, joins, chartChecks, sizeChecks, endChecks, repeatChecks, placeChecks}
 use Rattle.model.specs.Charts.{chartLayout, readOf}
 use Rattle.laws.specs.Sums.Lists.{All, none, also}
 use Rattle.laws.specs.Layouts.Sizes.{Sized}
 use Rattle.laws.specs.Layouts.Refusals.{Numbered, all-pass}
 use Rattle.laws.specs.Sums.Indicators.{both-left, both-right, eqb-swap}
-use Rattle.pairs.specs.Edges.{edge}
-use Rattle.bodies.specs.Words.{adjacencyOf, adjacency-length, adjacency-bit, adjacency-lt, adjacency-ext}
-use Rattle.readers.specs.Padded.{padded-length}
-use Rattle.readers.specs.Layouts.{Accepted, valid-read, count-true}
-use Rattle.readers.specs.Passes.{acceptedRead, refusedRead, read-as-number, read-as-accepted, read-as-refused, read-as-sized}
+use Rattle.laws.specs.Charts.Ends.{edge}
+use Rattle.laws.specs.Charts.Words.{adjacencyOf, adjacency-length, adjacency-bit, adjacency-lt, adjacency-ext}
+use Rattle.laws.specs.Charts.Padded.{padded-length}
+use Rattle.laws.specs.Charts.Layouts.{Accepted, valid-read, count-true}
+use Rattle.laws.specs.Charts.Passes.{acceptedRead, refusedRead, read-as-number, read-as-accepted, read-as-refused, read-as-sized}
 
 -- ---- an accepted chart
 

@@ -15,17 +15,17 @@ use Rattle.model.specs.Lists.{one, any, noRepeats}
 use Rattle.model.specs.Crossings.{bit, linked, edges, unitWeight}
 use Rattle.model.specs.Charts.{edgesIn, sameEdge, edgeWithin}
 use Rattle.model.specs.WrittenCharts.{edgeBytes}
 use Rattle.laws.specs.Sums.Indicators.{Order, less, same, more, order, one-and, one-le, one-lt, one-ge, one-ne}
 use Rattle.laws.specs.Sums.Ranges.{sum, sum-ext, sum-zero, sum-at}
 use Rattle.laws.specs.Sums.Lists.{All, none, also, all-flatMap}
 use Rattle.laws.specs.Sums.Pairs.{pairSum, Symmetric}
 use Rattle.laws.specs.Sums.Bits.{bit-beyond}
 use Rattle.laws.specs.Crossings.Edges.{edge as rising, sumOver-edges}
 use Rattle.laws.specs.Crossings.Masks.{weight-bit}
-use Rattle.pairs.specs.Edges.{edge, edge-within, edge-outside}
-use Rattle.bodies.specs.Words.{adjacencyOf, adjacency-ext}
-use Rattle.chart.specs.Laws.{joins-member}
-use Rattle.chart.specs.Sequence.{written, written-any, few-once}
+use Rattle.laws.specs.Charts.Ends.{edge, edge-within, edge-outside}
+use Rattle.laws.specs.Charts.Words.{adjacencyOf, adjacency-ext}
+use Rattle.laws.specs.Charts.Reading.{joins-member}
+use Rattle.laws.specs.Charts.Sequence.{written, written-any, few-once}
 
 -- ---- the bytes of some edges
 
