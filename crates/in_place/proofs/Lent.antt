@@ -46,7 +46,7 @@ use Rattle.in_place.proofs.Passed.{Passed, Values, Fit, outers, inners,
 use Rattle.in_place.proofs.Passed.{lasts, fits, handed, had, goes, lends, beyond, from-at, alloc-all, pass-all, free-all, with-head, read-all}
 use Rattle.in_place.proofs.Callee.{mach, callee, callee-clauses, Callee, Answered, answers, with-layout, to-g-layout, asks-layout}
 use Rattle.in_place.proofs.Answers.{answer-ty, field-in, Answer}
-pub use Rattle.in_place.proofs.Passed.{numbers, bytes}
+pub use Rattle.in_place.proofs.Passed.{numbers}
 use Rattle.in_place.proofs.OneCall.{Walk}
 pub use Rattle.in_place.proofs.OneCall.{calling}
 
