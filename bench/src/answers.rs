@@ -48,7 +48,7 @@ const CHARTS: usize = 2000;
 const GRAPH6S: usize = 2000;
 const LISTINGS: usize = 20;
 
-/// A call that writes a layout, and what reads it back over another one, on both
+/// A call that writes a layout, and what reads it back into another one, on both
 /// sides.
 struct Writing {
     name: &'static str,
@@ -252,7 +252,7 @@ impl Comparison {
     }
 
     /// What a call writes, in buffers as long as it is, shorter and longer, and
-    /// read back over another layout.
+    /// read back into another layout.
     fn written_by(&mut self, writing: Writing, l: Layout, exact: usize) -> Outcome {
         let shorter = self.random.below(exact);
         let lent = &fields(&l);
@@ -376,8 +376,8 @@ impl Comparison {
         graph6(&self.layout(most))
     }
 
-    /// Charts as they are, and with bytes changed, left out and added, read over
-    /// a layout, which stays if the chart is refused.
+    /// Charts as they are, and with bytes changed, left out and added, read into
+    /// a layout, which is the empty one if the chart is refused.
     fn charts(&mut self) -> Outcome {
         let there = self.random.layout(7, 10);
         for _ in 0..CHARTS {
@@ -391,8 +391,8 @@ impl Comparison {
     }
 
     /// Graph6 of any layout and of the longest, as they are, and with bytes
-    /// changed, left out and added, imported over a layout, which stays if the
-    /// graph6 is refused.
+    /// changed, left out and added, imported into a layout, which is the empty
+    /// one if the graph6 is refused.
     fn graph6s(&mut self) -> Outcome {
         let there = self.random.layout(7, 10);
         for number in 0..GRAPH6S {

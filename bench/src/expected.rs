@@ -1,5 +1,5 @@
 //! What the second program has in another form than the library: a chart or
-//! graph6 read over a layout, also one that was just written, a listing in a lent
+//! graph6 read into a layout, also one that was just written, a listing in a lent
 //! buffer, a list of calls.
 
 use rostulanda::ffi::ANSWER_NUMBERS;
@@ -25,35 +25,33 @@ type Row = [u64; ANSWER_NUMBERS];
 /// The least buffer for a listing.
 pub const LISTING_BYTES: usize = 1024;
 
-/// The layout of a chart, or the one that is there if the chart is refused.
-pub fn read_chart(l: Layout, bytes: &[u8]) -> Answer<()> {
-    read_over(l, chart::read(bytes))
+/// The layout of a chart, or the empty one if the chart is refused. The layout
+/// that it is read into plays no part.
+pub fn read_chart(_: Layout, bytes: &[u8]) -> Answer<()> {
+    answer(chart::read(bytes))
 }
 
-/// The layout of a graph6, or the one that is there if the graph6 is refused.
-pub fn import_graph6(l: Layout, bytes: &[u8]) -> Answer<()> {
-    read_over(l, graph6::read(bytes))
+/// The layout of a graph6, or the empty one if the graph6 is refused. The layout
+/// that it is imported into plays no part.
+pub fn import_graph6(_: Layout, bytes: &[u8]) -> Answer<()> {
+    answer(graph6::read(bytes))
 }
 
-fn read_over(l: Layout, read: Result<Layout, u8>) -> Answer<()> {
-    let (refusal, layout) = match read {
-        Ok(layout) => (0, layout),
-        Err(refusal) => (refusal, l),
-    };
+fn answer(read: Result<Layout, u8>) -> Answer<()> {
     Answer {
-        refusal,
-        layout,
+        refusal: read.err().unwrap_or(0),
+        layout: read.unwrap_or(Layout::EMPTY),
         value: (),
     }
 }
 
-/// Writes a chart, and reads it over another layout.
+/// Writes a chart, and reads it into another layout.
 pub fn write_and_read(l: Layout, buffer: &mut [u8], other: Layout) -> Answer<()> {
     let length = calls::write_chart(l, buffer).value;
     read_chart(other, &buffer[..length])
 }
 
-/// Exports a graph6, and imports it over another layout.
+/// Exports a graph6, and imports it into another layout.
 pub fn export_and_import(l: Layout, buffer: &mut [u8], other: Layout) -> Answer<()> {
     let length = calls::write_graph6(l, buffer).value;
     import_graph6(other, &buffer[..length])

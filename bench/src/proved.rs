@@ -135,7 +135,7 @@ pub fn write_chart(l: &Fields, buffer: &mut [u8]) -> Left<ffi::Written> {
     lend(l, |l| ffi::write_chart(l, buffer))
 }
 
-/// Writes a chart, and reads it over another layout.
+/// Writes a chart, and reads it into another layout.
 pub fn write_and_read(l: &Fields, buffer: &mut [u8], other: &Fields) -> Left<u8> {
     let length = write_chart(l, buffer).report.length;
     read_chart(other, &buffer[..length])
@@ -145,7 +145,7 @@ pub fn export_graph6(l: &Fields, buffer: &mut [u8]) -> Left<ffi::Written> {
     lend(l, |l| ffi::export_graph6(l, buffer))
 }
 
-/// Exports a graph6, and imports it over another layout.
+/// Exports a graph6, and imports it into another layout.
 pub fn export_and_import(l: &Fields, buffer: &mut [u8], other: &Fields) -> Left<u8> {
     let length = export_graph6(l, buffer).report.length;
     import_graph6(other, &buffer[..length])

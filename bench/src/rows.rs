@@ -99,7 +99,7 @@ impl Rows<'_> {
         Ok(())
     }
 
-    /// Bytes read over the empty layout.
+    /// Bytes read into the empty layout.
     fn reading<P: Told>(
         &mut self,
         name: &str,
@@ -241,7 +241,7 @@ fn charts(rows: &mut Rows) -> Outcome {
     )
 }
 
-/// Charts written, and read back over the empty layout.
+/// Charts written, and read back into the empty layout.
 fn written_charts(rows: &mut Rows) -> Outcome {
     let empty = fields(&Layout::EMPTY);
     let layouts = [1000, 2016].map(|edges| (edges, layout(64, edges)));

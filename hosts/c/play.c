@@ -116,13 +116,12 @@ static void print_bytes(const uint8_t *bytes, size_t length)
         printf(" %u", bytes[i]);
 }
 
-/* Starts from a chart or graph6, and from the empty layout if that is refused. */
+/* Starts from a chart or graph6. Refused, the call leaves the empty layout. */
 static bool play_start(rl_layout *l, list *rest, uint64_t length, const char *name, reader *read)
 {
     const uint8_t *bytes = take_bytes(rest, length);
     if (bytes == NULL)
         return false;
-    *l = rl_empty();
     printf("%s %u", name, read(l, bytes, length));
     return true;
 }

@@ -12,7 +12,9 @@
  *
  * - A call answers a refusal code, RL_ACCEPTED or the first question that was
  *   answered "no". A refused call leaves the layout and every lent buffer or
- *   table as they came; its other numbers are 0 and its bools false.
+ *   table as they came; its other numbers are 0 and its bools false. Only a
+ *   refused rl_read_chart or rl_import_graph6 leaves the empty layout: a host
+ *   that is to keep the one that it has reads into another.
  * - Every pointer is non-NULL and aligned for its type, also where the length
  *   beside it is 0. A length counts elements, not bytes.
  * - Two things lent to one call do not overlap.
@@ -276,11 +278,13 @@ RL_AT(rl_played, calls, 600);
 /* The layout without vertices. */
 rl_layout rl_empty(void);
 
-/* Reads a chart, and its true crossings with it. Refused: 1 to 8. */
+/* Reads a chart, and its true crossings with it. Whatever the layout held is
+ * gone. Refused: 1 to 8; the layout is then the empty one. */
 uint8_t rl_read_chart(rl_layout *l, const uint8_t *chart, size_t length);
 
 /* Imports a graph in graph6, one without header or line end: the order 0, 1, 2
- * and so on, and its true crossings (document 02, Note 4). Refused: 20, 21, 22. */
+ * and so on, and its true crossings (document 02, Note 4). Whatever the layout
+ * held is gone. Refused: 20, 21, 22; the layout is then the empty one. */
 uint8_t rl_import_graph6(rl_layout *l, const uint8_t *graph6, size_t length);
 
 /* ---- calls that change a layout; each asks first whether it is valid (11) ---- */

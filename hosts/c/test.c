@@ -56,17 +56,18 @@ static void starts(void)
 
     rl_layout l = first();
     HOLDS(l.n == 4 && l.count == 1 && l.adjacency[0] == 4 && l.adjacency[3] == 2);
-    rl_layout before = l;
-    HOLDS(rl_read_chart(&l, chart, sizeof chart - 1) == RL_CHART_FIELDS);
-    HOLDS(same(&l, &before));
-    HOLDS(rl_read_chart(&l, chart, 0) == RL_CHART_TAGS);
+    HOLDS(rl_read_chart(&l, chart, sizeof chart - 1) == RL_CHART_FIELDS && same(&l, &empty));
+    l = first();
+    HOLDS(rl_read_chart(&l, chart, 0) == RL_CHART_TAGS && same(&l, &empty));
     static const uint8_t too_long[RL_CHART_BYTES + 1];
-    HOLDS(rl_read_chart(&l, too_long, sizeof too_long) == RL_CHART_TOO_LONG);
-    HOLDS(rl_read_chart(&l, too_long, sizeof too_long - 1) != RL_CHART_TOO_LONG);
-    HOLDS(same(&l, &before));
+    l = first();
+    l.count = 77;
+    HOLDS(rl_read_chart(&l, too_long, sizeof too_long) == RL_CHART_TOO_LONG && same(&l, &empty));
+    memset(&l, 0xFF, sizeof l);
+    HOLDS(rl_read_chart(&l, too_long, sizeof too_long - 1) == RL_CHART_FIELDS && same(&l, &empty));
 }
 
-/* A graph6 over a layout, whatever that held. */
+/* A graph6 into a layout, whatever that held. */
 static void imports(void)
 {
     rl_layout due = first();
@@ -82,7 +83,7 @@ static void imports(void)
     HOLDS(rl_import_graph6(&l, (const uint8_t *)"@", 1) == RL_ACCEPTED && same(&l, &due));
 }
 
-/* Graph6 of each refusal; the layout stays as it came. */
+/* Graph6 of each refusal; the layout is then the empty one, whatever it held. */
 static void refused_imports(void)
 {
     static const struct {
@@ -103,12 +104,15 @@ static void refused_imports(void)
         {"B@", RL_GRAPH6_PADDING}, {"B~", RL_GRAPH6_PADDING}, {"A`", RL_GRAPH6_PADDING},
         {"D?A", RL_GRAPH6_PADDING},
     };
-    rl_layout l = first();
-    rl_layout before = l;
+    rl_layout empty = rl_empty();
     for (size_t i = 0; i < sizeof due / sizeof *due; i++) {
         const uint8_t *bytes = (const uint8_t *)due[i].graph6;
+        rl_layout l = first();
         HOLDS(rl_import_graph6(&l, bytes, strlen(due[i].graph6)) == due[i].refusal);
-        HOLDS(same(&l, &before));
+        HOLDS(same(&l, &empty));
+        memset(&l, 0xFF, sizeof l);
+        HOLDS(rl_import_graph6(&l, bytes, strlen(due[i].graph6)) == due[i].refusal);
+        HOLDS(same(&l, &empty));
     }
 }
 
@@ -217,7 +221,7 @@ static void writes_into(rl_written (*write)(const rl_layout *, uint8_t *, size_t
 }
 
 /* A chart written by rl_write_chart: its bytes, whatever the carried count, and
- * the layout that reading them over another one gives. */
+ * the layout that reading them into another one gives. */
 static void writes(void)
 {
     /* Edges in any sequence and either way round, and as they are written. */

@@ -417,17 +417,19 @@ class Layout:
     # calls that change the layout
 
     def read_chart(self, chart: bytes) -> None:
-        """Reads a chart into this layout; a refused one leaves it as it was."""
+        """Reads a chart and takes its layout over; a refused one leaves this layout as it was."""
         self._read(_library.rl_read_chart, chart)
 
     def import_graph6(self, graph6: bytes) -> None:
-        """Imports a graph6 into this layout; a refused one leaves it as it was."""
+        """Imports a graph6 and takes its layout over; a refused one leaves this layout as it was."""
         self._read(_library.rl_import_graph6, graph6)
 
     def _read(self, call: Callable[..., int], given: bytes) -> None:
-        """Makes a call that reads a layout from bytes."""
+        """Makes a call that reads a layout from bytes, lent a new one: a refused call leaves the empty layout there."""
         held = _bytes(given)
-        _accept(call(self.fields, held, len(held)))
+        read = Fields()
+        _accept(call(read, held, len(held)))
+        ctypes.pointer(self.fields)[0] = read
 
     def add_vertex(self) -> int:
         """Adds a vertex without edges at the end of the order (document 01: add).

@@ -59,6 +59,15 @@ class LayoutTest(unittest.TestCase):
             layout.read_chart(5)
         self.assertEqual(layout, Layout.from_chart(CHART))
 
+    def test_a_chart_is_read_into_the_same_fields(self):
+        layout = Layout.from_edges([(0, 1), (1, 2)])
+        fields = layout.fields
+        layout.read_chart(CHART)
+        self.assertEqual(layout, Layout.from_chart(CHART))
+        self.assertIs(layout.fields, fields)
+        self.refuses(Refusal.CHART_TAGS, layout.read_chart, b"")
+        self.assertEqual(fields.n, 4)
+
     def test_edits(self):
         layout = Layout.from_chart(CHART)
         self.assertEqual(layout.add_vertex(), 4)

@@ -40,7 +40,7 @@ use Rattle.model.proofs.Layout as L
 use Rattle.model.proofs.Layout.Laws as L′
 use Rattle.in_place.proofs.Passed.{Passed, Values, Fit, outers, inners, stays, locals, past, copies, spells, tellss, machine, overs, within}
 use Rattle.in_place.proofs.Passed.{lasts, fits, handed, had, goes, lends, beyond, from-at, alloc-all, pass-all, free-all, with-head, read-all}
-use Rattle.in_place.proofs.Callee.{mach, callee, callee-clauses, Callee, to-g, told, asks, Answered, answers}
+use Rattle.in_place.proofs.Callee.{mach, callee, callee-clauses, Callee, Answered, answers, with-layout, to-g-layout, asks-layout}
 use Rattle.in_place.proofs.Answers.{Result}
 pub use Rattle.in_place.proofs.Passed.{numbers, bytes}
 use Rattle.in_place.proofs.OneCall.{Walk}
@@ -85,6 +85,9 @@ module _ {N : RattleType} (Re : Result N) {m : ℕ} (ps : List (Passed m)) (F : 
   abbrev clauses : {M : Type 1} (𝓤 : URA M) → Clauses 𝓤 ended
   clauses 𝓤 κs a = record { ghost = Unit {0}; requires = λ _. emp 𝓤; ensures = λ _ r e. fact 𝓤 (r ≡ F (a .0 .now) (κs .1) (overs κs ps (a .1))) }
 
+  abbrev F′ : (κs : Lfts m) → Denots (typesAt (with-layout ps) κs) → N .Denot
+  F′ κs x = F (x .0) κs (x .1)
+
   -- the layout that is passed is the local behind the parameters
   abbrev passed : ℕ
   passed = suc (suc (past ps 0))
@@ -119,14 +122,15 @@ module _ {N : RattleType} (Re : Result N) {m : ℕ} (ps : List (Passed m)) (F : 
     abbrev held : N .Denot → Val → List (Item 𝓤)
     held r v = ‵ (flft (κs .0) (qs .0)) ∷ tokens ∷ ‵ (fres γ (L.the-row .coded .code h)) ∷ ‵ (lent (κs .0) h b o) ∷ ‵ (had κs ps a) ∷ ‵ (N .own r (v ∷ [])) ∷ []
 
-    exits : (r : N .Denot) (v : Val) → r ≡ told ps N F κs h a → ent 𝓤 (⋆ 𝓤 H A (held r v)) (Post v)
+    exits : (r : N .Denot) (v : Val) → r ≡ F h (κs .1) (overs κs ps a) → ent 𝓤 (⋆ 𝓤 H A (held r v)) (Post v)
     exits r v e =
         qed W (held r v) ∵ suffices ! _ (ends-at 𝓤 H A ended stayed (clauses 𝓤) W bound v r (tt, lasts κs ps a) (tt, fits κs ps a)) $ says ! e $
         join ! $ frame ! $ feqI ! (List Val) (vptr b o ∷ []) (vptr b o ∷ []) refl $ fjoin3 ! $ fjoin ! $ frame ! $ done !
 
-    module _ (C : Calls 𝓤 H) (Λ : Loops 𝓤 H) (fm : FmC 𝓤 H (W .laws) C) (g : Name) (known : Triple 𝓤 (C g) (Callee ps N F 𝓤 H A)) (are : Fit κs ps a) where
-      abbrev y : Callee ps N F 𝓤 H A .Ghost
-      y = to-g ps N F κs h a 𝓤 H A W (qs .1)
+    module _ (C : Calls 𝓤 H) (Λ : Loops 𝓤 H) (fm : FmC 𝓤 H (W .laws) C) (g : Name) (known : Triple 𝓤 (C g) (Callee (with-layout ps) N F′ 𝓤 H A))
+        (are : Fit κs ps a) where
+      abbrev y : Callee (with-layout ps) N F′ 𝓤 H A .Ghost
+      y = to-g-layout ps N F′ 𝓤 H A W κs (qs .1) h a
 
       pub walk : ent 𝓤 (onEntry 𝓤 H A (ended .signature) κs qs x (vptr b o ∷ [], machine κs ps a))
           (WpFn 𝓤 H C Λ (function g) (vptr b o ∷ flat (typesAt (outers ps) κs) (machine κs ps a)) Post)
@@ -142,13 +146,14 @@ module _ {N : RattleType} (Re : Result N) {m : ℕ} (ps : List (Passed m)) (F : 
           move ! (11 ∷ []) $ split ! $ move ! (1 ∷ 2 ∷ []) $ join ! $ move ! (4 ∷ 1 ∷ []) $
           -- [the borrow; the layout's token; what the callee gets; what the parameters own; res; their locals; passed; …; _1; …; _0; …]
           copied ! (κs .0) (qs .0) h b o 6 4 passed refl (beyond 𝓤 H ps bs _ 0) refl refl (λ was.
-          move ! (2 ∷ []) $ use1 W (raw (Callee ps N F 𝓤 H A .pre y)) (asks ps N F κs h a 𝓤 H A W (qs .1) was) $
-          calls-from ! fm (raw (Callee ps N F 𝓤 H A .pre y)) (mach h ∷ flat (typesAt (inners ps) (κs .1)) (within κs ps a))
-          (Callee ps N F 𝓤 H A .post y) (known y)
+          move ! (2 ∷ []) $ use1 W (raw (Callee (with-layout ps) N F′ 𝓤 H A .pre y)) (asks-layout ps N F′ 𝓤 H A W κs (qs .1) h a was) $
+          calls-from ! fm (raw (Callee (with-layout ps) N F′ 𝓤 H A .pre y)) (mach h ∷ flat (typesAt (inners ps) (κs .1)) (within κs ps a))
+          (Callee (with-layout ps) N F′ 𝓤 H A .post y) (known y)
           (and-then ! (load ! (from-at ! (beyond 𝓤 H ps bs _ 0) (stop !)) (look ! 6 refl))
           (with-head ! 5 (read-all ! ps bs κs a (λ n. suc (suc n)) _ (λ n. refl)))) (λ v.
-          use1 W (Answered ps N F κs h a 𝓤 H A W (qs .1) v) (answers ps N F κs h a 𝓤 H A W (qs .1) v) $ await ! tt $ pick ! (λ r. learn ! (λ e.
-          split ! $ move ! (1 ∷ []) $ peeks ! N (Is N) (shows 𝓤 H A N) r (v ∷ []) (λ is.
+          use1 W (Answered (with-layout ps) N F′ 𝓤 H A W (κs .1) (qs .1) (h, overs κs ps a) (mach h ∷ [], within κs ps a) v)
+          (answers (with-layout ps) N F′ 𝓤 H A W (κs .1) (qs .1) (h, overs κs ps a) (mach h ∷ [], within κs ps a) v) $
+          await ! tt $ pick ! (λ r. learn ! (λ e. split ! $ move ! (1 ∷ []) $ peeks ! N (Is N) (shows 𝓤 H A N) r (v ∷ []) (λ is.
           -- [what is returned; the parameters' tokens; the layout's; the borrow; what the parameters own; res; their locals; passed; …; _1; …; _0; …]
           land ! (from ! (stop !)) (init ! 11 refl (Re .typed 𝓤 H A W r v is)) $ returns ! (look ! 11 refl) $
           forget ! 7 refl $ forget ! 9 refl $ forget ! 11 refl $ move ! (11 ∷ 12 ∷ []) $ free1 ! $ move ! (9 ∷ 10 ∷ []) $ free1 ! $
@@ -159,8 +164,8 @@ module _ {N : RattleType} (Re : Result N) {m : ℕ} (ps : List (Passed m)) (F : 
   walks g 𝓤 H A = record {
     signature = ended .signature;
     promise = closing 𝓤 H A ended (clauses 𝓤);
-    asked = callee ps N F .signature;
-    demand = closing 𝓤 H A (callee ps N F) (callee-clauses ps N F 𝓤);
+    asked = callee (with-layout ps) N F′ .signature;
+    demand = closing 𝓤 H A (callee (with-layout ps) N F′) (callee-clauses (with-layout ps) N F′ 𝓤);
     code = function g;
     meets = λ W 𝓣 known.
         walk-meets 𝓤 H A ended stayed W (goes-none-ref 𝓤 H A W (suc m) (0 ∷ []) tt (plain (λ _. L.the-row)) yes, goes 𝓤 H A W ps) (clauses 𝓤)

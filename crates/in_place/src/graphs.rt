@@ -1,18 +1,16 @@
-// A graph in graph6 imported over a lent layout, and a lent layout exported in graph6.
+// A graph in graph6 imported into a lent layout, and a lent layout exported in graph6.
 ghost use mathlib.Core.Path.{_≡_};
-ghost use Rattle.model.specs.Reports.{importOver};
 ghost use Rattle.model.specs.Writing.{writeOf, writtenBytes};
-ghost use Rattle.model.specs.Graph6.{graph6Of};
+ghost use Rattle.model.specs.Graph6.{importOf, graph6Of};
 use model::Layout;
 use model::LayoutWritten;
-use reports::import_over;
 
+// A refused graph leaves the empty layout.
 #[no_mangle]
 pub extern "C" fn rl_import_graph6(l: &mut Layout, graph: &[u8]) -> u8
-    ensures { λ r. ⌜ (r ≡ importOver (now (l .entry)) (now (graph .entry)) .refusal)
-        × (now (l .exit) ≡ importOver (now (l .entry)) (now (graph .entry)) .layout) ⌝ }
+    ensures { λ r. ⌜ (r ≡ importOf (now (graph .entry)) .refusal) × (now (l .exit) ≡ importOf (now (graph .entry)) .layout) ⌝ }
 {
-    let answer = import_over(*l, graph);
+    let answer = graph6::import(graph);
     *l = answer.layout;
     answer.refusal
 }

@@ -1,8 +1,9 @@
-// A chart read over a lent layout, and the calls that only read one.
+// A chart read into a lent layout, and the calls that only read one.
 ghost use mathlib.Core.Path.{_≡_};
 ghost use Rattle.model.specs.Layouts.{valid};
 ghost use Rattle.model.specs.Reading.{countOf, orderRefusal, orderBytes};
-ghost use Rattle.model.specs.Reports.{readOver, crossingReportOf};
+ghost use Rattle.model.specs.Charts.{readOf};
+ghost use Rattle.model.specs.Reports.{crossingReportOf};
 ghost use Rattle.model.specs.Writing.{writeOf, writtenBytes};
 ghost use Rattle.model.specs.WrittenCharts.{chartOf};
 ghost use Rattle.model.specs.EdgeCrossings.{edgeCrossingsOf, crossingTable};
@@ -12,14 +13,13 @@ use model::EdgesCounted;
 use model::Layout;
 use model::LayoutWritten;
 use reports::crossing_report;
-use reports::read_over;
 
+// A refused chart leaves the empty layout.
 #[no_mangle]
 pub extern "C" fn rl_read_chart(l: &mut Layout, chart: &[u8]) -> u8
-    ensures { λ r. ⌜ (r ≡ readOver (now (l .entry)) (now (chart .entry)) .refusal)
-        × (now (l .exit) ≡ readOver (now (l .entry)) (now (chart .entry)) .layout) ⌝ }
+    ensures { λ r. ⌜ (r ≡ readOf (now (chart .entry)) .refusal) × (now (l .exit) ≡ readOf (now (chart .entry)) .layout) ⌝ }
 {
-    let answer = read_over(*l, chart);
+    let answer = chart::read(chart);
     *l = answer.layout;
     answer.refusal
 }

@@ -9,16 +9,12 @@ use Rattle.model.specs.declared.Appended.{Appended}
 use Rattle.model.specs.declared.Sifted.{Sifted}
 use Rattle.model.specs.declared.Rounded.{Rounded}
 use Rattle.model.specs.declared.Converged.{Converged}
-use Rattle.model.specs.declared.LayoutRead.{LayoutRead}
 use Rattle.model.specs.declared.AddReport.{AddReport}
 use Rattle.model.specs.declared.AppendReport.{AppendReport}
 use Rattle.model.specs.declared.SiftReport.{SiftReport}
 use Rattle.model.specs.declared.RoundReport.{RoundReport}
 use Rattle.model.specs.declared.ConvergeReport.{ConvergeReport}
 use Rattle.model.specs.declared.CrossingReport.{CrossingReport}
-use Rattle.model.specs.Checks.{Check, checked}
-use Rattle.model.specs.Charts.{chartChecks, chartLayout}
-use Rattle.model.specs.Graph6.{graph6Checks, graph6Layout}
 use Rattle.model.specs.Reading.{Shown, firstCrossingOf}
 
 -- ---- the answers without their layouts
@@ -37,18 +33,6 @@ roundReport a = record { refusal = a .refusal; reduction = a .reduction; moved =
 
 unfoldable pub convergeReport : Converged → ConvergeReport
 convergeReport a = record { refusal = a .refusal; reduction = a .reduction; rounds = a .rounds; converged = a .converged; optima = a .optima }
-
--- ---- a chart read over a lent layout, and a graph in graph6 imported over one
-
--- where it is refused, the lent layout is as it came
-abbrev over : Layout → List Check → Layout → LayoutRead
-over l checks next = checked checks (record { refusal = 0; layout = next }) (λ r. record { refusal = r; layout = l })
-
-unfoldable pub readOver : Layout → List ℕ → LayoutRead
-readOver l s = over l (chartChecks s) (chartLayout s)
-
-unfoldable pub importOver : Layout → List ℕ → LayoutRead
-importOver l s = over l (graph6Checks s) (graph6Layout s)
 
 -- ---- the shown crossing pair
 

@@ -1,38 +1,12 @@
-// By value, what a host gets of a chart or a graph read over a layout, and of the search for a crossing pair.
+// By value, what a host gets of the search for a crossing pair.
 ghost use mathlib.Core.Path.{_≡_};
 ghost use mathlib.Core.List.{[]};
-ghost use Rattle.model.specs.Reports.{readOver, importOver, crossingReportOf, pairReport};
-ghost use Rattle.reports.specs.ReadOver.{keptOver};
+ghost use Rattle.model.specs.Reports.{crossingReportOf, pairReport};
 use crossing::first_crossing;
 use model::CrossingReport;
 use model::Edge;
 use model::FirstCrossing;
 use model::Layout;
-use model::LayoutRead;
-
-// The chart's layout, or the one handed in where the chart is refused.
-pub fn read_over(l: Layout, chart: &[u8]) -> LayoutRead
-    ensures { λ r. ⌜ r ≡ readOver l (now (chart .entry)) ⌝ }
-{
-    over(l, chart::read(chart))
-}
-
-// The same for a graph in graph6.
-pub fn import_over(l: Layout, graph: &[u8]) -> LayoutRead
-    ensures { λ r. ⌜ r ≡ importOver l (now (graph .entry)) ⌝ }
-{
-    over(l, graph6::import(graph))
-}
-
-fn over(l: Layout, read: LayoutRead) -> LayoutRead
-    ensures { λ r. ⌜ r ≡ keptOver l read ⌝ }
-{
-    let refusal = read.refusal;
-    if refusal != 0 {
-        return LayoutRead { refusal, layout: l };
-    }
-    read
-}
 
 pub fn crossing_report(l: Layout) -> CrossingReport
     ensures { λ r. ⌜ r ≡ crossingReportOf l ⌝ }

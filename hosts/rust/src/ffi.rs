@@ -129,11 +129,13 @@ unsafe extern "C" {
     ) -> Played;
 }
 
+/// A refused chart leaves the empty layout.
 pub fn read_chart(l: &mut Fields, chart: &[u8]) -> u8 {
     // SAFETY: pointer and length are those of a slice.
     unsafe { rl_read_chart(l, chart.as_ptr(), chart.len()) }
 }
 
+/// A refused graph6 leaves the empty layout.
 pub fn import_graph6(l: &mut Fields, graph6: &[u8]) -> u8 {
     // SAFETY: pointer and length are those of a slice.
     unsafe { rl_import_graph6(l, graph6.as_ptr(), graph6.len()) }

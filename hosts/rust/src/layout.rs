@@ -88,16 +88,16 @@ impl Layout {
     /// The layout of a chart, with its true crossings.
     pub fn from_chart(chart: &[u8]) -> Result<Layout, Refusal> {
         let mut layout = Layout::empty();
-        layout.read_chart(chart)?;
-        Ok(layout)
+        let refusal = ffi::read_chart(&mut layout.fields, chart);
+        accepted(refusal, layout)
     }
 
     /// The layout of a graph in graph6, one without header or line end: the
     /// order 0, 1, 2 and so on, and its true crossings (document 02, Note 4).
     pub fn from_graph6(graph6: &[u8]) -> Result<Layout, Refusal> {
         let mut layout = Layout::empty();
-        layout.import_graph6(graph6)?;
-        Ok(layout)
+        let refusal = ffi::import_graph6(&mut layout.fields, graph6);
+        accepted(refusal, layout)
     }
 
     /// Vertices 0 to n − 1 in rising number, with these edges, each given once.
@@ -117,14 +117,18 @@ impl Layout {
         Layout { fields }
     }
 
-    /// Reads a chart into this layout.
+    /// Reads a chart and takes its layout over. A refused one leaves this
+    /// layout as it was.
     pub fn read_chart(&mut self, chart: &[u8]) -> Result<(), Refusal> {
-        accepted(ffi::read_chart(&mut self.fields, chart), ())
+        *self = Layout::from_chart(chart)?;
+        Ok(())
     }
 
-    /// Imports a graph6 into this layout.
+    /// Imports a graph6 and takes its layout over. A refused one leaves this
+    /// layout as it was.
     pub fn import_graph6(&mut self, graph6: &[u8]) -> Result<(), Refusal> {
-        accepted(ffi::import_graph6(&mut self.fields, graph6), ())
+        *self = Layout::from_graph6(graph6)?;
+        Ok(())
     }
 
     /// Adds a vertex without edges at the end of the order (document 01: add),
@@ -351,10 +355,14 @@ mod tests {
     #[test]
     fn a_refused_chart_leaves_the_layout() {
         let mut layout = first();
+        layout.fields_mut().count = 77;
+        let before = layout.clone();
         assert_eq!(layout.read_chart(&[]), Err(Refusal::ChartTags));
         assert_eq!(layout.read_chart(&[1]), Err(Refusal::ChartFields));
         let long = layout.read_chart(&[0; 8193]);
         assert_eq!(long, Err(Refusal::ChartTooLong));
+        assert_eq!(layout, before);
+        assert_eq!(layout.read_chart(crate::FIRST_CHART), Ok(()));
         assert_eq!(layout, first());
     }
 

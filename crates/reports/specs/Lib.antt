@@ -1,2 +1,0 @@
--- What the proofs of this crate's own functions cite.
-pub mod ReadOver
