@@ -5,10 +5,12 @@ import pathlib
 import random
 import tempfile
 import unittest
+import zipfile
 from array import array
 from collections import Counter
 
 import rostulanda
+import wheel_of_library
 from rostulanda import Layout, Refusal, Refused
 
 try:
@@ -543,6 +545,20 @@ class ChartAndListTest(unittest.TestCase):
             self.assertEqual(caught.exception.code, refusal)
         with self.assertRaises(ValueError):
             rostulanda.play([], CHART, GRAPH6)
+
+
+class WheelTest(unittest.TestCase):
+    def test_the_wheel_has_module_type_hints_and_library(self):
+        with tempfile.TemporaryDirectory() as folder:
+            name = wheel_of_library.build_wheel(folder)
+            with zipfile.ZipFile(pathlib.Path(folder, name)) as wheel:
+                held = {path: wheel.read(path) for path in wheel.namelist()}
+        self.assertEqual(held["rostulanda/__init__.py"], pathlib.Path(rostulanda.__file__).read_bytes())
+        self.assertEqual(held["rostulanda/py.typed"], b"")
+        self.assertTrue(held["rostulanda/librostulanda.so"].startswith(b"\x7fELF"))
+        (record,) = [path for path in held if path.endswith("/RECORD")]
+        listed = [line.split(",")[0] for line in held[record].decode().splitlines()]
+        self.assertEqual(listed, list(held))
 
 
 if __name__ == "__main__":
