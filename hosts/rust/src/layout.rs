@@ -97,9 +97,14 @@ impl Layout {
     /// end, as files have them, are passed over; [`Layout::import_graph6`], the
     /// library's own call, refuses them.
     pub fn from_graph6(graph6: &[u8]) -> Result<Layout, Refusal> {
+        Layout::imported(bare_graph6(graph6))
+    }
+
+    /// The layout of a graph6 without header or line end.
+    fn imported(graph6: &[u8]) -> Result<Layout, Refusal> {
         let mut layout = Layout::empty();
-        layout.import_graph6(bare_graph6(graph6))?;
-        Ok(layout)
+        let refusal = ffi::import_graph6(&mut layout.fields, graph6);
+        accepted(refusal, layout)
     }
 
     /// Vertices 0 to n − 1 in rising number, with these edges, each given once.
