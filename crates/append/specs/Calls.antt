@@ -8,13 +8,14 @@ use lib.ListN.{take, drop}
 use lib.Seq.{take-at}
 use lib.Dec.{T}
 use Rattle.model.specs.declared.Layout.{Layout}
-use Rattle.model.specs.Crossings.{crossings}
-use Rattle.model.specs.Layouts.{valid, reordered}
+use Rattle.model.specs.Crossings.{unitWeight, crossings}
+use Rattle.model.specs.Layouts.{weight, valid, reordered, uncounted, vertexOrder, crossingsOf}
 use Rattle.model.specs.GreedyAppend.{Placing, unplaced, waiting, isolated, hasEdges, placeAtBack, placeAll, layAnswer}
 use Rattle.laws.specs.Sums.Lists.{keep-split, keep-whole}
 use Rattle.laws.specs.Orders.Permutations.{Permutation}
 use Rattle.laws.specs.Layouts.Validity.{sound}
 use Rattle.laws.specs.Layouts.Recount.{carriedTo, carried-changed}
+use Rattle.laws.specs.Layouts.Weights.{unit-within-words}
 use Rattle.laws.specs.Append.Isolated.{isolated-at-back}
 use Rattle.laws.specs.Append.Calls.{lay-permutation, lay-met}
 use Rattle.line.specs.declared.Line.{Line}
@@ -44,19 +45,20 @@ module _ {n : ℕ} (small : n ≤ 64) {adj : List ℕ} {s : ℕ} {r : Partial} (
       let us = unplaced n (entries (r .line)) in
       keep-whole (isolated adj) us (omega (arith, linked .none-left, keep-split (isolated adj) us))
 
-  all-placed : record { placed = entries line; tally = r .tally } ≡ placeAll n adj s
+  all-placed : record { placed = entries line; tally = r .tally } ≡ placeAll n adj (unitWeight adj) s
   unfolding placeAll placingOf
   all-placed =
       ap (λ (xs : List ℕ). record { placed = xs; tally = r .tally })
       (rest .entries-are ∙ ap (λ (vs : List ℕ). entries (r .line) ++ vs) (sym rest-isolated))
-      ∙ sym (isolated-at-back n adj (placingOf r))
-      ∙ ap (λ (x : Placing). placeAtBack n adj x (waiting n (isolated adj) (x .placed))) (linked .placing)
+      ∙ sym (isolated-at-back (unit-within-words adj) n (placingOf r))
+      ∙ ap (λ (x : Placing). placeAtBack n (unitWeight adj) x (waiting n (isolated adj) (x .placed))) (linked .placing)
 
 module _ (l : Layout) (s : ℕ) (t : T (valid l)) (h : s < l .n) {r : Partial} (linked : LinkedPlaced (l .n) (l .adjacency) s r) where
   abbrev laid : List ℕ
   laid = entries (line (sound l t .small) linked)
 
   permutation : Permutation (l .n) laid
+  unfolding weight
   permutation = subst (λ (x : Placing). Permutation (l .n) (x .placed)) (sym (all-placed (sound l t .small) linked)) (lay-permutation l s t h)
 
   -- the order, with the vertices as they were placed in its first n places
@@ -71,16 +73,16 @@ module _ (l : Layout) (s : ℕ) (t : T (valid l)) (h : s < l .n) {r : Partial} (
       over-start centred (l .order) ∙ ap (λ (k : ℕ). laid ++ drop k (l .order)) size
 
   -- the tally is its crossings
-  laid-crossings : r .tally ≡ crossings (l .n) (take (l .n) laid-order) (l .adjacency)
-  unfolding laid-order
+  laid-crossings : r .tally ≡ crossingsOf (uncounted (l .n) laid-order (l .adjacency))
+  unfolding laid-order crossingsOf vertexOrder weight
   laid-crossings =
       rw (take-at laid (drop (l .n) (l .order)) (l .n) (permutation .size))
-      (subst (λ (x : Placing). x .tally ≡ crossings (l .n) (x .placed) (l .adjacency)) (sym (all-placed (sound l t .small) linked)) (lay-met l s t h))
+      (subst (λ (x : Placing). x .tally ≡ crossings (l .n) (x .placed) (weight l)) (sym (all-placed (sound l t .small) linked)) (lay-met l s t h))
 
   pub laid-right : {last : Line} {order : List ℕ} {m : Layout} → last ≡ restOf (r .line) (r .placed) (l .n) → order ≡ writtenOver last (l .order)
       → m ≡ carriedTo l (l .n) order (l .adjacency) (r .tally)
-      → record { refusal = 0; layout = m; tally = r .tally } ≡ layAnswer l (placeAll (l .n) (l .adjacency) s)
-  unfolding reordered laid-order
+      → record { refusal = 0; layout = m; tally = r .tally } ≡ layAnswer l (placeAll (l .n) (l .adjacency) (weight l) s)
+  unfolding reordered laid-order weight
   laid-right {last} {order} {m} filled e c =
       ap (λ (k : Layout). record { refusal = 0; layout = k; tally = r .tally })
       (c

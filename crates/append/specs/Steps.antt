@@ -8,7 +8,8 @@ use mathlib.Core.List.{List, [], _∷_, _++_}
 use lib.ListN.{length, getD, length-append}
 use lib.Dec.{ltb}
 use borrow.Author.Tests.{lt-ltb, le-ltb}
-use Rattle.model.specs.Crossings.{bit}
+use Rattle.model.specs.Lists.{sumOver}
+use Rattle.model.specs.Crossings.{bit, unitWeight}
 use Rattle.model.specs.Edits.{withBit}
 use Rattle.model.specs.GreedyAppend.{Placing, waiting, hasEdges, degreeIn, nextVertex, closing, open′, frontCrossings, backCrossings}
 use Rattle.model.specs.GreedyAppend.{alone, placeFront, placeBack, placeVertex, placeMore, placeLinked}
@@ -77,7 +78,7 @@ pub record Underway (n : ℕ) (s : Partial) : Type 0 where
 record Stepped (n : ℕ) (adj : List ℕ) (s : Partial) (v : ℕ) (r : Partial) : Type 0 where
   pub underway : Underway n r
   pub size : r .line .size ≡ s .line .size + 1
-  pub step : placingOf r ≡ placeVertex n adj (placingOf s) v
+  pub step : placingOf r ≡ placeVertex n (unitWeight adj) (placingOf s) v
 
 -- ---- one step
 
@@ -114,31 +115,31 @@ module _ {n : ℕ} {adj : List ℕ} {s : Partial} (w : Words n adj) (u : Underwa
   fits = set-lt 64 (s .placed) v (u .part .held .fits) below
 
   -- open edges are those to the complement of the set with v
-  open-right : (x : ℕ) → x < n → openFrom adj (complement next) x ≡ open′ n adj (entries (s .line)) v x
-  unfolding openFrom open′
+  open-right : (x : ℕ) → x < n → openFrom adj (complement next) x ≡ open′ n (unitWeight adj) (entries (s .line)) v x
+  unfolding openFrom open′ degreeIn
   open-right x l =
       outside-count w at-front (held-front v (u .part .held) (q .free) fits refl) x l
-      ∙ ap (degreeIn adj x) (unplaced-front n (entries (s .line)) v)
+      ∙ ap (sumOver (unitWeight adj x)) (unplaced-front n (entries (s .line)) v)
 
-  closing-right : (x : ℕ) → bit (getD adj v 0) x ≡ closing n adj (entries (s .line)) v x
+  closing-right : (x : ℕ) → bit (getD adj v 0) x ≡ closing n (unitWeight adj) (entries (s .line)) v x
   unfolding closing
   closing-right x = sym (weight-bit adj v x)
 
-  front-right : ends .front ≡ frontCrossings n adj (entries (s .line)) v
+  front-right : ends .front ≡ frontCrossings n (unitWeight adj) (entries (s .line)) v
   unfolding endsOf frontCrossings
   front-right =
       sumPairs-ext
       (λ x y. bit (getD adj v 0) y * openFrom adj (complement next) x)
-      (λ x y. closing n adj (entries (s .line)) v y * open′ n adj (entries (s .line)) v x)
+      (λ x y. closing n (unitWeight adj) (entries (s .line)) v y * open′ n (unitWeight adj) (entries (s .line)) v x)
       (u .part .order .below)
       (λ x y a b. ap₂ (λ (c d : ℕ). c * d) (closing-right y) (open-right x a))
 
-  back-right : ends .back ≡ backCrossings n adj (entries (s .line)) v
+  back-right : ends .back ≡ backCrossings n (unitWeight adj) (entries (s .line)) v
   unfolding endsOf backCrossings
   back-right =
       sumPairs-ext
       (λ x y. bit (getD adj v 0) x * openFrom adj (complement next) y)
-      (λ x y. closing n adj (entries (s .line)) v x * open′ n adj (entries (s .line)) v y)
+      (λ x y. closing n (unitWeight adj) (entries (s .line)) v x * open′ n (unitWeight adj) (entries (s .line)) v y)
       (u .part .order .below)
       (λ x y a b. ap₂ (λ (c d : ℕ). c * d) (closing-right x) (open-right y b))
 
@@ -166,7 +167,7 @@ module _ {n : ℕ} {adj : List ℕ} {s : Partial} (w : Words n adj) (u : Underwa
         size = grown-size centred held refl;
         step =
             ap₂ (λ (xs : List ℕ) (k : ℕ). record { placed = xs; tally = s .tally + k }) held front-right
-            ∙ sym (ap (λ (b : Bool). cond b (placeFront n adj (placingOf s) v) (placeBack n adj (placingOf s) v))
+            ∙ sym (ap (λ (b : Bool). cond b (placeFront n (unitWeight adj) (placingOf s) v) (placeBack n (unitWeight adj) (placingOf s) v))
             (lt-ltb _ _ (rw (front-right, back-right) at l)));
       }
     where
@@ -187,7 +188,7 @@ module _ {n : ℕ} {adj : List ℕ} {s : Partial} (w : Words n adj) (u : Underwa
         size = grown-size centred held longer;
         step =
             ap₂ (λ (xs : List ℕ) (k : ℕ). record { placed = xs; tally = s .tally + k }) held back-right
-            ∙ sym (ap (λ (b : Bool). cond b (placeFront n adj (placingOf s) v) (placeBack n adj (placingOf s) v))
+            ∙ sym (ap (λ (b : Bool). cond b (placeFront n (unitWeight adj) (placingOf s) v) (placeBack n (unitWeight adj) (placingOf s) v))
             (le-ltb _ _ (rw (front-right, back-right) at l)));
       }
     where
@@ -219,13 +220,13 @@ toCome n adj s = waiting n (hasEdges adj) (entries (s .line))
 pub record LinkedPlaced (n : ℕ) (adj : List ℕ) (first : ℕ) (r : Partial) : Type 0 where
   pub part : Partly n (r .line) (r .placed)
   pub none-left : length (toCome n adj r) ≡ 0
-  pub placing : placingOf r ≡ placeLinked n adj first
+  pub placing : placingOf r ≡ placeLinked n adj (unitWeight adj) first
 
 -- some are placed, the next one is v, or none if v is n, and the rest is still to come
 pub record PlacedUpTo (n : ℕ) (adj : List ℕ) (first : ℕ) (s : Partial) (v : ℕ) : Type 0 where
   pub underway : Underway n s
   pub next : v ≡ bestBelow n adj (s .placed) n .vertex
-  pub rest : placeMore n adj (hasEdges adj) (length (toCome n adj s)) (placingOf s) ≡ placeLinked n adj first
+  pub rest : placeMore n adj (unitWeight adj) (hasEdges adj) (length (toCome n adj s)) (placingOf s) ≡ placeLinked n adj (unitWeight adj) first
 
 module _ {n : ℕ} {adj : List ℕ} {first : ℕ} where
   pub place-start : {line : Line} {m v : ℕ} → n ≤ 64 → first < n → line ≡ aloneAt first → m < 2 ^ 64 → m ≡ withBit 0 first → v ≡ bestBelow n adj m n .vertex
@@ -246,7 +247,10 @@ module _ {n : ℕ} {adj : List ℕ} {first : ℕ} where
               bounded = omega arith;
             };
         next = found;
-        rest = ap (λ (xs : List ℕ). placeMore n adj (hasEdges adj) (length (waiting n (hasEdges adj) xs)) (record { placed = xs; tally = 0 })) e;
+        rest =
+            ap
+            (λ (xs : List ℕ). placeMore n adj (unitWeight adj) (hasEdges adj) (length (waiting n (hasEdges adj) xs)) (record { placed = xs; tally = 0 }))
+            e;
       }
 
   module _ (w : Words n adj) {s : Partial} {v : ℕ} (p : PlacedUpTo n adj first s v) where
@@ -268,14 +272,14 @@ module _ {n : ℕ} {adj : List ℕ} {first : ℕ} where
         pub place-less : (s .line .size < n) × (r .line .size ≡ s .line .size + 1)
         place-less = (step-room w (p .underway) next-waits, ap (λ (x : Partial). x .line .size) e ∙ stepped .size)
 
-        placed-next : placingOf r ≡ placeVertex n adj (placingOf s) v
+        placed-next : placingOf r ≡ placeVertex n (unitWeight adj) (placingOf s) v
         placed-next = ap placingOf e ∙ stepped .step
 
         -- and one less is to come
         to-come-less : suc (length (toCome n adj r)) ≡ length (toCome n adj s)
         unfolding placingOf
         to-come-less =
-            ap (λ (x : Placing). suc (length (waiting n (hasEdges adj) (x .placed)))) placed-next ∙ step-waiting n adj (placingOf s) next-waits
+            ap (λ (x : Placing). suc (length (waiting n (hasEdges adj) (x .placed)))) placed-next ∙ step-waiting n (unitWeight adj) (placingOf s) next-waits
 
         pub place-next : {v' : ℕ} → v' ≡ bestBelow n adj (r .placed) n .vertex → PlacedUpTo n adj first r v'
         unfolding placeMore placingOf
@@ -284,9 +288,9 @@ module _ {n : ℕ} {adj : List ℕ} {first : ℕ} where
               underway = subst (Underway n) (sym e) (stepped .underway);
               next = found;
               rest =
-                  ap (placeMore n adj (hasEdges adj) (length (toCome n adj r)))
-                  (placed-next ∙ ap (placeVertex n adj (placingOf s)) (next-is .1))
-                  ∙ ap (λ (k : ℕ). placeMore n adj (hasEdges adj) k (placingOf s)) to-come-less
+                  ap (placeMore n adj (unitWeight adj) (hasEdges adj) (length (toCome n adj r)))
+                  (placed-next ∙ ap (placeVertex n (unitWeight adj) (placingOf s)) (next-is .1))
+                  ∙ ap (λ (k : ℕ). placeMore n adj (unitWeight adj) (hasEdges adj) k (placingOf s)) to-come-less
                   ∙ p .rest;
             }
 
@@ -297,5 +301,5 @@ module _ {n : ℕ} {adj : List ℕ} {first : ℕ} where
         record {
           part = p .underway .part;
           none-left = none;
-          placing = ap (λ (k : ℕ). placeMore n adj (hasEdges adj) k (placingOf s)) (sym none) ∙ p .rest;
+          placing = ap (λ (k : ℕ). placeMore n adj (unitWeight adj) (hasEdges adj) k (placingOf s)) (sym none) ∙ p .rest;
         }

@@ -2,7 +2,7 @@
 ghost use mathlib.Core.Path.{_≡_};
 ghost use Prim.Native.Nat.{_<_};
 ghost use lib.Dec.{T};
-ghost use Rattle.model.specs.Layouts.{valid};
+ghost use Rattle.model.specs.Layouts.{weight, valid};
 ghost use Rattle.model.specs.GreedyAppend.{placeAll, layAnswer, layOf};
 use super::steps::place_linked;
 use carrying::carried_to;
@@ -29,7 +29,7 @@ pub fn greedy_append(l: Layout, s: usize) -> Appended
 // A call whose checks have passed.
 fn append_from(l: Layout, s: usize) -> Appended
     requires { ⌜ T (valid l) × (s < l .n) ⌝ }
-    ensures { λ r. ⌜ r ≡ layAnswer l (placeAll (l .n) (l .adjacency) s) ⌝ }
+    ensures { λ r. ⌜ r ≡ layAnswer l (placeAll (l .n) (l .adjacency) (weight l) s) ⌝ }
 {
     let n = l.n;
     let before = l.order;

@@ -1,4 +1,2 @@
--- The passes of the reader, and what an accepted chart gives: Laws has what others cite, Sequence that links may be written in any sequence.
+-- The passes of the reader, one after the other.
 pub mod Reading
-pub mod Laws
-pub mod Sequence

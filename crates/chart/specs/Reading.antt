@@ -9,31 +9,25 @@ use borrow.Author.Tests.{leb-true, eqb-true}
 use Rattle.model.specs.declared.LayoutRead.{LayoutRead}
 use Rattle.model.specs.declared.Asked.{Asked}
 use Rattle.model.specs.declared.Asked.the-variants as asks
-use Rattle.model.specs.declared.BodiesFound.{BodiesFound}
-use Rattle.model.specs.declared.BodiesFound.the-variants as bodies
 use Rattle.model.specs.declared.SizeFound.{SizeFound}
 use Rattle.model.specs.declared.SizeFound.the-variants as size
 use Rattle.model.specs.Lists.{every}
 use Rattle.model.specs.Layouts.{eachOnce}
 use Rattle.model.specs.Checks.{Check, refusal, byRefusal, checked}
 use Rattle.model.specs.Charts.{bodyOf, chartSize, chartEdges, chartOrder, edgesIn, edgeWithin, chartChecks, layoutWith, chartLayout, readOf}
-use Rattle.model.specs.Charts.{accept, refuse, asked, bodiesFound, sizeFound, answer, divisionAnswer, bodiesAnswer, sizeChecks, sizeAnswer}
+use Rattle.model.specs.Charts.{accept, refuse, asked, sizeFound, answer, divisionAnswer, tagsAnswer, sizeChecks, sizeAnswer}
 use Rattle.model.specs.Charts.{endChecks, repeatChecks, placeChecks}
 use Rattle.laws.specs.Sums.Lists.{none, also}
 use Rattle.laws.specs.Sums.Indicators.{both-left, both-right}
 use Rattle.laws.specs.Layouts.Refusals.{Numbered, all-pass}
-use Rattle.pairs.specs.Edges.{within-mono}
-use Rattle.bodies.specs.Words.{adjacencyOf, wrapped, wrapped-checks, wordsOver, words-once}
+use Rattle.laws.specs.Charts.Ends.{within-mono}
+use Rattle.laws.specs.Charts.Words.{adjacencyOf}
+use Rattle.bodies.specs.Words.{wrapped, wrapped-checks, wordsOver, words-once}
 use Rattle.bodies.specs.Order.{orderQuestion, question-eight}
-use Rattle.readers.specs.Padded.{padded, padded-copy}
-use Rattle.readers.specs.Layouts.{Accepted, count-read}
-use Rattle.readers.specs.Passes.{refusedRead, acceptedRead, countedLayout, answer-accepted, pass-accepted, pass-refused, asked-passed, asked-on, asked-back}
-use Rattle.readers.specs.Passes.{last-passes, second-passes, same-checked}
-
--- the code of a refusal is handed back
-pub bodies-number : {k code : ℕ} {r : BodiesFound} → r ≡ bodies.Refused k → code ≡ bodiesFound r .code → refusedRead code ≡ refusedRead k
-unfolding bodiesFound refuse
-bodies-number e c = ap refusedRead (c ∙ ap (λ (x : BodiesFound). bodiesFound x .code) e)
+use Rattle.laws.specs.Charts.Padded.{padded, padded-copy}
+use Rattle.laws.specs.Charts.Layouts.{Accepted, count-read}
+use Rattle.laws.specs.Charts.Passes.{refusedRead, acceptedRead, countedLayout, answer-accepted, pass-accepted, pass-refused, asked-passed, asked-on, asked-back}
+use Rattle.laws.specs.Charts.Passes.{last-passes, second-passes, same-checked}
 
 -- ---- question 8
 
@@ -174,16 +168,13 @@ module _ (s : List ℕ) where
   unfolding readOf readDivided divisionAnswer chartChecks chartLayout refusedRead chartEdges chartOrder
   read-divided told said = asked-on division-numbered (drop 2 (chartChecks s)) (chartRead s) told said
 
-  lengths : List ℕ
-  lengths = length (bodyOf s 0) ∷ length (bodyOf s 1) ∷ length (bodyOf s 2) ∷ []
+  pub read-untagged : {r : Asked} {k : ℕ} → r ≡ asks.Refused k → asked r ≡ tagsAnswer s → refusedRead k ≡ readDivided s
+  unfolding readDivided tagsAnswer chartChecks
+  read-untagged told said = asked-back tags-numbered (drop 3 (chartChecks s)) (chartRead s) told said
 
-  pub read-untagged : {r : BodiesFound} {k : ℕ} → r ≡ bodies.Refused k → bodiesFound r ≡ bodiesAnswer s → refusedRead k ≡ readDivided s
-  unfolding readDivided bodiesAnswer chartChecks bodiesFound refuse lengths
-  read-untagged told said = pass-refused tags-numbered lengths (drop 3 (chartChecks s)) (chartRead s) (ap bodiesFound (sym told) ∙ said) refl
-
-  pub read-tagged : {r : BodiesFound} {a b c : ℕ} → r ≡ bodies.Found a b c → bodiesFound r ≡ bodiesAnswer s → readFields s ≡ readDivided s
-  unfolding readDivided readFields bodiesAnswer chartChecks bodiesFound accept lengths
-  read-tagged told said = pass-accepted tags-numbered lengths (drop 3 (chartChecks s)) (chartRead s) (ap bodiesFound (sym told) ∙ said) refl
+  pub read-tagged : {r : Asked} → r ≡ asks.Passed → asked r ≡ tagsAnswer s → readFields s ≡ readDivided s
+  unfolding readDivided readFields tagsAnswer chartChecks
+  read-tagged told said = asked-on tags-numbered (drop 3 (chartChecks s)) (chartRead s) told said
 
   value : List ℕ
   value = chartSize s ∷ []

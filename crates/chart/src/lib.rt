@@ -1,9 +1,9 @@
 // Reading charts: the questions of document 01, each asked of the whole input before the next, and the
 // layout (ring) that an accepted chart gives. passes has questions 1 to 4, pairs 5 and 6, bodies 7 and 8.
 use model::Asked;
-use model::BodiesFound;
 use model::LayoutRead;
 use model::SizeFound;
+use passes::body_of;
 use readers::accepted;
 use readers::asked_code;
 use readers::refused;
@@ -12,8 +12,7 @@ ghost use mathlib.Core.Path.{_≡_};
 ghost use Prim.Native.Nat.{_≤_};
 ghost use mathlib.Core.Bool.{true};
 ghost use Rattle.model.specs.Lists.{every};
-ghost use Rattle.model.specs.Charts.{edgesIn, edgeWithin, readOf, bodiesFound};
-ghost use Rattle.passes.specs.Fields.{BodiesAt};
+ghost use Rattle.model.specs.Charts.{edgesIn, edgeWithin, readOf};
 ghost use Rattle.chart.specs.Reading.{readDivided, readFields, readBodies, readEdges, readOrder};
 
 // An accepted chart gives its edges, its order and its crossings; a refused one the empty layout.
@@ -31,32 +30,22 @@ pub fn read(bytes: &[u8]) -> LayoutRead
 fn read_divided(bytes: &[u8]) -> LayoutRead
     ensures { λ r. ⌜ r ≡ readDivided (now (bytes .entry)) ⌝ }
 {
-    let bodies = passes::find_bodies(bytes);
-    let BodiesFound::Found(size, links, order) = bodies else {
-        return refused(bodies_code(bodies));
+    let tagged = passes::ask_tags(bytes);
+    let Asked::Passed = tagged else {
+        return refused(asked_code(tagged));
     };
-    read_fields(bytes, size, links, order)
+    read_fields(bytes)
 }
 
-// Questions 4 to 8, once the lengths of the three bodies are known. A header is three bytes.
-fn read_fields(bytes: &[u8], size: usize, links: usize, order: usize) -> LayoutRead
-    requires { ⌜ BodiesAt (now bytes) size links order ⌝ }
+// Questions 4 to 8, of the bodies of fields 44, 4C and 52.
+fn read_fields(bytes: &[u8]) -> LayoutRead
     ensures { λ r. ⌜ r ≡ readFields (now (bytes .entry)) ⌝ }
 {
-    let size_end = 3 + size;
-    let links_start = size_end + 3;
-    let links_end = links_start + links;
-    let order_start = links_end + 3;
-    let order_end = order_start + order;
-    let found = passes::find_size(&bytes[3..size_end]);
+    let found = passes::find_size(body_of(bytes, 0));
     let SizeFound::Found(n) = found else {
         return refused(size_code(found));
     };
-    read_bodies(
-        n,
-        &bytes[links_start..links_end],
-        &bytes[order_start..order_end],
-    )
+    read_bodies(n, body_of(bytes, 1), body_of(bytes, 2))
 }
 
 // Questions 5 to 8, once the number of vertices is known: links is the body of field 4C, body that of
@@ -97,14 +86,4 @@ fn read_order(n: usize, body: &[u8], adjacency: [u64; 64]) -> LayoutRead
     let mut order = [0u8; 64];
     bytes::copy(body, &mut order);
     accepted(n, order, adjacency)
-}
-
-// The refusal of the answer, to be handed back.
-fn bodies_code(answer: BodiesFound) -> u8
-    ensures { λ r. ⌜ r ≡ bodiesFound answer .code ⌝ }
-{
-    match answer {
-        BodiesFound::Found(_, _, _) => 0,
-        BodiesFound::Refused(code) => code,
-    }
 }

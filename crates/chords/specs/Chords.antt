@@ -10,14 +10,13 @@ use lib.Dec.{ltb, lit<}
 use lib.ListN.{length, getD, take, drop, set, replicate, length-append, length-take, length-drop, length-set, length-replicate, getD-replicate}
 use lib.Seq.{split-at, getD-set-same, getD-set-other}
 use Rattle.model.specs.Lists.{sumOver, occurrences}
-use Rattle.model.specs.Crossings.{bit, linked}
+use Rattle.model.specs.Crossings.{bit, linked, unitWeight}
 use Rattle.model.specs.Edits.{withBit, withoutBit}
 use Rattle.laws.specs.Sums.Indicators.{less, same, more, order as which, one-le}
 use Rattle.laws.specs.Sums.Lists.{All, all-mono, sumOver-ext}
 use Rattle.laws.specs.Sums.Bits.{bit-none, maskedOnes, set-within}
 use Rattle.laws.specs.Sums.Wrapping.{exact-less}
 use Rattle.laws.specs.Orders.Permutations.{at, Permutation, at-lt, from-place, occurrences-nil}
-use Rattle.laws.specs.Crossings.Edges.{weight}
 use Rattle.laws.specs.Crossings.Masks.{vertexAt, Holds, holds-all, holds-set, holds-clear, masked-sum, weight-bit}
 use Rattle.laws.specs.Crossings.Chords.{joining, joining-most, inside, beyond, chordCrossings, inside-below, beyond-below, inside-not, beyond-not}
 use Rattle.laws.specs.Crossings.Chords.{inside-none, inside-next, chord-closed, chord-opened}
@@ -27,7 +26,7 @@ use Rattle.chords.specs.declared.Chord.{Chord}
 -- the number of each chord, places i < k at entry i * 64 + k, and 0 at all others
 pub record ChordsOf (n : ℕ) (order adj chords : List ℕ) : Type 0 where
   pub size : length chords ≡ 4096
-  pub number : (i k : ℕ) → i < k → k < n → getD chords (i * 64 + k) 0 ≡ chordCrossings (weight adj) (take n order) i k
+  pub number : (i k : ℕ) → i < k → k < n → getD chords (i * 64 + k) 0 ≡ chordCrossings (unitWeight adj) (take n order) i k
   pub others : (i k : ℕ) → i < 64 → k < 64 → (i < k → k < n → ⊥) → getD chords (i * 64 + k) 0 ≡ 0
 
 -- ---- the next chord
@@ -52,20 +51,20 @@ next-exact {taken = taken} hc ho e d f g x p q =
 pub record RowOf (n : ℕ) (order adj : List ℕ) (i : ℕ) (before after : List ℕ) : Type 0 where
   pub size : length after ≡ length before
   pub kept : (j k : ℕ) → k < 64 → (j ≡ i → i < k → k < n → ⊥) → getD after (j * 64 + k) 0 ≡ getD before (j * 64 + k) 0
-  pub number : Drawn n order adj → (k : ℕ) → i < k → k < n → getD after (i * 64 + k) 0 ≡ chordCrossings (weight adj) (take n order) i k
+  pub number : Drawn n order adj → (k : ℕ) → i < k → k < n → getD after (i * 64 + k) 0 ≡ chordCrossings (unitWeight adj) (take n order) i k
 
 -- what the words hold when place k is next
 pub record ChordAt (n : ℕ) (order adj : List ℕ) (i k : ℕ) (chord : Chord) : Type 0 where
   pub inside-held : Holds (chord .inside) (inside (take n order) i k)
   pub beyond-held : Holds (chord .beyond) (take i (take n order) ++ drop k (take n order))
-  pub outgoing-is : chord .outgoing ≡ joining (weight adj) (inside (take n order) i k) (take i (take n order) ++ drop k (take n order))
+  pub outgoing-is : chord .outgoing ≡ joining (unitWeight adj) (inside (take n order) i k) (take i (take n order) ++ drop k (take n order))
 
 module _ {n : ℕ} {order adj : List ℕ} (d : Drawn n order adj) (i : ℕ) where
   abbrev o : List ℕ
   o = take n order
 
   abbrev W : ℕ → ℕ → ℕ
-  W = weight adj
+  W = unitWeight adj
 
   abbrev perm : Permutation n (take n order)
   perm = d .permutation
@@ -154,7 +153,7 @@ pub record ChordsTo (n : ℕ) (order adj : List ℕ) (i : ℕ) (before chords : 
   pub size : length chords ≡ 4096
   pub kept : (j m : ℕ) → m < 64 → (j ≡ i → i < m → m < n → ⊥) → getD chords (j * 64 + m) 0 ≡ getD before (j * 64 + m) 0
   pub present : Drawn n order adj → ChordAt n order adj i k chord
-  pub number : Drawn n order adj → (j : ℕ) → i < j → j < k → getD chords (i * 64 + j) 0 ≡ chordCrossings (weight adj) (take n order) i j
+  pub number : Drawn n order adj → (j : ℕ) → i < j → j < k → getD chords (i * 64 + j) 0 ≡ chordCrossings (unitWeight adj) (take n order) i j
 
 module _ {n : ℕ} {order adj : List ℕ} {i : ℕ} {before : List ℕ} where
   pub row-start : {low v beyond : ℕ} → n ≤ 64 → i < n → length before ≡ 4096 → low ≡ 2 ^ min n 64 - 1 → v ≡ vertexAt order i
@@ -189,12 +188,12 @@ module _ {n : ℕ} {order adj : List ℕ} {i : ℕ} {before : List ℕ} where
           number = λ d j l m. elim (which j k) [ less b ↦ before-k d j l b | same q ↦ rw q (at-last d) | more b ↦ absurd (omega arith) ];
         })
       where
-        at-last : Drawn n order adj → getD (set chords (i * 64 + k) (next .crossed)) (i * 64 + k) 0 ≡ chordCrossings (weight adj) (take n order) i k
+        at-last : Drawn n order adj → getD (set chords (i * 64 + k) (next .crossed)) (i * 64 + k) 0 ≡ chordCrossings (unitWeight adj) (take n order) i k
         at-last d =
             getD-set-same chords (i * 64 + k) (next .crossed) 0 (omega (arith, r .size, r .few, r .later)) ∙ crossed-is d i (r .present d) (r .later) h e p
 
         before-k : Drawn n order adj → (j : ℕ) → i < j → j < k
-            → getD (set chords (i * 64 + k) (next .crossed)) (i * 64 + j) 0 ≡ chordCrossings (weight adj) (take n order) i j
+            → getD (set chords (i * 64 + k) (next .crossed)) (i * 64 + j) 0 ≡ chordCrossings (unitWeight adj) (take n order) i j
         before-k d j l b = getD-set-other chords (i * 64 + k) (i * 64 + j) (next .crossed) 0 (λ q. omega arith) ∙ r .number d j l b
 
     pub row-end : n ≤ k → length before ≡ 4096 → RowOf n order adj i before chords
@@ -207,7 +206,7 @@ pub record ChordsUpTo (n : ℕ) (order adj chords : List ℕ) (i : ℕ) : Type 0
   pub few : n ≤ 64
   pub within : i ≤ n
   pub size : length chords ≡ 4096
-  pub number : Drawn n order adj → (j k : ℕ) → j < i → j < k → k < n → getD chords (j * 64 + k) 0 ≡ chordCrossings (weight adj) (take n order) j k
+  pub number : Drawn n order adj → (j k : ℕ) → j < i → j < k → k < n → getD chords (j * 64 + k) 0 ≡ chordCrossings (unitWeight adj) (take n order) j k
   pub others : (j k : ℕ) → j < 64 → k < 64 → (j < k → k < n → ⊥) → getD chords (j * 64 + k) 0 ≡ 0
 
 module _ {n : ℕ} {order adj : List ℕ} where

@@ -6,7 +6,7 @@ use lib.ListN.{length}
 use lib.Dec.{T}
 use Rattle.model.specs.declared.Layout.{Layout}
 use Rattle.model.specs.Crossings.{edges}
-use Rattle.model.specs.Layouts.{vertexOrder, valid}
+use Rattle.model.specs.Layouts.{vertexOrder, weight, valid}
 use Rattle.model.specs.EdgeCrossings.{edgeCrossings, tableShort, countAnswer, edgeCrossingsOf, crossingTable}
 use Rattle.laws.specs.Layouts.Validity.{sound}
 use Rattle.laws.specs.Layouts.Recount.{Drawn, drawn}
@@ -31,5 +31,5 @@ module _ {l : Layout} {table : List ℕ} {count code : ℕ} (a : Asked tableShor
 
     pub numbers-put : {after : List ℕ} {end : ℕ} → Written table 0 (numbersOf (l .n) (l .order) (l .adjacency)) after end
         → (record { refusal = 0; edges = count } ≡ edgeCrossingsOf l table) × (after ≡ crossingTable l table)
-    unfolding edgeCrossingsOf crossingTable numbersOf edgeCrossings vertexOrder
+    unfolding edgeCrossingsOf crossingTable numbersOf edgeCrossings vertexOrder weight
     numbers-put w = fill-done a z countAnswer (written-whole w .0)

@@ -1,6 +1,6 @@
 -- The crossings of the listed edges, each read from the table of chords by the places of its ends.
 use Prim.Native.Nat.{ℕ, suc, _+_, _*_, _/_, _%_, _≤_, _<_}
-use native.Mathlib.Nat.{mod-eq-of-lt, lt-of-lt-of-le, le-of-lt, le-antisymm}
+use native.Mathlib.Nat.{mod-eq-of-lt, lt-of-lt-of-le, le-of-lt, le-antisymm, one-mul}
 use native.Mathlib.Numerals.{add-one}
 use native.Mathlib.Omega.{arith}
 use mathlib.Core.Path.{_≡_, refl, sym, ap, _∙_}
@@ -11,14 +11,15 @@ use lib.Dec.{ltb}
 use borrow.Author.Tests.{lt-ltb, le-ltb}
 use Rattle.model.specs.declared.Edge.{Edge}
 use Rattle.model.specs.Lists.{upto, place}
-use Rattle.model.specs.Crossings.{edges}
+use Rattle.model.specs.Crossings.{edges, unitWeight, edgeWeight}
 use Rattle.model.specs.Charts.{edgeWithin}
 use Rattle.model.specs.WrittenCharts.{edgeBytes}
 use Rattle.model.specs.EdgeCrossings.{crossingsWith}
 use Rattle.laws.specs.Sums.Indicators.{less, same, more, order as which}
-use Rattle.laws.specs.Sums.Lists.{map-ext}
+use Rattle.laws.specs.Sums.Lists.{all-both, map-ext}
 use Rattle.laws.specs.Orders.Permutations.{at, Permutation, place-below, at-of-place}
 use Rattle.laws.specs.Crossings.Edges.{Within, edges-within, edge-rises, edge-ends}
+use Rattle.laws.specs.Crossings.Units.{unit-edges, unit-weights}
 use Rattle.laws.specs.Crossings.Bound.{mostEdges}
 use Rattle.laws.specs.Crossings.Chords.{edge-chord, edge-chord-back}
 use Rattle.laws.specs.Layouts.Recount.{Drawn}
@@ -56,7 +57,7 @@ numbered chords places ends count = map (λ i. numberOf chords places (getD ends
 
 -- the crossings of every edge of n vertices
 unfoldable pub numbersOf : ℕ → List ℕ → List ℕ → List ℕ
-numbersOf n order adj = let es = edges n adj in map (crossingsWith (take n order) es) es
+numbersOf n order adj = let es = edges n adj in map (crossingsWith (unitWeight adj) (take n order) es) es
 
 -- ---- one after the other
 
@@ -108,18 +109,21 @@ module _ {n : ℕ} {order adj chords places : List ℕ} (d : Drawn n order adj) 
       ap (λ (x : ℕ). x % 64) stands ∙ mod-eq-of-lt (lt-of-lt-of-le (place-below (d .permutation) v h) small)
 
   -- the table has what the edge crosses
-  number-right : (e : Edge) → edgeWithin n e ≡ true → numberOf chords places (e .low) (e .high) ≡ crossingsWith (take n order) (edges n adj) e
+  number-right : (e : Edge) → edgeWithin n e ≡ true
+      → edgeWeight (unitWeight adj) e * numberOf chords places (e .low) (e .high) ≡ crossingsWith (unitWeight adj) (take n order) (edges n adj) e
   unfolding numberOf
   number-right e h =
-      rw (place-right (e .low) (ends .0), place-right (e .high) (ends .1))
+      rw (← (unit-edges n adj), place-right (e .low) (ends .0), place-right (e .high) (ends .1))
       (elim (which (place o (e .low)) (place o (e .high))) [
         | less l ↦
             rw (lt-ltb (place o (e .low)) (place o (e .high)) l)
-            (c .number (place o (e .low)) (place o (e .high)) l (place-below perm (e .high) (ends .1)) ∙ sym (edge-chord perm adj (d .symmetry) e ends l))
+            (ap (λ (k : ℕ). edgeWeight (unitWeight adj) e * k) (c .number (place o (e .low)) (place o (e .high)) l (place-below perm (e .high) (ends .1)))
+            ∙ sym (edge-chord perm (unitWeight adj) (d .symmetry) e ends l))
         | same q ↦ absurd (omega (arith, edge-rises n e h, sym (at-of-place perm (e .low) (ends .0)) ∙ ap (at o) q ∙ at-of-place perm (e .high) (ends .1)))
         | more l ↦
             rw (le-ltb (place o (e .low)) (place o (e .high)) (le-of-lt l))
-            (c .number (place o (e .high)) (place o (e .low)) l (place-below perm (e .low) (ends .0)) ∙ sym (edge-chord-back perm adj (d .symmetry) e ends l))
+            (ap (λ (k : ℕ). edgeWeight (unitWeight adj) e * k) (c .number (place o (e .high)) (place o (e .low)) l (place-below perm (e .low) (ends .0)))
+            ∙ sym (edge-chord-back perm (unitWeight adj) (d .symmetry) e ends l))
       ])
     where
       o : List ℕ
@@ -136,7 +140,8 @@ module _ {n : ℕ} {order adj chords places : List ℕ} (d : Drawn n order adj) 
   all-numbered ends count e =
       sym (map-map number (edgeAt ends) (upto count))
       ∙ ap (map number) e
-      ∙ map-ext number (crossingsWith (take n order) (edges n adj)) (edges-within n adj) number-right
+      ∙ map-ext number (crossingsWith (unitWeight adj) (take n order) (edges n adj)) (all-both (edges-within n adj) (unit-weights n adj))
+      (λ f h. sym (one-mul (number f)) ∙ ap (λ (k : ℕ). k * number f) (sym (h .1)) ∙ number-right f (h .0))
     where
       number : Edge → ℕ
       number f = numberOf chords places (f .low) (f .high)

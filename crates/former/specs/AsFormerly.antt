@@ -8,11 +8,12 @@ use lib.Dec.{T}
 use Rattle.model.specs.declared.Layout.{Layout}
 use Rattle.model.specs.declared.Appended.{Appended}
 use Rattle.model.specs.Lists.{upto, keep}
-use Rattle.model.specs.Layouts.{vertexOrder, crossingsOf, valid, carried, changed, reordered}
+use Rattle.model.specs.Layouts.{vertexOrder, weight, crossingsOf, valid, carried, changed, reordered}
 use Rattle.model.specs.GreedyAppend.{Placing, formerPlaceAll, layChecks, layAnswer, layRefused, layOf, formerLayOf, stays}
-use Rattle.laws.specs.Layouts.Validity.{sound}
+use Rattle.laws.specs.Layouts.Validity.{sound, words-symmetric}
 use Rattle.laws.specs.Layouts.Refusals.{vertex-passed, checked-both}
 use Rattle.laws.specs.Layouts.Reordering.{reordered-order, reordered-crossings}
+use Rattle.laws.specs.Layouts.Weights.{weight-within-words}
 use Rattle.laws.specs.Append.Calls.{Laid, laid-permutation, laid-tally, former-laid-all, laidOut, lay-permutation, lay-crossings}
 use Rattle.former.specs.Runs.{restAtBack, all-formerly}
 
@@ -29,14 +30,14 @@ pub record AsFormerly (l : Layout) (s : ℕ) (now former : Appended) : Type 0 wh
 module _ (l : Layout) (s : ℕ) where
   -- all vertices placed by the former rule
   abbrev formerlyLaid : Placing
-  formerlyLaid = formerPlaceAll (l .n) (l .adjacency) s
+  formerlyLaid = formerPlaceAll (l .n) (l .adjacency) (weight l) s
 
   module _ (t : T (valid l)) (h : s < l .n) where
-    formerly : Laid (l .n) (l .adjacency) (l .n) formerlyLaid
-    formerly = former-laid-all (l .adjacency) (sound l t .symmetry) s h
+    formerly : Laid (l .n) (weight l) (l .n) formerlyLaid
+    formerly = former-laid-all (weight l) (sound l t .symmetry) (l .adjacency) s h
 
     same-placing : laidOut l s ≡ restAtBack (l .n) (l .adjacency) s formerlyLaid
-    same-placing = all-formerly (l .n) (l .adjacency) s (sound l t .symmetry) h (laid-permutation formerly)
+    same-placing = all-formerly (l .n) (l .adjacency) s (weight-within-words l t) (words-symmetric l t) (sound l t .symmetry) h (laid-permutation formerly)
 
     same-tally : laidOut l s .tally ≡ formerlyLaid .tally
     same-tally = ap (λ (d : Placing). d .tally) same-placing
@@ -47,7 +48,7 @@ module _ (l : Layout) (s : ℕ) where
         ∙ sym (reordered-crossings l (formerlyLaid .placed) (laid-permutation formerly .size))
 
     accepted : AsFormerly l s (layAnswer l (laidOut l s)) (layAnswer l formerlyLaid)
-    unfolding reordered changed crossingsOf vertexOrder
+    unfolding reordered changed crossingsOf vertexOrder weight
     accepted =
         record {
           refusal = refl;

@@ -5,14 +5,15 @@ use mathlib.Core.Path.{_≡_, refl, sym, ap, _∙_}
 use mathlib.Core.Bool.{Bool, true, false, true≢false, not, cond, _&&_, and-false}
 use mathlib.Core.List.{List}
 use lib.Dec.{eqb}
-use Rattle.model.specs.Lists.{upto, keep, member}
+use Rattle.model.specs.Lists.{upto, keep, sumOver, member}
+use Rattle.model.specs.Crossings.{unitWeight}
 use Rattle.model.specs.GreedyAppend.{unplaced, waiting, isolated, hasEdges, degreeIn, preferred, bestOf, nextVertex}
 use Rattle.model.specs.GreedyAppend.{closing, open′, frontCrossings, backCrossings}
 use Rattle.laws.specs.Sums.Lists.{All, none, also, all-keep, all-upto, sumPairs-ext, keep-keep, keep-swap, keep-true}
 use Rattle.laws.specs.Sums.Pairs.{Symmetric}
-use Rattle.laws.specs.Crossings.Edges.{weight}
 use Rattle.laws.specs.Append.Order.{unplacedBut}
-use Rattle.laws.specs.Append.Isolated.{no-edge, no-degree}
+use Rattle.laws.specs.Append.Isolated.{no-weight}
+use Rattle.laws.specs.Layouts.Weights.{WithinWords, unit-within-words}
 use Rattle.former.specs.Kept.{sumOver-kept, sumPairs-kept, member-keep}
 
 -- a test that drops isolated vertices alone
@@ -39,77 +40,80 @@ module _ {adj : List ℕ} {q : ℕ → Bool} (d : Dropping adj q) where
       by-test v true e = rw (member-keep q v xs, passed v e)
       by-test v false e = and-false (not (member v xs)) ∙ sym (and-false (not (member v (keep q xs))))
 
-  -- edges to vertices
-  degree-seen : {n : ℕ} → Symmetric n (weight adj) → {u : ℕ} {us : List ℕ} → u < n → All (λ x. x < n) us → degreeIn adj u us ≡ degreeIn adj u (keep q us)
-  unfolding degreeIn
-  degree-seen symmetry {u} h below = sumOver-kept q (weight adj u) below (λ x l e. symmetry .swap u x h l ∙ no-edge adj x (d .dropped x e) u)
+  -- the weight of the edges to vertices
+  weight-seen : {n : ℕ} {W : ℕ → ℕ → ℕ} → Symmetric n W → WithinWords adj W → {u : ℕ} {us : List ℕ} → u < n → All (λ x. x < n) us
+      → sumOver (W u) us ≡ sumOver (W u) (keep q us)
+  weight-seen {W = W} symmetry bare {u} h below =
+      sumOver-kept q (W u) below (λ x l e. symmetry .swap u x h l ∙ bare .none-from x (d .dropped x e) u)
 
 -- one is the test for edges itself
 linked-only : (adj : List ℕ) → Dropping adj (hasEdges adj)
 linked-only adj = record { dropped = λ v e. e }
 
-module _ {n : ℕ} {adj : List ℕ} (symmetry : Symmetric n (weight adj)) {q : ℕ → Bool} (d : Dropping adj q) where
+module _ {n : ℕ} {adj : List ℕ} {W : ℕ → ℕ → ℕ} (symmetry : Symmetric n W) (bare : WithinWords adj W) {q : ℕ → Bool} (d : Dropping adj q) where
   unplaced-seen : (c : ℕ → Bool) (xs : List ℕ) {u : ℕ} → u < n
-      → degreeIn adj u (keep c (unplaced n xs)) ≡ degreeIn adj u (keep c (unplaced n (keep q xs)))
+      → sumOver (W u) (keep c (unplaced n xs)) ≡ sumOver (W u) (keep c (unplaced n (keep q xs)))
   unfolding unplaced waiting
-  unplaced-seen c xs {u} h = to xs ∙ ap (λ (us : List ℕ). degreeIn adj u (keep c us)) (waiting-seen d n xs) ∙ sym (to (keep q xs))
+  unplaced-seen c xs {u} h = to xs ∙ ap (λ (us : List ℕ). sumOver (W u) (keep c us)) (waiting-seen d n xs) ∙ sym (to (keep q xs))
     where
-      to : (ys : List ℕ) → degreeIn adj u (keep c (unplaced n ys)) ≡ degreeIn adj u (keep c (waiting n (hasEdges adj) ys))
+      to : (ys : List ℕ) → sumOver (W u) (keep c (unplaced n ys)) ≡ sumOver (W u) (keep c (waiting n (hasEdges adj) ys))
       to ys =
-          degree-seen (linked-only adj) symmetry h (all-keep c (all-keep (λ v. not (member v ys)) (all-upto n)))
-          ∙ ap (degreeIn adj u) (keep-swap (hasEdges adj) c (unplaced n ys))
+          weight-seen (linked-only adj) symmetry bare h (all-keep c (all-keep (λ v. not (member v ys)) (all-upto n)))
+          ∙ ap (sumOver (W u)) (keep-swap (hasEdges adj) c (unplaced n ys))
 
-  module _ {xs : List ℕ} (below : All (λ x. x < n) xs) where
-    preferred-seen : {v u : ℕ} → v < n → u < n → preferred n adj xs v u ≡ preferred n adj (keep q xs) v u
-    unfolding preferred
-    preferred-seen {v} {u} h k =
-        rw (
-          degree-seen d symmetry h below,
-          degree-seen d symmetry k below,
-          simp keep-true at (unplaced-seen (λ x. true) xs h),
-          simp keep-true at (unplaced-seen (λ x. true) xs k),
-        )
+  module _ {xs : List ℕ} (below : All (λ x. x < n) xs) {v : ℕ} (h : v < n) where
+    -- what v's edge to p, if there is one, meets of the open ones at x: nothing where either is isolated
+    met : List ℕ → ℕ → ℕ → ℕ
+    met ys p x = closing n W ys v p * open′ n W ys v x
 
-    best-seen : {b : ℕ} {vs : List ℕ} → b < n → All (λ x. x < n) vs → bestOf n adj xs b vs ≡ bestOf n adj (keep q xs) b vs
-    unfolding bestOf
-    best-seen h none = refl
-    best-seen {b} h (also {x} {xs = vs} k ks) =
-        ap (λ (t : Bool). bestOf n adj xs (cond t x b) vs) (preferred-seen k h) ∙ best-seen (by-test (preferred n adj (keep q xs) x b)) ks
-      where
-        by-test : (t : Bool) → cond t x b < n
-        by-test true = k
-        by-test false = h
+    met-closing : (p x : ℕ) → p < n → q p ≡ false → met xs p x ≡ 0
+    unfolding met closing
+    met-closing p x k e = rw (symmetry .swap v p h k, bare .none-from p (d .dropped p e) v) (zero-mul _)
 
-    pub next-seen : {vs : List ℕ} → All (λ x. x < n) vs → nextVertex n adj xs vs ≡ nextVertex n adj (keep q xs) vs
-    unfolding nextVertex
-    next-seen none = refl
-    next-seen (also h hs) = best-seen h hs
+    met-open : (p x : ℕ) → q x ≡ false → met xs p x ≡ 0
+    unfolding met open′
+    met-open p x e = rw (no-weight bare x (d .dropped x e) (unplacedBut n xs v)) (mul-zero _)
 
-    module _ {v : ℕ} (h : v < n) where
-      -- what v's edge to p, if there is one, meets of the open ones at x: nothing where either is isolated
-      met : List ℕ → ℕ → ℕ → ℕ
-      met ys p x = closing n adj ys v p * open′ n adj ys v x
+    met-seen : (p x : ℕ) → x < n → met xs p x ≡ met (keep q xs) p x
+    unfolding met closing open′
+    met-seen p x k = ap (λ (e : ℕ). W v p * e) (unplaced-seen (λ y. not (eqb v y)) xs k)
 
-      met-closing : (p x : ℕ) → p < n → q p ≡ false → met xs p x ≡ 0
-      unfolding met closing
-      met-closing p x k e = rw (symmetry .swap v p h k, no-edge adj p (d .dropped p e) v) (zero-mul _)
+    pub front-seen : frontCrossings n W xs v ≡ frontCrossings n W (keep q xs) v
+    unfolding frontCrossings met
+    front-seen =
+        sumPairs-kept q (λ x p. met xs p x) below (λ x p k l. met-open p x) (λ x p k l. met-closing p x l)
+        ∙ sumPairs-ext (λ x p. met xs p x) (λ x p. met (keep q xs) p x) (all-keep q below) (λ x p k l. met-seen p x k)
 
-      met-open : (p x : ℕ) → q x ≡ false → met xs p x ≡ 0
-      unfolding met open′
-      met-open p x e = rw (no-degree adj x (d .dropped x e) (unplacedBut n xs v)) (mul-zero _)
+    pub back-seen : backCrossings n W xs v ≡ backCrossings n W (keep q xs) v
+    unfolding backCrossings met
+    back-seen =
+        sumPairs-kept q (met xs) below (λ p x k l. met-closing p x k) (λ p x k l. met-open p x)
+        ∙ sumPairs-ext (met xs) (met (keep q xs)) (all-keep q below) (λ p x k l. met-seen p x l)
 
-      met-seen : (p x : ℕ) → x < n → met xs p x ≡ met (keep q xs) p x
-      unfolding met closing open′
-      met-seen p x k = ap (λ (e : ℕ). weight adj v p * e) (unplaced-seen (λ y. not (eqb v y)) xs k)
+-- the choice goes by the words
+module _ {n : ℕ} {adj : List ℕ} (symmetry : Symmetric n (unitWeight adj)) {q : ℕ → Bool} (d : Dropping adj q) {xs : List ℕ} (below : All (λ x. x < n) xs) where
+  preferred-seen : {v u : ℕ} → v < n → u < n → preferred n adj xs v u ≡ preferred n adj (keep q xs) v u
+  unfolding preferred degreeIn
+  preferred-seen {v} {u} h k =
+      let bare = unit-within-words adj in
+      rw (
+        weight-seen d symmetry bare h below,
+        weight-seen d symmetry bare k below,
+        simp keep-true at (unplaced-seen symmetry bare d (λ x. true) xs h),
+        simp keep-true at (unplaced-seen symmetry bare d (λ x. true) xs k),
+      )
 
-      pub front-seen : frontCrossings n adj xs v ≡ frontCrossings n adj (keep q xs) v
-      unfolding frontCrossings met
-      front-seen =
-          sumPairs-kept q (λ x p. met xs p x) below (λ x p k l. met-open p x) (λ x p k l. met-closing p x l)
-          ∙ sumPairs-ext (λ x p. met xs p x) (λ x p. met (keep q xs) p x) (all-keep q below) (λ x p k l. met-seen p x k)
+  best-seen : {b : ℕ} {vs : List ℕ} → b < n → All (λ x. x < n) vs → bestOf n adj xs b vs ≡ bestOf n adj (keep q xs) b vs
+  unfolding bestOf
+  best-seen h none = refl
+  best-seen {b} h (also {x} {xs = vs} k ks) =
+      ap (λ (t : Bool). bestOf n adj xs (cond t x b) vs) (preferred-seen k h) ∙ best-seen (by-test (preferred n adj (keep q xs) x b)) ks
+    where
+      by-test : (t : Bool) → cond t x b < n
+      by-test true = k
+      by-test false = h
 
-      pub back-seen : backCrossings n adj xs v ≡ backCrossings n adj (keep q xs) v
-      unfolding backCrossings met
-      back-seen =
-          sumPairs-kept q (met xs) below (λ p x k l. met-closing p x k) (λ p x k l. met-open p x)
-          ∙ sumPairs-ext (met xs) (met (keep q xs)) (all-keep q below) (λ p x k l. met-seen p x l)
+  pub next-seen : {vs : List ℕ} → All (λ x. x < n) vs → nextVertex n adj xs vs ≡ nextVertex n adj (keep q xs) vs
+  unfolding nextVertex
+  next-seen none = refl
+  next-seen (also h hs) = best-seen h hs

@@ -18,12 +18,12 @@ use Rattle.model.specs.Graph6.{importOf, graph6SizeAnswer}
 use Rattle.laws.specs.Sums.Lists.{none, also, rest-whole}
 use Rattle.laws.specs.Layouts.Refusals.{Numbered, all-pass}
 use Rattle.laws.specs.Graph6.Sizes.{starts-long, size-accepted}
-use Rattle.bodies.specs.Words.{adjacencyOf}
-use Rattle.readers.specs.Padded.{padded}
-use Rattle.readers.specs.Layouts.{count-read}
-use Rattle.readers.specs.Graph6.{edges-accepted}
-use Rattle.readers.specs.Passes.{refusedRead, acceptedRead, countedLayout, answer-accepted, pass-accepted, pass-refused, asked-on, asked-back}
-use Rattle.readers.specs.Passes.{last-passes}
+use Rattle.laws.specs.Charts.Words.{adjacencyOf}
+use Rattle.laws.specs.Charts.Padded.{padded}
+use Rattle.laws.specs.Charts.Layouts.{count-read}
+use Rattle.laws.specs.Graph6.Imports.{edges-accepted}
+use Rattle.laws.specs.Charts.Passes.{refusedRead, acceptedRead, countedLayout, answer-accepted, pass-accepted, pass-refused, asked-on, asked-back}
+use Rattle.laws.specs.Charts.Passes.{last-passes}
 
 -- what is imported once the number of vertices is known
 unfoldable pub importBits : ℕ → List ℕ → LayoutRead

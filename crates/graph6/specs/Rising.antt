@@ -8,7 +8,7 @@ use lib.Seq.{ext-getD, getD-set-same, getD-set-other}
 use Rattle.model.specs.Lists.{upto}
 use Rattle.laws.specs.Sums.Indicators.{less, same, more, order}
 use Rattle.laws.specs.Sums.Lists.{length-upto, upto-at}
-use Rattle.readers.specs.Padded.{padded, padded-length, padded-at}
+use Rattle.laws.specs.Charts.Padded.{padded, padded-length, padded-at}
 
 -- what stands at a place
 at-place : (v i : ℕ) → i < 64 → i < v → getD (padded (upto v)) i 0 ≡ i

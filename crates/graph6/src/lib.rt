@@ -11,7 +11,7 @@ ghost use mathlib.Core.Path.{_≡_};
 ghost use Prim.Native.Nat.{_≤_};
 ghost use Rattle.model.specs.Lists.{upto};
 ghost use Rattle.model.specs.Graph6.{importOf};
-ghost use Rattle.readers.specs.Padded.{padded};
+ghost use Rattle.laws.specs.Charts.Padded.{padded};
 ghost use Rattle.graph6.specs.Importing.{importBits};
 
 // An accepted graph gives its edges and its crossings; a refused one the empty layout.

@@ -19,7 +19,7 @@ use Rattle.laws.specs.Sums.Every.{every-all, all-every}
 use Rattle.laws.specs.Sums.Bits.{bit-lt, bits-ext}
 use Rattle.laws.specs.Graph6.Packing.{packedIn, packedIn-length, packedIn-at, packedIn-ext, unpacked-length, unpacked-bit, unpacked-at, bit-most}
 use Rattle.laws.specs.Graph6.Packing.{six-most}
-use Rattle.six_bits.specs.Bits.{six-within, within-six}
+use Rattle.laws.specs.Graph6.SixBits.{six-within, within-six}
 
 -- ---- six bits, and the number that they make
 

@@ -20,12 +20,12 @@ use Rattle.laws.specs.Sums.Pairs.{pairSum-ext}
 use Rattle.laws.specs.Crossings.Edges.{edge as rising, sumOver-edges}
 use Rattle.laws.specs.Layouts.FirstCrossing.{self-same}
 use Rattle.laws.specs.Graph6.Pairs.{pairs-within, sumOver-pairs, chosen-all}
-use Rattle.pairs.specs.Edges.{edge}
-use Rattle.bodies.specs.Words.{adjacencyOf, adjacency-linked}
-use Rattle.chart.specs.Laws.{sameEdge-swap, joins-member}
-use Rattle.chart.specs.Sequence.{written, SameEdges, few-once}
+use Rattle.laws.specs.Charts.Ends.{edge}
+use Rattle.laws.specs.Charts.Words.{adjacencyOf, adjacency-linked}
+use Rattle.laws.specs.Charts.Reading.{sameEdge-swap, joins-member}
+use Rattle.laws.specs.Charts.Sequence.{written, SameEdges, few-once}
 use Rattle.laws.specs.Crossings.Edges.{edge-rises, edge-below}
-use Rattle.roundtrip.specs.EdgeLists.{pairSum-if-there}
+use Rattle.laws.specs.Charts.EdgeLists.{pairSum-if-there}
 
 -- ---- the pairs that are joined
 

@@ -10,26 +10,26 @@ use lib.Dec.{T, eqb}
 use Rattle.model.specs.declared.Layout.{Layout}
 use Rattle.model.specs.declared.LayoutRead.{LayoutRead}
 use Rattle.model.specs.Lists.{upto, every, keep}
-use Rattle.model.specs.Crossings.{linked, edges, crossings}
-use Rattle.model.specs.Layouts.{valid}
+use Rattle.model.specs.Crossings.{linked, edges, unitWeight, crossings}
+use Rattle.model.specs.Layouts.{weight, valid}
 use Rattle.model.specs.Charts.{layoutWith}
 use Rattle.model.specs.Writing.{writeOf, writtenBytes}
 use Rattle.model.specs.Graph6.{bytesFor, packed, unpacked, sizePart, pairsByHigher, pairBits, graph6Of, startsWithSize, graph6Size, graph6Data}
 use Rattle.model.specs.Graph6.{graph6Edges, graph6Layout, importOf, inRisingOrder}
 use Rattle.laws.specs.Sums.Lists.{All}
 use Rattle.laws.specs.Layouts.Sizes.{Sized}
-use Rattle.laws.specs.Layouts.Validity.{sound}
+use Rattle.laws.specs.Layouts.Validity.{sound, words-symmetric}
 use Rattle.laws.specs.Buffers.Formats.{write-accepted, write-accepts, written-front}
 use Rattle.laws.specs.Graph6.Packing.{packedIn, packedIn-same, unpacked-length, unpacked-bits}
 use Rattle.laws.specs.Graph6.Pairs.{chosen-ext, pairBits-bits, pairBits-length}
 use Rattle.laws.specs.Graph6.Sizes.{size-starts, starts-with, size-found}
-use Rattle.bodies.specs.Words.{adjacencyOf}
-use Rattle.readers.specs.Padded.{padded}
-use Rattle.readers.specs.Passes.{acceptedRead}
-use Rattle.readers.specs.Graph6.{Graph6, all-asked, import-number, import-is, imported-graph6, imported-valid}
-use Rattle.chart.specs.Laws.{same-words}
-use Rattle.chart.specs.Sequence.{same-member}
-use Rattle.roundtrip.specs.EdgeLists.{edges-words}
+use Rattle.laws.specs.Charts.Words.{adjacencyOf}
+use Rattle.laws.specs.Charts.Padded.{padded}
+use Rattle.laws.specs.Charts.Passes.{acceptedRead}
+use Rattle.laws.specs.Graph6.Imports.{Graph6, all-asked, import-number, import-is, imported-graph6, imported-valid}
+use Rattle.laws.specs.Charts.Reading.{same-words}
+use Rattle.laws.specs.Charts.Sequence.{same-member}
+use Rattle.laws.specs.Charts.EdgeLists.{edges-words}
 use Rattle.graph6_roundtrip.specs.Bits.{Six, all-six, six-all, unset-from, unpadded, unpacked-packed, packed-unpacked}
 use Rattle.graph6_roundtrip.specs.Edges.{own-chosen, own-edges, chosen-bits}
 use Rattle.graph6_roundtrip.specs.Exports.{bitBytes, export-parts, bit-bytes-length, bit-bytes-six}
@@ -85,7 +85,7 @@ module _ (n : ℕ) (adj : List ℕ) where
 
 -- "Export then import keeps n and every link": all of the layout but its order and its count
 pub exported-imported : (l : Layout) → Sized l → T (valid l) → importOf (graph6Of l) ≡ record { refusal = 0; layout = inRisingOrder l }
-unfolding inRisingOrder
+unfolding inRisingOrder weight
 exported-imported l s t =
     let n = l .n in
     let adj = l .adjacency in
@@ -95,13 +95,13 @@ exported-imported l s t =
     ∙ ap read-as
     (ap adjacencyOf (edges-again n adj)
     ∙ same-words (keep (λ e. linked adj (e .low) (e .high)) (pairsByHigher n)) (edges n adj) (same-member (own-edges n adj))
-    ∙ edges-words n adj (whole .symmetry) (whole .bits) (whole .unused) (whole .small) (s .words))
+    ∙ edges-words n adj (words-symmetric l t) (whole .bits) (whole .unused) (whole .small) (s .words))
   where
     read-as : List ℕ → LayoutRead
     read-as adj =
         record {
           refusal = 0;
-          layout = record { n = l .n; order = padded (upto (l .n)); adjacency = adj; count = crossings (l .n) (upto (l .n)) adj };
+          layout = record { n = l .n; order = padded (upto (l .n)); adjacency = adj; count = crossings (l .n) (upto (l .n)) (unitWeight adj) };
         }
 
 -- in plain terms

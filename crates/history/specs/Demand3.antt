@@ -2,29 +2,32 @@
 -- the words it is written in (the steps, sifts and rounds of a list, best place, local minimum) are definitions of `model`, Histories.
 use Prim.Native.Nat.{ℕ, _+_, _*_, _≤_, _<_}
 use mathlib.Core.Path.{_≡_, refl, sym, ap, _∙_, subst}
-use mathlib.Core.Bool.{Bool, true, false, cond}
-use mathlib.Core.List.{List, [], _∷_, _++_, map, flatMap}
-use lib.ListN.{length, length-append}
+use mathlib.Core.Bool.{Bool, true, false}
+use mathlib.Core.List.{List, map, flatMap}
+use lib.ListN.{length}
 use lib.Dec.{T, eqb}
 use borrow.Author.Tests.{eqb-true, eqb-false}
 use Rattle.model.specs.declared.Layout.{Layout}
 use Rattle.model.specs.declared.Call.{Call}
 use Rattle.model.specs.declared.Call.the-variants as call
-use Rattle.model.specs.Lists.{upto, sumOver, All, none, also}
+use Rattle.model.specs.Lists.{upto, sumOver, All}
 use Rattle.model.specs.Layouts.{vertexOrder, crossingsOf, eachOnce, valid}
 use Rattle.model.specs.Edits.{moveOf}
-use Rattle.model.specs.Histories.{Start, Step, afterStep, steps, played, Follow, ended, next, Sift, Round, outcome, answerOf, accepted}
-use Rattle.model.specs.Histories.{siftCalled, roundsOfCall, siftsOfRound, roundsOfStep, siftsOfStep, roundsIn, siftsIn, sifting, roundsDue}
-use Rattle.model.specs.Histories.{saysConverged, optimaTold, placesWith}
-use Rattle.model.specs.Histories.{butLast, BestPlace, LocalMinimum}
-use Rattle.laws.specs.Sums.Indicators.{T-true}
+use Rattle.model.specs.Search.{Sift, Round}
+use Rattle.model.specs.Sifting.{ring, optimaAt, siftsOfRound}
+use Rattle.model.specs.Runs.{Follow, butLast, stepAt, acceptedAt}
+use Rattle.model.specs.Histories.{ringCalls, Start, Step, afterStep, steps, played, outcome, answerOf, accepted, sweepOf}
+use Rattle.model.specs.Histories.{siftCalled, roundsOfStep, siftsOfStep, roundsIn, siftsIn, sifting, roundsDue}
+use Rattle.model.specs.Histories.{saysConverged, optimaTold, placesWith, BestPlace, LocalMinimum}
 use Rattle.laws.specs.Sums.Lists.{all-mono, all-flatMap}
 use Rattle.laws.specs.Layouts.Validity.{sound, permutation-eachOnce}
 use Rattle.laws.specs.Append.Calls.{lay-tally}
-use Rattle.laws.specs.Sifting.Rounds.{ProperSift, ProperRound, best-sifted, round-no-more}
+use Rattle.laws.specs.Sifting.Sweeps.{SweepFacts, round-no-more}
+use Rattle.laws.specs.Sifting.Runs.{steps-called, steps-follow, all-steps, end-good, code-zero, rounds-are, sifts-are, sifts-number}
+use Rattle.laws.specs.Sifting.Runs.{step-sifts, step-rounds, step-moved}
+use Rattle.laws.specs.Sifting.Rounds.{Valid, ProperSift, ProperRound, best-sifted}
 use Rattle.laws.specs.Sifting.Optima.{optima-least, optima-counted, optima-some, optima-below}
-use Rattle.history.specs.StepLaws.{Right, start-right, call-keeps, call-refused, CallFacts, call-facts, stepOn, step-sifts, step-rounds}
-use Rattle.history.specs.StepLaws.{rounds-sifts, refused-says-nothing}
+use Rattle.history.specs.StepLaws.{Right, start-right, call-keeps, call-refused, CallFacts, call-facts, refused-says-nothing}
 
 -- ---- what is said of a step and of a round
 
@@ -48,9 +51,9 @@ TallyRight s first = s .call ≡ call.GreedyAppend first → s .answer .first �
 -- reached, behind as many of them as the number says it has just as many, and with two vertices or more there is one
 pub record OptimaRight (x : Sift Layout) : Type 0 where
   pub none-fewer : (v : ℕ) → v < x .before .n → (x .vertex ≡ v → ⊥) → crossingsOf (x .after) ≤ crossingsOf (moveOf (x .before) (x .vertex) v .layout)
-  pub just-as-many : x .optima ≡ placesWith (x .before) (x .vertex) (crossingsOf (x .after))
-  pub some : 2 ≤ x .before .n → 1 ≤ x .optima
-  pub not-all : x .optima < x .before .n
+  pub just-as-many : optimaAt x ≡ placesWith (x .before) (x .vertex) (crossingsOf (x .after))
+  pub some : 2 ≤ x .before .n → 1 ≤ optimaAt x
+  pub not-all : optimaAt x < x .before .n
 
 -- nothing is left out of an accepted step: a sift contributes one sift, a round one round, a settling as many as it answers, and each round n sifts;
 -- the sifts lead from the layout before to the layout after, and the number of best places that is told is the sum of theirs
@@ -58,7 +61,7 @@ pub record Complete (s : Step) : Type 0 where
   pub number-of-rounds : length (roundsOfStep s) ≡ roundsDue (s .call) (s .answer)
   pub number-of-sifts : length (siftsOfStep s) ≡ length (siftCalled (s .before) (s .call)) + length (roundsOfStep s) * (s .before .n)
   pub sifts-lead : T (sifting (s .call)) → Follow (λ (x : Sift Layout). x .before) (λ x. x .after) (s .before) (siftsOfStep s) (afterStep s)
-  pub optima-summed : optimaTold (s .call) (s .answer) ≡ sumOver (λ (x : Sift Layout). x .optima) (siftsOfStep s)
+  pub optima-summed : optimaTold (s .call) (s .answer) ≡ sumOver optimaAt (siftsOfStep s)
 
 -- a round sifts each vertex once, in rising number, from the layout before it to the layout after it
 pub record WholeRound (r : Round Layout) : Type 0 where
@@ -96,80 +99,45 @@ pub record Demand3 (start : Layout) (calls : List Call) : Type 0 where
 
 -- ---- step by step
 
--- what holds of each call on a layout that is right holds of each step
-all-steps : (P : Step → Type 0) → ((l : Layout) (c : Call) → Right l → P (stepOn l c)) → {l : Layout} → Right l → (cs : List Call) → All P (steps l cs)
-unfolding steps
-all-steps P h r [] = none
-all-steps P h {l} r (c ∷ cs) = also (h l c r) (all-steps P h (call-keeps l c r) cs)
+abbrev stepOn : Layout → Call → Step
+stepOn = stepAt ringCalls
 
-end-right : {l : Layout} → Right l → (cs : List Call) → Right (played l cs)
-unfolding played
-end-right r [] = r
-end-right {l} r (c ∷ cs) = end-right (call-keeps l c r) cs
-
-steps-called : (l : Layout) (cs : List Call) → map (λ (s : Step). s .call) (steps l cs) ≡ cs
-unfolding steps
-steps-called l [] = refl
-steps-called l (c ∷ cs) = ap (λ (ds : List Call). c ∷ ds) (steps-called (answerOf l c .layout) cs)
-
-steps-follow : (l : Layout) (cs : List Call) → Follow (λ (s : Step). s .before) afterStep l (steps l cs) (played l cs)
-unfolding steps played
-steps-follow l [] = ended
-steps-follow l (c ∷ cs) = next (steps-follow (answerOf l c .layout) cs)
+all-right : (P : Step → Type 0) → ((l : Layout) (c : Call) → P (stepOn l c)) → {l : Layout} → Right l → (cs : List Call) → All P (steps l cs)
+all-right P h = all-steps ringCalls Right call-keeps P (λ l c r. h l c)
 
 module _ (l : Layout) (c : Call) where
   is-defined : Defined (stepOn l c)
-  unfolding accepted
+  unfolding acceptedAt
   is-defined =
       record { answers = refl; unchanged = λ e. call-refused l c (eqb-false (answerOf l c .refusal) 0 e) }
 
-  -- an accepted step has refusal code 0, and the sifts and rounds of its call
-  code-zero : T (accepted (stepOn l c)) → answerOf l c .refusal ≡ 0
-  unfolding accepted
-  code-zero t = eqb-true (answerOf l c .refusal) 0 (T-true (eqb (answerOf l c .refusal) 0) t)
-
   facts : T (accepted (stepOn l c)) → CallFacts l c
-  facts t = call-facts l c (code-zero t)
-
-  rounds-are : T (accepted (stepOn l c)) → roundsOfStep (stepOn l c) ≡ roundsOfCall l c
-  unfolding roundsOfStep
-  rounds-are t = rw (T-true (accepted (stepOn l c)) t)
-
-  sifts-are : T (accepted (stepOn l c)) → siftsOfStep (stepOn l c) ≡ siftCalled l c ++ flatMap siftsOfRound (roundsOfCall l c)
-  unfolding siftsOfStep
-  sifts-are t = rw (rounds-are t, T-true (accepted (stepOn l c)) t)
+  facts t = call-facts l c (code-zero ringCalls l c t)
 
   is-complete : T (accepted (stepOn l c)) → Complete (stepOn l c)
   is-complete t =
       let f = facts t in
       record {
-        number-of-rounds = ap length (rounds-are t) ∙ f .number;
-        number-of-sifts =
-            rw (sifts-are t, rounds-are t)
-            (length-append (siftCalled l c) (flatMap siftsOfRound (roundsOfCall l c))
-            ∙ ap (λ (k : ℕ). length (siftCalled l c) + k) (rounds-sifts (f .follow) (f .rounds)));
-        sifts-lead = λ s. rw (sifts-are t) (f .lead s);
-        optima-summed = rw (sifts-are t) (f .optima-are);
+        number-of-rounds = ap length (rounds-are ringCalls l c t) ∙ f .number;
+        number-of-sifts = sifts-number ringCalls l c Valid t (f .run);
+        sifts-lead = λ s. rw (sifts-are ringCalls l c t, ← f .reached s) (f .run .lead);
+        optima-summed = rw (sifts-are ringCalls l c t) (f .optima-are);
       }
 
   is-tally : T (accepted (stepOn l c)) → (first : ℕ) → TallyRight (stepOn l c) first
   unfolding answerOf
   is-tally t first e =
-      subst (λ (d : Call). answerOf l d .refusal ≡ 0 → answerOf l d .first ≡ crossingsOf (answerOf l d .layout)) (sym e) (lay-tally l first) (code-zero t)
+      subst (λ (d : Call). answerOf l d .refusal ≡ 0 → answerOf l d .first ≡ crossingsOf (answerOf l d .layout)) (sym e) (lay-tally l first)
+      (code-zero ringCalls l c t)
 
   reaches-limit : T (accepted (stepOn l c)) → (limit : ℕ) → LimitReached (stepOn l c) limit
-  reaches-limit t limit e z = rw (rounds-are t) (facts t .spent limit e z)
+  reaches-limit t limit e z = rw (rounds-are ringCalls l c t) (facts t .spent limit e z)
 
-  goes-on : All (λ (r : Round Layout). 0 < r .moved) (butLast (roundsOfStep (stepOn l c)))
-  unfolding roundsOfStep butLast
-  goes-on = by-test (accepted (stepOn l c)) refl
-    where
-      by-test : (b : Bool) → accepted (stepOn l c) ≡ b → All (λ (r : Round Layout). 0 < r .moved) (butLast (cond b (roundsOfCall l c) []))
-      by-test true e = facts (rw e tt) .moved
-      by-test false e = none
+  -- what it sifts, where it is accepted
+  sweeps : answerOf l c .refusal ≡ 0 → SweepFacts ring Valid l (sweepOf c)
+  sweeps e = call-facts l c e .run
 
   is-minimum : T (saysConverged c (answerOf l c)) → LocalMinimum (answerOf l c .layout)
-  unfolding accepted
   is-minimum = by-test (eqb (answerOf l c .refusal) 0) refl
     where
       by-test : (b : Bool) → eqb (answerOf l c .refusal) 0 ≡ b → T (saysConverged c (answerOf l c)) → LocalMinimum (answerOf l c .layout)
@@ -188,25 +156,26 @@ pub demand-3 : {start : Layout} → Start start → (calls : List Call) → Dema
 unfolding siftsIn roundsIn
 demand-3 {start} s calls =
     let r = start-right s in
-    let end = end-right r calls in
+    let end = end-good ringCalls Right call-keeps r calls in
     let proper : All ProperRound (flatMap roundsOfStep (steps start calls)) =
-    all-flatMap roundsOfStep (all-steps (λ x. All ProperRound (roundsOfStep x)) (λ l c q. step-rounds l c) r calls) (λ x p. p) in
+    all-flatMap roundsOfStep (all-right (λ x. All ProperRound (roundsOfStep x)) (λ l c. step-rounds ringCalls l c Valid (sweeps l c)) r calls) (λ x p. p) in
     let sifted : All ProperSift (flatMap siftsOfStep (steps start calls)) =
-    all-flatMap siftsOfStep (all-steps (λ x. All ProperSift (siftsOfStep x)) (λ l c q. step-sifts l c) r calls) (λ x p. p) in
+    all-flatMap siftsOfStep (all-right (λ x. All ProperSift (siftsOfStep x)) (λ l c. step-sifts ringCalls l c Valid (sweeps l c)) r calls) (λ x p. p) in
     record {
-      called = steps-called start calls;
-      defined = all-steps Defined (λ l c q. is-defined l c) r calls;
-      one-after-another = steps-follow start calls;
+      called = steps-called ringCalls start calls;
+      defined = all-right Defined is-defined r calls;
+      one-after-another = steps-follow ringCalls start calls;
       valid-at-the-end = end .is-valid;
       each-vertex-once = permutation-eachOnce (sound (played start calls) (end .is-valid) .permutation);
       count-is-crossings = end .counted;
-      tallies-right = all-steps (λ x. T (accepted x) → (first : ℕ) → TallyRight x first) (λ l c q. is-tally l c) r calls;
+      tallies-right = all-right (λ x. T (accepted x) → (first : ℕ) → TallyRight x first) is-tally r calls;
       best-places = all-mono sifted (λ x p. best-sifted p);
       optima-right = all-mono sifted (λ x p. is-optima p);
-      no-round-raised = all-mono proper (λ x p. round-no-more p);
-      converged-is-minimum = all-steps (λ x. T (saysConverged (x .call) (x .answer)) → LocalMinimum (afterStep x)) (λ l c q. is-minimum l c) r calls;
-      limit-reached = all-steps (λ x. T (accepted x) → (limit : ℕ) → LimitReached x limit) (λ l c q. reaches-limit l c) r calls;
-      went-on-after-a-move = all-steps (λ x. All (λ (y : Round Layout). 0 < y .moved) (butLast (roundsOfStep x))) (λ l c q. goes-on l c) r calls;
-      complete = all-steps (λ x. T (accepted x) → Complete x) (λ l c q. is-complete l c) r calls;
+      no-round-raised = all-mono proper (λ x p. round-no-more ring Valid p);
+      converged-is-minimum = all-right (λ x. T (saysConverged (x .call) (x .answer)) → LocalMinimum (afterStep x)) is-minimum r calls;
+      limit-reached = all-right (λ x. T (accepted x) → (limit : ℕ) → LimitReached x limit) reaches-limit r calls;
+      went-on-after-a-move =
+          all-right (λ x. All (λ (y : Round Layout). 0 < y .moved) (butLast (roundsOfStep x))) (λ l c. step-moved ringCalls l c Valid (sweeps l c)) r calls;
+      complete = all-right (λ x. T (accepted x) → Complete x) is-complete r calls;
       whole-rounds = all-mono proper (λ x p. record { each-vertex = p .vertices; leads = p .chain });
     }

@@ -1,3 +1,4 @@
--- Demand 3: open Demand3 first. StepLaws has what it takes of each call.
+-- Demand 3: open Demand3 first. StepLaws has what it takes of each call, Excluded what two of its sentences rule out by themselves.
 pub mod StepLaws
 pub mod Demand3
+pub mod Excluded

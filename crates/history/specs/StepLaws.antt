@@ -1,29 +1,25 @@
 -- What an accepted call of a list gives on a valid layout: its sifts and rounds are proper ones, and its answer counts them.
-use Prim.Native.Nat.{ℕ, _+_, _*_, _<_}
+use Prim.Native.Nat.{ℕ, _<_}
 use native.Mathlib.Nat.{add-zero}
 use native.Mathlib.Omega.{arith}
 use mathlib.Core.Path.{_≡_, refl, sym, ap, _∙_, subst}
-use mathlib.Core.Bool.{Bool, true, false, cond, false≢true}
-use mathlib.Core.List.{List, [], _++_, _∷_, flatMap}
-use lib.ListN.{length, length-append}
+use mathlib.Core.Bool.{Bool, true, false, false≢true}
+use mathlib.Core.List.{_++_, flatMap, append-nil}
+use lib.ListN.{length}
 use lib.Dec.{T, eqb}
-use borrow.Author.Tests.{eqb-true}
 use Rattle.model.specs.declared.Layout.{Layout}
 use Rattle.model.specs.declared.Converged.{Converged}
 use Rattle.model.specs.declared.Call.{Call}
 use Rattle.model.specs.declared.Call.the-variants as call
-use Rattle.model.specs.Lists.{one, sumOver, All, none, also}
+use Rattle.model.specs.Lists.{one, sumOver, All}
 use Rattle.model.specs.Layouts.{crossingsOf, valid}
-use Rattle.model.specs.Sifting.{optimaOf, siftOf, siftRound, roundOf, roundsUpTo, settleOf}
-use Rattle.model.specs.Histories.{Start, empty, read, imported, Step, Sift, Round, Follow, ended, next}
-use Rattle.model.specs.Histories.{outcome, ofAdded, ofChanged, ofAppended, ofSifted, ofRounded}
-use Rattle.model.specs.Histories.{ofConverged, answerOf, accepted, roundsOfStep, siftsOfStep}
-use Rattle.model.specs.Histories.{butLast, sifting, siftCalled, roundsOfCall, siftsOfRound, roundsDue, saysConverged}
-use Rattle.model.specs.Histories.{roundOn, optimaTold, LocalMinimum}
-use Rattle.laws.specs.Sums.Lists.{all-mono, all-append, all-flatMap}
-use Rattle.laws.specs.Sifting.LocalSearch.{follow-flat}
-use Rattle.laws.specs.Sifting.Rounds.{ProperSift, ProperRound, proper-sift, proper-round, round-size, round-length, settling, rounds-follow}
-use Rattle.laws.specs.Sifting.Rounds.{optimaIn, one-more-round, rounds-moved, rounds-spent, settled-minimum}
+use Rattle.model.specs.Search.{Round, Sweep, no-sift, one-sift, one-round, some-rounds, roundsRun, siftRun, siftsOfAll, roundAt, roundBy}
+use Rattle.model.specs.Sifting.{ring, optimaOf, optimaAt, optimaIn, siftOf, siftRound, swept, roundOf, siftsOfRound, settled, roundsUpTo, settleOf}
+use Rattle.model.specs.Histories.{Start, empty, read, imported, outcome, ofAdded, ofChanged, ofAppended, ofSifted, ofRounded}
+use Rattle.model.specs.Histories.{ofConverged, answerOf, sweepOf}
+use Rattle.model.specs.Histories.{sifting, siftCalled, roundsOfCall, roundsDue, saysConverged, optimaTold, LocalMinimum}
+use Rattle.laws.specs.Sifting.Sweeps.{SweepFacts, nothing-swept, sweep-facts, sweptTo, Names, rounds-spent}
+use Rattle.laws.specs.Sifting.Rounds.{Valid, lawful, settled-minimum}
 use Rattle.laws.specs.Sifting.Calls.{sift-passed, sift-accepted, sift-refused, sift-keeps}
 use Rattle.laws.specs.Sifting.Calls.{round-passed, round-accepted, round-refused, round-keeps}
 use Rattle.laws.specs.Sifting.Calls.{settle-passed, settle-accepted, settle-refused, settle-keeps}
@@ -31,73 +27,56 @@ use Rattle.laws.specs.Layouts.Reordering.{Keeps, move-refused, move-keeps}
 use Rattle.laws.specs.Layouts.EditCalls.{add-refused, add-keeps, link-refused, link-keeps, unlink-refused, unlink-keeps}
 use Rattle.laws.specs.Append.Calls.{lay-refused, lay-keeps}
 use Rattle.laws.specs.Layouts.Sizes.{Sized, empty-sized, add-sized, link-sized, unlink-sized, move-sized}
-use Rattle.chart.specs.Laws.{read-sized}
+use Rattle.laws.specs.Charts.Reading.{read-sized}
 use Rattle.laws.specs.Append.Calls.{lay-sized}
 use Rattle.laws.specs.Sifting.Calls.{sift-sized, round-sized}
 use Rattle.laws.specs.Sifting.Calls.{settle-sized}
-use Rattle.readers.specs.Graph6.{imported-valid, imported-sized}
-use Rattle.chart.specs.Laws.{empty-valid, empty-count, read-valid}
+use Rattle.laws.specs.Graph6.Imports.{imported-valid, imported-sized}
+use Rattle.laws.specs.Charts.Reading.{empty-valid, empty-count, read-valid}
 
 -- what an accepted call gives
 pub record CallFacts (l : Layout) (c : Call) : Type 0 where
-  pub sift : All ProperSift (siftCalled l c)
-  pub rounds : All ProperRound (roundsOfCall l c)
-  pub reached : Layout
-  pub follow : Follow (λ (r : Round Layout). r .before) (λ r. r .after) l (roundsOfCall l c) reached
+  pub run : SweepFacts ring Valid l (sweepOf c)
   pub number : length (roundsOfCall l c) ≡ roundsDue c (answerOf l c)
-  pub moved : All (λ (r : Round Layout). 0 < r .moved) (butLast (roundsOfCall l c))
   pub minimum : T (saysConverged c (answerOf l c)) → LocalMinimum (answerOf l c .layout)
   pub spent : (limit : ℕ) → c ≡ call.Converge limit → answerOf l c .third ≡ 0
       → (answerOf l c .second ≡ limit) × All (λ (r : Round Layout). 0 < r .moved) (roundsOfCall l c)
-  pub optima-are : optimaTold c (answerOf l c) ≡ sumOver (λ (x : Sift Layout). x .optima) (siftCalled l c ++ flatMap siftsOfRound (roundsOfCall l c))
-  pub lead : T (sifting c)
-      → Follow (λ (x : Sift Layout). x .before) (λ x. x .after) l (siftCalled l c ++ flatMap siftsOfRound (roundsOfCall l c)) (answerOf l c .layout)
+  pub optima-are : optimaTold c (answerOf l c) ≡ sumOver optimaAt (siftCalled l c ++ flatMap siftsOfRound (roundsOfCall l c))
+  pub reached : T (sifting c) → sweptTo ring l (sweepOf c) ≡ answerOf l c .layout
 
 -- ---- sift
 
 module _ (l : Layout) (u : ℕ) where
   sift-facts : siftOf l u .refusal ≡ 0 → CallFacts l (call.Sift u)
-  unfolding answerOf siftCalled roundsOfCall butLast roundsDue optimaTold saysConverged flatMap sumOver
+  unfolding answerOf sweepOf siftRun roundsRun roundsDue optimaTold saysConverged flatMap sumOver sweptTo Names
   sift-facts e =
       let p = sift-passed l u e in
+      let same = sift-accepted l u (p .0) (p .1) in
       record {
-        sift = also (proper-sift l (p .0) u (p .1)) none;
-        rounds = none;
-        reached = l;
-        follow = ended;
+        run = sweep-facts ring Valid lawful l (p .0) (one-sift u) (p .1);
         number = refl;
-        moved = none;
         minimum = λ f. absurd f;
         spent = λ limit d. let z : _≡_ {A = ℕ} 0 1 = cc in absurd (omega arith);
-        optima-are = rw (sift-accepted l u (p .0) (p .1)) (sym (add-zero (optimaOf l u)));
-        lead = λ f. rw (sift-accepted l u (p .0) (p .1)) (next ended);
+        optima-are = rw same (sym (add-zero (optimaOf l u)));
+        reached = λ f. rw same refl;
       }
 
 -- ---- round
 
-round-alone : (l : Layout) → siftRound l .optima ≡ optimaIn (roundOn l ∷ [])
-unfolding flatMap sumOver
-round-alone l = sym (add-zero (siftRound l .optima)) ∙ one-more-round l []
-
 module _ (l : Layout) where
   round-facts : roundOf l .refusal ≡ 0 → CallFacts l call.SiftingRound
-  unfolding answerOf siftCalled roundsOfCall butLast roundsDue optimaTold saysConverged
+  unfolding answerOf sweepOf siftRun roundsRun roundsDue optimaTold saysConverged flatMap sweptTo Names roundAt roundBy siftRound
+      swept optimaIn
   round-facts e =
       let t = round-passed l e in
-      let proper = proper-round l t in
+      let same = round-accepted l t in
       record {
-        sift = none;
-        rounds = also proper none;
-        reached = siftRound l .layout;
-        follow = next ended;
+        run = sweep-facts ring Valid lawful l t one-round tt;
         number = refl;
-        moved = none;
         minimum = λ f. absurd f;
         spent = λ limit d. let z : _≡_ {A = ℕ} 0 1 = cc in absurd (omega arith);
-        optima-are = rw (round-accepted l t) (round-alone l);
-        lead = λ f.
-            rw (round-accepted l t)
-            (follow-flat {from = λ (r : Round Layout). r .before} {to = λ r. r .after} siftsOfRound (next ended) (also (proper .chain) none));
+        optima-are = rw same (sym (ap (sumOver optimaAt) (append-nil (siftsOfAll ring l))));
+        reached = λ f. rw same refl;
       }
 
 -- ---- settle
@@ -114,91 +93,47 @@ one-false false e = refl
 
 module _ (l : Layout) (limit : ℕ) where
   settle-facts : settleOf l limit .refusal ≡ 0 → CallFacts l (call.Converge limit)
-  unfolding answerOf siftCalled roundsOfCall roundsDue optimaTold saysConverged
+  unfolding answerOf sweepOf siftRun roundsRun roundsDue optimaTold saysConverged sweptTo Names roundsUpTo settled optimaIn
   settle-facts e =
       let p = settle-passed l limit e in
       let same = settle-accepted l limit (p .0) (p .1) (p .2) in
-      let s = settling limit l (p .0) in
       record {
-        sift = none;
-        rounds = s .proper;
-        reached = roundsUpTo limit l .layout;
-        follow = rounds-follow limit l (p .0);
-        number = rw same (sym (s .number));
-        moved = rounds-moved limit l (p .0);
+        run = sweep-facts ring Valid lawful l (p .0) (some-rounds limit) tt;
+        number = rw same refl;
         minimum = rw same (λ f. settled-minimum limit l (p .0) (one-true (roundsUpTo limit l .converged) f));
         spent = λ k d z.
-            let all = rounds-spent limit l (p .0) (one-false (roundsUpTo limit l .converged) (ap (λ (c : Converged). one (c .converged)) (sym same) ∙ z)) in
+            let all = rounds-spent ring limit l (one-false (roundsUpTo limit l .converged) (ap (λ (c : Converged). one (c .converged)) (sym same) ∙ z)) in
             (ap (λ (c : Converged). c .rounds) same ∙ all .0 ∙ cc, all .1);
-        optima-are = rw same (s .optima-are);
-        lead = λ f. rw same (follow-flat siftsOfRound (rounds-follow limit l (p .0)) (all-mono (s .proper) (λ r q. q .chain)));
+        optima-are = rw same refl;
+        reached = λ f. rw same refl;
       }
 
 -- ---- the other calls sift nothing
 
-no-sifts : (l : Layout) (c : Call) → siftCalled l c ≡ [] → roundsOfCall l c ≡ [] → roundsDue c (answerOf l c) ≡ 0
-    → optimaTold c (answerOf l c) ≡ 0 → saysConverged c (answerOf l c) ≡ false → sifting c ≡ false → CallFacts l c
-unfolding butLast sifting flatMap sumOver
-no-sifts l c called run due told says sifts =
+no-sifts : (l : Layout) (c : Call) → sweepOf c ≡ no-sift → roundsDue c (answerOf l c) ≡ 0 → optimaTold c (answerOf l c) ≡ 0
+    → saysConverged c (answerOf l c) ≡ false → sifting c ≡ false → CallFacts l c
+unfolding sweepOf siftRun roundsRun flatMap sumOver sifting
+no-sifts l c e due told says sifts =
     record {
-      sift = subst (All ProperSift) (sym called) none;
-      rounds = subst (All ProperRound) (sym run) none;
-      reached = l;
-      follow = subst (λ (rs : List (Round Layout)). Follow (λ (r : Round Layout). r .before) (λ r. r .after) l rs l) (sym run) ended;
-      number = ap length run ∙ sym due;
-      moved = subst (λ (rs : List (Round Layout)). All (λ (r : Round Layout). 0 < r .moved) (butLast rs)) (sym run) none;
+      run = subst (SweepFacts ring Valid l) (sym e) (nothing-swept ring Valid l);
+      number = ap (λ (w : Sweep). length (roundsRun ring l w)) e ∙ sym due;
       minimum = λ f. absurd (subst T says f);
-      spent = λ limit e. absurd (false≢true (sym sifts ∙ ap sifting e));
-      optima-are = told ∙ rw (called, run);
-      lead = λ f. absurd (subst T sifts f);
+      spent = λ limit d. absurd (false≢true (sym sifts ∙ ap sifting d));
+      optima-are = told ∙ ap (λ (w : Sweep). sumOver optimaAt (siftRun ring l w ++ flatMap siftsOfRound (roundsRun ring l w))) (sym e);
+      reached = λ f. absurd (subst T sifts f);
     }
 
 -- an accepted call
 pub call-facts : (l : Layout) (c : Call) → answerOf l c .refusal ≡ 0 → CallFacts l c
-unfolding answerOf siftCalled roundsOfCall roundsDue optimaTold saysConverged sifting
+unfolding answerOf sweepOf roundsDue optimaTold saysConverged sifting
 call-facts l (call.Sift u) e = sift-facts l u e
 call-facts l call.SiftingRound e = round-facts l e
 call-facts l (call.Converge limit) e = settle-facts l limit e
-call-facts l call.AddVertex e = no-sifts l call.AddVertex refl refl refl refl refl refl
-call-facts l (call.AddEdge a b) e = no-sifts l (call.AddEdge a b) refl refl refl refl refl refl
-call-facts l (call.RemoveEdge a b) e = no-sifts l (call.RemoveEdge a b) refl refl refl refl refl refl
-call-facts l (call.MoveAfter a b) e = no-sifts l (call.MoveAfter a b) refl refl refl refl refl refl
-call-facts l (call.GreedyAppend s) e = no-sifts l (call.GreedyAppend s) refl refl refl refl refl refl
-
--- ---- the sifts and rounds of a step
-
-abbrev pub stepOn : Layout → Call → Step
-stepOn l c = record { before = l; call = c; answer = answerOf l c }
-
--- of a refused call there are none
-module _ (l : Layout) (c : Call) where
-  pub step-sifts : All ProperSift (siftsOfStep (stepOn l c))
-  unfolding siftsOfStep roundsOfStep accepted flatMap
-  step-sifts = by-test (eqb (answerOf l c .refusal) 0) refl
-    where
-      by-test : (b : Bool) → eqb (answerOf l c .refusal) 0 ≡ b
-          → All ProperSift (cond b (siftCalled l c) [] ++ flatMap siftsOfRound (cond b (roundsOfCall l c) []))
-      by-test true e =
-          let facts = call-facts l c (eqb-true (answerOf l c .refusal) 0 e) in
-          all-append (facts .sift) (all-flatMap siftsOfRound (facts .rounds) (λ r p. p .sifts))
-      by-test false e = none
-
-  pub step-rounds : All ProperRound (roundsOfStep (stepOn l c))
-  unfolding roundsOfStep accepted
-  step-rounds = by-test (eqb (answerOf l c .refusal) 0) refl
-    where
-      by-test : (b : Bool) → eqb (answerOf l c .refusal) 0 ≡ b → All ProperRound (cond b (roundsOfCall l c) [])
-      by-test true e = call-facts l c (eqb-true (answerOf l c .refusal) 0 e) .rounds
-      by-test false e = none
-
--- rounds that follow one another have n sifts each
-pub rounds-sifts : {l m : Layout} {rs : List (Round Layout)} → Follow (λ (r : Round Layout). r .before) (λ r. r .after) l rs m → All ProperRound rs
-    → length (flatMap siftsOfRound rs) ≡ length rs * (l .n)
-unfolding flatMap siftsOfRound
-rounds-sifts ended none = omega arith
-rounds-sifts (next {x = r} {xs = rs} q) (also p ps) =
-    length-append (siftsOfRound r) (flatMap siftsOfRound rs)
-    ∙ rw (rounds-sifts q ps, round-size p, round-length p) (omega arith)
+call-facts l call.AddVertex e = no-sifts l call.AddVertex refl refl refl refl refl
+call-facts l (call.AddEdge a b) e = no-sifts l (call.AddEdge a b) refl refl refl refl refl
+call-facts l (call.RemoveEdge a b) e = no-sifts l (call.RemoveEdge a b) refl refl refl refl refl
+call-facts l (call.MoveAfter a b) e = no-sifts l (call.MoveAfter a b) refl refl refl refl refl
+call-facts l (call.GreedyAppend s) e = no-sifts l (call.GreedyAppend s) refl refl refl refl refl
 
 -- ---- every call, refused or accepted, keeps what the layouts of a list have
 
@@ -243,11 +178,10 @@ call-refused l (call.Converge limit) d = ap ofConverged (settle-refused l limit 
 -- so it does not say converged
 pub refused-says-nothing : (r : ℕ) (l : Layout) (c : Call) → saysConverged c (outcome r l 0 0 0 0) ≡ false
 unfolding saysConverged
-refused-says-nothing r l call.AddVertex = refl
-refused-says-nothing r l (call.AddEdge a b) = refl
-refused-says-nothing r l (call.RemoveEdge a b) = refl
-refused-says-nothing r l (call.MoveAfter a b) = refl
-refused-says-nothing r l (call.GreedyAppend s) = refl
-refused-says-nothing r l (call.Sift u) = refl
-refused-says-nothing r l call.SiftingRound = refl
-refused-says-nothing r l (call.Converge limit) = refl
+refused-says-nothing r l c = by-sweep (sweepOf c)
+  where
+    by-sweep : (w : Sweep) → elim w [ no-sift ↦ false | one-sift u ↦ false | one-round ↦ false | some-rounds limit ↦ eqb 0 1 ] ≡ false
+    by-sweep no-sift = refl
+    by-sweep (one-sift u) = refl
+    by-sweep one-round = refl
+    by-sweep (some-rounds limit) = refl

@@ -1,13 +1,14 @@
--- Crossings, over any weight of the edges that is symmetric and 0 from a vertex to itself; the model's edges of weight 1 are an instance (Edges).
--- Others cite crossingSum-counted (the counting identity), crossings-sum, edges-within (the ends of listed edges), edges-twice (each edge's crossings, summed),
--- closedCrossings and crossings-closed (the crossings of a list, by its entries), turned-lists (where the list starts makes no difference), exchanged,
--- exchanged-inside, exchanged-round and lost-few (two neighbours exchanged), lost-ranked and gained-ranked (what that changes, by sums over the vertices),
--- printed-false (Lemma 1 of document 004 as printed), crossingSum-bound and mostCrossings, edges-few and mostEdges, countOn-crossings (the formula with two
--- counts for each pair of places), chordCrossings with chord-crossings and edge-chord (what a chord and an edge cross) and chord-next, chord-closed and
--- chord-opened (from one place to the next).
+-- Crossings, over any weight of the edges that is symmetric and 0 from a vertex to itself; the pairs of document 01 are the instance of weight 1 (Units).
+-- Others cite crossingSum-counted (the counting identity), crossings-sum, unit-crossings, edges-within (the ends of listed edges), edges-twice (each
+-- edge's crossings, summed), closedCrossings and crossings-closed (the crossings of a list, by its entries), turned-lists (where the list starts
+-- makes no difference), exchanged, exchanged-inside, exchanged-round and lost-few (two neighbours exchanged), lost-ranked and gained-ranked (what
+-- that changes, by sums over the vertices), printed-false (Lemma 1 of document 004 as printed), crossingSum-bound and mostCrossings, edges-few and
+-- mostEdges, countOn-crossings (the formula with two counts for each pair of places), chordCrossings with chord-crossings and edge-chord (what a
+-- chord and an edge cross) and chord-next, chord-closed and chord-opened (from one place to the next).
 pub mod Alternation
 pub mod Counting
 pub mod Edges
+pub mod Units
 pub mod Lists
 pub mod Exchange
 pub mod LemmaOne

@@ -1,8 +1,10 @@
 -- Valid layouts, the checks of a call, and the edits: what a valid layout has, what an accepted call may count on, and that every call keeps a valid
--- layout valid and a right count right. Others cite sound and sound-valid, crossings-bound, crossings-complete, checked-either, counted-valid (what the
+-- layout valid and a right count right. Others cite sound and sound-valid, crossings-bound, crossings-complete, valid-edges and
+-- crossings-pairs (weights and words), checked-either, counted-valid (what the
 -- counter counts), carried-changed and recounted-changed (the count carried on), Keeps with add-keeps, link-keeps, unlink-keeps and move-keeps, none-exactly
 -- and shown-crosses, edge-crossings-twice (the numbers of all edges sum to twice the crossings), and Sized.
 pub mod Validity
+pub mod Weights
 pub mod Zeros
 pub mod Complete
 pub mod Refusals

@@ -7,4 +7,5 @@ pub mod Layouts
 pub mod Sifting
 pub mod Append
 pub mod Buffers
+pub mod Charts
 pub mod Graph6

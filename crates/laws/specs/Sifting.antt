@@ -1,10 +1,16 @@
--- Sifting: over any state with a cost (LocalSearch), and layouts with their crossings as an instance (Candidates, Rounds, Calls).
+-- Sifting: the best of a state and its candidates (LocalSearch), and what is kept of candidates on the way (Keeping); sifts, rounds and settlings of any
+-- lawful search (Sweeps), and lists of calls (Runs); a search whose candidates are orders read clockwise (Circles); the ring as an instance (Candidates,
+-- Rounds, Optima, Calls).
 -- Others cite walked-next, candidate-walked and last-stays (the walk through the candidates, Walk);
--- sift-best, round-lowers, round-minimum, settles-minimum; proper-sift, proper-round, settling, best-sifted, settled-minimum;
+-- sweep-facts, round-no-more, rounds-spent, settled-minimum; lawful, proper-sift, proper-round, best-sifted; sifted-order, sifted-optima;
 -- and of the calls the lemmas accepted, refused and keeps.
 pub mod LocalSearch
+pub mod Keeping
+pub mod Sweeps
+pub mod Runs
 pub mod Candidates
 pub mod Walk
+pub mod Circles
 pub mod Rounds
 pub mod Optima
 pub mod Calls

@@ -19,7 +19,7 @@ use Rattle.model.specs.Listing.{text, line, spaced, listing, listingRoom, listi
 use Rattle.laws.specs.Layouts.Refusals.{by-number}
 use Rattle.laws.specs.Layouts.Reordering.{CountRight}
 use Rattle.laws.specs.Buffers.Writing.{Written, written-whole}
-use Rattle.laws.specs.Sifting.Rounds.{settling}
+use Rattle.laws.specs.Sifting.Rounds.{settled-rearranged}
 use Rattle.laws.specs.Sifting.Calls.{settle-accepted, settle-keeps}
 
 -- the settled layout is valid, has the same vertices and the right count
@@ -30,11 +30,10 @@ pub record Settled (l : Layout) (r : Converged) : Type 0 where
 
 pub settled-fifty : (l : Layout) → T (valid l) → CountRight l → {r : Converged} → r ≡ settleOf l 50 → Settled l r
 settled-fifty l t c e =
-    let s = settling 50 l t in
     rw e
     (record {
       is-valid = settle-keeps l 50 t .0;
-      same-n = ap (λ (x : Converged). x .layout .n) (settle-accepted l 50 t (omega arith) (omega arith)) ∙ s .improved .same-n;
+      same-n = ap (λ (x : Converged). x .layout .n) (settle-accepted l 50 t (omega arith) (omega arith)) ∙ settled-rearranged 50 l t .same-n;
       right = settle-keeps l 50 t .1 c;
     })
 

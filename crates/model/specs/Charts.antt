@@ -11,13 +11,11 @@ use Rattle.model.specs.declared.Asked.{Asked}
 use Rattle.model.specs.declared.Asked.the-variants as asks
 use Rattle.model.specs.declared.FieldFound.{FieldFound}
 use Rattle.model.specs.declared.FieldFound.the-variants as field
-use Rattle.model.specs.declared.BodiesFound.{BodiesFound}
-use Rattle.model.specs.declared.BodiesFound.the-variants as bodies
 use Rattle.model.specs.declared.SizeFound.{SizeFound}
 use Rattle.model.specs.declared.SizeFound.the-variants as size
 use Rattle.model.specs.Lists.{upto, every, any, sumOver, noRepeats}
 use Rattle.model.specs.Crossings.{crossings}
-use Rattle.model.specs.Layouts.{capacity, emptyLayout, eachOnce}
+use Rattle.model.specs.Layouts.{capacity, emptyLayout, eachOnce, uncounted, weight}
 use Rattle.model.specs.Checks.{Check, checked}
 
 -- ---- fields
@@ -58,7 +56,11 @@ fieldsIn (suc k) s =
 unfoldable pub fieldsOf : List ℕ → Fields
 fieldsOf s = fieldsIn (length s) s
 
--- the body of the i-th field
+-- the tags of the fields
+abbrev pub tagsOf : List ℕ → List ℕ
+tagsOf s = map (λ f. f .tag) (fieldsOf s .fields)
+
+-- the body of the i-th field, empty where there are not so many
 unfoldable pub bodyOf : List ℕ → ℕ → List ℕ
 bodyOf s i = getD (fieldsOf s .fields) i (record { tag = 0; body = [] }) .body
 
@@ -126,6 +128,10 @@ placeChecks n o =
     record { passes = eqb (length o) n && eachOnce n o; code = 8 }
     ∷ []
 
+-- the tags that a chart's fields are to have
+abbrev pub chartTags : List ℕ
+chartTags = 0x44 ∷ 0x4C ∷ 0x52 ∷ []
+
 unfoldable pub chartChecks : List ℕ → List Check
 chartChecks s =
     -- "Is the input at most 8,192 bytes? 1"
@@ -133,7 +139,7 @@ chartChecks s =
     -- "Does it divide exactly into fields, each header and body complete? 2"
     ∷ record { passes = fieldsOf s .complete; code = 2 }
     -- "Are the tags 44, 4C, 52, each once, in that sequence? 3"
-    ∷ record { passes = sameList (map (λ f. f .tag) (fieldsOf s .fields)) (0x44 ∷ 0x4C ∷ 0x52 ∷ []); code = 3 }
+    ∷ record { passes = sameList (tagsOf s) chartTags; code = 3 }
     -- 4 to 8
     ∷ (sizeChecks (bodyOf s 0) ++ endChecks (chartSize s) (bodyOf s 1) ++ repeatChecks (bodyOf s 1) ++ placeChecks (chartSize s) (chartOrder s))
 
@@ -155,7 +161,7 @@ padded o = take capacity (o ++ replicate capacity 0)
 abbrev pub layoutWith : ℕ → List Edge → List ℕ → Layout
 layoutWith n es o =
     let adj = map (wordIn es) (upto capacity) in
-    record { n = n; order = padded o; adjacency = adj; count = crossings n o adj }
+    record { n = n; order = padded o; adjacency = adj; count = crossings n o (weight (uncounted n (padded o) adj)) }
 
 -- "a ring read from a chart [carries] its true crossings"
 unfoldable pub chartLayout : List ℕ → Layout
@@ -192,11 +198,6 @@ unfoldable pub fieldFound : FieldFound → Answer
 fieldFound (field.Field tag length) = accept (tag ∷ length ∷ [])
 fieldFound field.Nothing = refuse 0
 
--- the lengths of the bodies of 44, 4C and 52
-unfoldable pub bodiesFound : BodiesFound → Answer
-bodiesFound (bodies.Found a b c) = accept (a ∷ b ∷ c ∷ [])
-bodiesFound (bodies.Refused r) = refuse r
-
 -- the number of vertices (devices)
 unfoldable pub sizeFound : SizeFound → Answer
 sizeFound (size.Found n) = accept (n ∷ [])
@@ -214,10 +215,9 @@ fieldAnswer s = cond (startsWithField s) (accept (getD s 0 0 ∷ bodyLength s �
 unfoldable pub divisionAnswer : List ℕ → Answer
 divisionAnswer s = answer (take 2 (chartChecks s)) []
 
--- question 3: the lengths of the three bodies
-unfoldable pub bodiesAnswer : List ℕ → Answer
-bodiesAnswer s =
-    answer (take 1 (drop 2 (chartChecks s))) (length (bodyOf s 0) ∷ length (bodyOf s 1) ∷ length (bodyOf s 2) ∷ [])
+-- question 3
+unfoldable pub tagsAnswer : List ℕ → Answer
+tagsAnswer s = answer (take 1 (drop 2 (chartChecks s))) []
 
 -- question 4: the number of vertices
 unfoldable pub sizeAnswer : List ℕ → Answer

@@ -1,4 +1,5 @@
--- Edges and crossings. Everywhere n is the number of vertices, o the vertices in their order round the circle, and adj the adjacency words.
+-- Edges and crossings. Everywhere n is the number of vertices, o the vertices in their order round the circle, adj the adjacency words, and W the
+-- weight of the edge between two vertices, 0 where there is none.
 use Prim.Native.Nat.{ℕ, _+_, _*_, _-_, _/_, _%_, _^_}
 use mathlib.Core.Bool.{Bool, xor, _&&_, _||_}
 use mathlib.Core.List.{List, [], _∷_, map, flatMap}
@@ -16,9 +17,12 @@ unfoldable pub linked : List ℕ → ℕ → ℕ → Bool
 unfolding bit
 linked adj u v = eqb (bit (getD adj u 0) v) 1
 
--- "a link is written lower end first, and links are sorted by lower, then higher end"
+-- "a link is written lower end first, and links are sorted by lower, then higher end": of the pairs that pass a test
+abbrev pub edgesBy : ℕ → (ℕ → ℕ → Bool) → List Edge
+edgesBy n to = flatMap (λ a. map (λ b. record { low = a; high = b }) (keep (λ b. ltb a b && to a b) (upto n))) (upto n)
+
 unfoldable pub edges : ℕ → List ℕ → List Edge
-edges n adj = flatMap (λ a. map (λ b. record { low = a; high = b }) (keep (λ b. ltb a b && linked adj a b) (upto n))) (upto n)
+edges n adj = edgesBy n (linked adj)
 
 -- place r lies strictly between places p and q of the list
 unfoldable pub between : ℕ → ℕ → ℕ → Bool
@@ -35,5 +39,30 @@ crosses o e f =
     && alternate (place o (e .low)) (place o (e .high)) (place o (f .low)) (place o (f .high))
 
 -- "The crossings of a ring are the unordered pairs of links that cross."
-unfoldable pub crossings : ℕ → List ℕ → List ℕ → ℕ
-crossings n o adj = sumPairs (λ e f. one (crosses o e f)) (edges n adj)
+unfoldable pub crossingPairs : ℕ → List ℕ → List ℕ → ℕ
+crossingPairs n o adj = sumPairs (λ e f. one (crosses o e f)) (edges n adj)
+
+-- ---- edges that weigh
+
+-- the weight of an edge that the words hold: 1, and 0 where there is none. With it the crossings below are the pairs above (`unit-crossings` in `laws`,
+-- Crossings.Units).
+abbrev pub unitWeight : List ℕ → ℕ → ℕ → ℕ
+unitWeight adj u v = one (linked adj u v)
+
+-- two vertices are joined where the weight between them is not 0
+unfoldable pub adjacent : (ℕ → ℕ → ℕ) → ℕ → ℕ → Bool
+adjacent W a b = ltb 0 (W a b)
+
+unfoldable pub weightedEdges : ℕ → (ℕ → ℕ → ℕ) → List Edge
+weightedEdges n W = edgesBy n (adjacent W)
+
+abbrev pub edgeWeight : (ℕ → ℕ → ℕ) → Edge → ℕ
+edgeWeight W e = W (e .low) (e .high)
+
+-- "a crossing counts the product of its two weights"
+unfoldable pub crossingWeight : (ℕ → ℕ → ℕ) → List ℕ → Edge → Edge → ℕ
+crossingWeight W o e f = one (crosses o e f) * (edgeWeight W e * edgeWeight W f)
+
+-- over the unordered pairs of edges
+unfoldable pub crossings : ℕ → List ℕ → (ℕ → ℕ → ℕ) → ℕ
+crossings n o W = sumPairs (crossingWeight W o) (weightedEdges n W)

@@ -4,18 +4,18 @@ use mathlib.Core.List.{List, map}
 use Rattle.model.specs.declared.Edge.{Edge}
 use Rattle.model.specs.declared.Layout.{Layout}
 use Rattle.model.specs.declared.EdgesCounted.{EdgesCounted}
-use Rattle.model.specs.Lists.{one, sumOver}
-use Rattle.model.specs.Crossings.{edges, crosses}
-use Rattle.model.specs.Layouts.{vertexOrder}
+use Rattle.model.specs.Lists.{sumOver}
+use Rattle.model.specs.Crossings.{edges, crossingWeight}
+use Rattle.model.specs.Layouts.{vertexOrder, weight}
 use Rattle.model.specs.Writing.{fillAnswer, filled}
 
--- "the crossings that link takes part in": how many of the edges es the edge e crosses
-unfoldable pub crossingsWith : List ℕ → List Edge → Edge → ℕ
-crossingsWith o es e = sumOver (λ f. one (crosses o e f)) es
+-- "the crossings that link takes part in": those of the edge e with each of the edges es
+unfoldable pub crossingsWith : (ℕ → ℕ → ℕ) → List ℕ → List Edge → Edge → ℕ
+crossingsWith W o es e = sumOver (crossingWeight W o e) es
 
 -- "a number per link in the writer's sequence"
 unfoldable pub edgeCrossings : Layout → List ℕ
-edgeCrossings l = let es = edges (l .n) (l .adjacency) in map (crossingsWith (vertexOrder l) es) es
+edgeCrossings l = let es = edges (l .n) (l .adjacency) in map (crossingsWith (weight l) (vertexOrder l) es) es
 
 -- "Refused: 23 when the table has fewer entries than there are links, asked after 11."
 abbrev pub tableShort : ℕ

@@ -9,7 +9,7 @@ use Rattle.model.specs.declared.Layout.{Layout}
 use Rattle.model.specs.declared.LayoutRead.{LayoutRead}
 use Rattle.model.specs.Lists.{one, upto, every, any, firstWith, sumOver}
 use Rattle.model.specs.Crossings.{bit, linked, crossings}
-use Rattle.model.specs.Layouts.{capacity}
+use Rattle.model.specs.Layouts.{weight, capacity}
 use Rattle.model.specs.Checks.{Check}
 use Rattle.model.specs.Charts.{sameList, padded, layoutWith, readAs, Answer, answer}
 
@@ -107,7 +107,7 @@ importOf s = readAs (graph6Checks s) (graph6Layout s)
 -- "Export then import keeps n and every link": the layout in the order 0, 1, 2 and so on, with its true crossings there
 unfoldable pub inRisingOrder : Layout → Layout
 inRisingOrder l =
-    record { n = l .n; order = padded (upto (l .n)); adjacency = l .adjacency; count = crossings (l .n) (upto (l .n)) (l .adjacency) }
+    record { n = l .n; order = padded (upto (l .n)); adjacency = l .adjacency; count = crossings (l .n) (upto (l .n)) (weight l) }
 
 -- ---- the passes of the reader, as Charts has them: 20 finds the number of vertices
 

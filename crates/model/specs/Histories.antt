@@ -1,9 +1,9 @@
 -- Lists of calls (document 01, "The calls of a ring", demand 3): every call as a value, what it answers, the steps of a list, and the sifts and
 -- rounds that were run in it.
-use Prim.Native.Nat.{ℕ, zero, suc, _≤_, _<_}
+use Prim.Native.Nat.{ℕ, _≤_, _<_}
 use mathlib.Core.Path.{_≡_}
-use mathlib.Core.Bool.{Bool, true, false, cond, not, _&&_}
-use mathlib.Core.List.{List, [], _∷_, _++_, flatMap}
+use mathlib.Core.Bool.{Bool, true, false, not, _&&_}
+use mathlib.Core.List.{List, flatMap}
 use lib.Dec.{eqb}
 use Rattle.model.specs.declared.Layout.{Layout}
 use Rattle.model.specs.declared.Added.{Added}
@@ -19,7 +19,9 @@ use Rattle.model.specs.Lists.{one, upto, sumOver}
 use Rattle.model.specs.Layouts.{emptyLayout, crossingsOf}
 use Rattle.model.specs.Edits.{addOf, linkOf, unlinkOf, moveOf}
 use Rattle.model.specs.GreedyAppend.{layOf}
-use Rattle.model.specs.Sifting.{sifted, optimaOf, siftOf, moves, siftRound, roundOf, settleOf}
+use Rattle.model.specs.Search.{Sift, Round, Sweep, no-sift, one-sift, one-round, some-rounds, roundsRun, siftRun}
+use Rattle.model.specs.Runs.{Calls, StepOf, stepsFrom, playedFrom, acceptedAt, roundsAt, siftsAt}
+use Rattle.model.specs.Sifting.{ring, siftOf, roundOf, settleOf}
 use Rattle.model.specs.Charts.{readOf}
 use Rattle.model.specs.Graph6.{importOf}
 
@@ -68,104 +70,52 @@ pub data Start : Layout → Type 0 where
   read : (s : List ℕ) → readOf s .refusal ≡ 0 → Start (readOf s .layout)
   imported : (s : List ℕ) → importOf s .refusal ≡ 0 → Start (importOf s .layout)
 
+-- what a call sifts
+unfoldable pub sweepOf : Call → Sweep
+sweepOf (call.Sift u) = one-sift u
+sweepOf call.SiftingRound = one-round
+sweepOf (call.Converge limit) = some-rounds limit
+sweepOf call.AddVertex = no-sift
+sweepOf (call.AddEdge a b) = no-sift
+sweepOf (call.RemoveEdge a b) = no-sift
+sweepOf (call.MoveAfter a b) = no-sift
+sweepOf (call.GreedyAppend s) = no-sift
+
+abbrev pub ringCalls : Calls Layout Call Outcome
+ringCalls = record { search = ring; answers = answerOf; code = λ a. a .refusal; after = λ a. a .layout; sweep = sweepOf }
+
 -- a step: the layout before the call, the call, and its whole answer, with the layout after it
-pub record Step : Type 0 where
-  pub before : Layout
-  pub call : Call
-  pub answer : Outcome
+abbrev pub Step : Type 0
+Step = StepOf Layout Call Outcome
 
 abbrev pub afterStep : Step → Layout
 afterStep s = s .answer .layout
 
--- the steps of the calls played one after the other from l; "Nothing else writes the ring between two calls of the list."
-unfoldable pub steps : Layout → List Call → List Step
-steps l [] = []
-steps l (c ∷ cs) = record { before = l; call = c; answer = answerOf l c } ∷ steps (answerOf l c .layout) cs
+-- the steps of the calls played one after the other from a layout, and the layout after them
+abbrev pub steps : Layout → List Call → List Step
+steps = stepsFrom ringCalls
 
--- the layout after them
-unfoldable pub played : Layout → List Call → Layout
-played l [] = l
-played l (c ∷ cs) = played (answerOf l c .layout) cs
+abbrev pub played : Layout → List Call → Layout
+played = playedFrom ringCalls
 
--- things that lead from one state to another, each beginning where the one before it ended
-pub data Follow {A S : Type 0} (start end : A → S) : S → List A → S → Type 0 where
-  ended : {s : S} → Follow start end s [] s
-  next : {x : A} {xs : List A} {t : S} → Follow start end (end x) xs t → Follow start end (start x) (x ∷ xs) t
-
--- each entry but the last
-unfoldable pub butLast : {A : Type 0} → List A → List A
-butLast [] = []
-butLast (x ∷ []) = []
-butLast (x ∷ y ∷ ys) = x ∷ butLast (y ∷ ys)
+-- was the call accepted?
+abbrev pub accepted : Step → Bool
+accepted = acceptedAt ringCalls
 
 -- ---- the sifts and rounds that a list ran
 
--- a sift: the state before it, the vertex, the state after it, whether the vertex moved, and how many of its candidate places are best
-pub record Sift (S : Type 0) : Type 0 where
-  pub before : S
-  pub vertex : ℕ
-  pub after : S
-  pub moved : Bool
-  pub optima : ℕ
+-- the rounds that a call runs where it is accepted, and the sifts besides those of its rounds: the one called
+abbrev pub roundsOfCall : Layout → Call → List (Round Layout)
+roundsOfCall l c = roundsRun ring l (sweepOf c)
 
--- a round: the state before it and after it, and how many vertices moved
-pub record Round (S : Type 0) : Type 0 where
-  pub before : S
-  pub after : S
-  pub moved : ℕ
+abbrev pub siftCalled : Layout → Call → List (Sift Layout)
+siftCalled l c = siftRun ring l (sweepOf c)
 
-abbrev pub siftOn : Layout → ℕ → Sift Layout
-siftOn l u = record { before = l; vertex = u; after = sifted l u; moved = moves l u; optima = optimaOf l u }
+abbrev pub roundsOfStep : Step → List (Round Layout)
+roundsOfStep = roundsAt ringCalls
 
-abbrev pub roundOn : Layout → Round Layout
-roundOn l = record { before = l; after = siftRound l .layout; moved = siftRound l .moved }
-
--- the sifts of the vertices us one after the other
-unfoldable pub siftsFrom : List ℕ → Layout → List (Sift Layout)
-siftsFrom [] l = []
-siftsFrom (u ∷ us) l = siftOn l u ∷ siftsFrom us (sifted l u)
-
--- the sifts that a round runs
-unfoldable pub siftsOfRound : Round Layout → List (Sift Layout)
-siftsOfRound r = siftsFrom (upto (r .before .n)) (r .before)
-
--- the rounds that a settling runs: up to the first that moves no vertex, and at most as many as the limit
-unfoldable pub roundsFrom : ℕ → Layout → List (Round Layout)
-roundsFrom zero l = []
-roundsFrom (suc limit) l =
-    roundOn l ∷ elim (eqb (siftRound l .moved) 0) [ true ↦ [] | false ↦ roundsFrom limit (siftRound l .layout) ]
-
--- the rounds that an accepted call runs
-unfoldable pub roundsOfCall : Layout → Call → List (Round Layout)
-roundsOfCall l call.SiftingRound = roundOn l ∷ []
-roundsOfCall l (call.Converge limit) = roundsFrom limit l
-roundsOfCall l call.AddVertex = []
-roundsOfCall l (call.AddEdge a b) = []
-roundsOfCall l (call.RemoveEdge a b) = []
-roundsOfCall l (call.MoveAfter a b) = []
-roundsOfCall l (call.GreedyAppend s) = []
-roundsOfCall l (call.Sift u) = []
-
--- the sifts that it runs besides those of its rounds: the one called
-unfoldable pub siftCalled : Layout → Call → List (Sift Layout)
-siftCalled l (call.Sift u) = siftOn l u ∷ []
-siftCalled l call.SiftingRound = []
-siftCalled l (call.Converge limit) = []
-siftCalled l call.AddVertex = []
-siftCalled l (call.AddEdge a b) = []
-siftCalled l (call.RemoveEdge a b) = []
-siftCalled l (call.MoveAfter a b) = []
-siftCalled l (call.GreedyAppend s) = []
-
--- was the call accepted?
-unfoldable pub accepted : Step → Bool
-accepted s = eqb (s .answer .refusal) 0
-
-unfoldable pub roundsOfStep : Step → List (Round Layout)
-roundsOfStep s = cond (accepted s) (roundsOfCall (s .before) (s .call)) []
-
-unfoldable pub siftsOfStep : Step → List (Sift Layout)
-siftsOfStep s = cond (accepted s) (siftCalled (s .before) (s .call)) [] ++ flatMap siftsOfRound (roundsOfStep s)
+abbrev pub siftsOfStep : Step → List (Sift Layout)
+siftsOfStep = siftsAt ringCalls
 
 -- "What demand 3 says of sifts and rounds holds too for the sifts that an accepted round or settling runs, and for the rounds that an accepted
 -- settling runs."
@@ -179,47 +129,19 @@ siftsIn ss = flatMap siftsOfStep ss
 
 -- does the call sift: a sift, a round or a settling?
 unfoldable pub sifting : Call → Bool
-sifting (call.Sift u) = true
-sifting call.SiftingRound = true
-sifting (call.Converge limit) = true
-sifting call.AddVertex = false
-sifting (call.AddEdge a b) = false
-sifting (call.RemoveEdge a b) = false
-sifting (call.MoveAfter a b) = false
-sifting (call.GreedyAppend s) = false
+sifting c = elim (sweepOf c) [ no-sift ↦ false | one-sift u ↦ true | one-round ↦ true | some-rounds limit ↦ true ]
 
 -- how many rounds an accepted call should have run: a round one, a settling as many as it answers
 unfoldable pub roundsDue : Call → Outcome → ℕ
-roundsDue call.SiftingRound a = 1
-roundsDue (call.Converge limit) a = a .second
-roundsDue (call.Sift u) a = 0
-roundsDue call.AddVertex a = 0
-roundsDue (call.AddEdge u v) a = 0
-roundsDue (call.RemoveEdge u v) a = 0
-roundsDue (call.MoveAfter u v) a = 0
-roundsDue (call.GreedyAppend s) a = 0
+roundsDue c a = elim (sweepOf c) [ no-sift ↦ 0 | one-sift u ↦ 0 | one-round ↦ 1 | some-rounds limit ↦ a .second ]
 
 -- the number of best candidate places that the answer tells, the sum of them for a round and a settling
 unfoldable pub optimaTold : Call → Outcome → ℕ
-optimaTold (call.Sift u) a = a .second
-optimaTold call.SiftingRound a = a .third
-optimaTold (call.Converge limit) a = a .fourth
-optimaTold call.AddVertex a = 0
-optimaTold (call.AddEdge u v) a = 0
-optimaTold (call.RemoveEdge u v) a = 0
-optimaTold (call.MoveAfter u v) a = 0
-optimaTold (call.GreedyAppend s) a = 0
+optimaTold c a = elim (sweepOf c) [ no-sift ↦ 0 | one-sift u ↦ a .second | one-round ↦ a .third | some-rounds limit ↦ a .fourth ]
 
 -- does the answer say converged ("settled")?
 unfoldable pub saysConverged : Call → Outcome → Bool
-saysConverged (call.Converge limit) a = eqb (a .third) 1
-saysConverged (call.Sift u) a = false
-saysConverged call.SiftingRound a = false
-saysConverged call.AddVertex a = false
-saysConverged (call.AddEdge u v) a = false
-saysConverged (call.RemoveEdge u v) a = false
-saysConverged (call.MoveAfter u v) a = false
-saysConverged (call.GreedyAppend s) a = false
+saysConverged c a = elim (sweepOf c) [ no-sift ↦ false | one-sift u ↦ false | one-round ↦ false | some-rounds limit ↦ eqb (a .third) 1 ]
 
 -- ---- best places
 

@@ -6,7 +6,7 @@ use lib.ListN.{getD, take, drop, replicate}
 use lib.Dec.{eqb, leb, ltb}
 use Rattle.model.specs.declared.Layout.{Layout}
 use Rattle.model.specs.Lists.{upto, every, keep, occurrences}
-use Rattle.model.specs.Crossings.{linked, crossings}
+use Rattle.model.specs.Crossings.{linked, unitWeight, crossings}
 
 -- how many places order and adjacency have
 abbrev pub capacity : ℕ
@@ -20,9 +20,17 @@ emptyLayout = record { n = 0; order = replicate capacity 0; adjacency = replicat
 unfoldable pub vertexOrder : Layout → List ℕ
 vertexOrder l = take (l .n) (l .order)
 
+-- a layout of n vertices in this order and with these edges, without its count
+abbrev pub uncounted : ℕ → List ℕ → List ℕ → Layout
+uncounted n order adj = record { n = n; order = order; adjacency = adj; count = 0 }
+
+-- the weight of the edge between two vertices, 0 where there is none: nothing else knows where a layout holds it
+unfoldable pub weight : Layout → ℕ → ℕ → ℕ
+weight l = unitWeight (l .adjacency)
+
 -- the crossings of a layout, whatever count it carries
 unfoldable pub crossingsOf : Layout → ℕ
-crossingsOf l = crossings (l .n) (vertexOrder l) (l .adjacency)
+crossingsOf l = crossings (l .n) (vertexOrder l) (weight l)
 
 -- ---- validity
 
@@ -75,7 +83,7 @@ changed l n order adj =
       n = n;
       order = order;
       adjacency = adj;
-      count = carried (l .count) (crossingsOf l) (crossings n (take n order) adj);
+      count = carried (l .count) (crossingsOf l) (crossingsOf (uncounted n order adj));
     }
 
 -- the same with o in the first n places of the order, the unused places and the edges kept

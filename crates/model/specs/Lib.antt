@@ -7,6 +7,8 @@ pub mod Checks
 pub mod Edits
 pub mod Reading
 pub mod GreedyAppend
+pub mod Search
+pub mod Runs
 pub mod Sifting
 pub mod Charts
 pub mod Writing

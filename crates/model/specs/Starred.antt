@@ -9,17 +9,19 @@ use Rattle.model.specs.declared.Edge.{Edge}
 use Rattle.model.specs.declared.Layout.{Layout}
 use Rattle.model.specs.declared.Appended.{Appended}
 use Rattle.model.specs.Lists.{one, upto, every, any, keep, firstWith, sumOver, sumPairs, noRepeats, member, occurrences, place}
-use Rattle.model.specs.Crossings.{bit, linked, edges, between, alternate, crosses, crossings}
-use Rattle.model.specs.Layouts.{capacity, vertexOrder, crossingsOf, eachOnce, zeroFrom, symmetric, loopless, bitsBelow, valid, carried, changed}
-use Rattle.model.specs.Layouts.{reordered}
+use Rattle.model.specs.Crossings.{bit, linked, edges, between, alternate, crosses, adjacent, weightedEdges, crossingWeight, crossings}
+use Rattle.model.specs.Layouts.{capacity, uncounted, vertexOrder, weight, crossingsOf, eachOnce, zeroFrom, symmetric, loopless, bitsBelow}
+use Rattle.model.specs.Layouts.{valid, carried, changed, reordered}
 use Rattle.model.specs.Checks.{refusal, byRefusal, checked, isValid, isVertex, differ, limitFits}
 use Rattle.model.specs.Edits.{changedOr, insertAfter, movedAfter, moveChecks, moveOf}
 use Rattle.model.specs.Reading.{pairWith, orElse, firstPair, firstCrossingOf}
 use Rattle.model.specs.GreedyAppend.{unplaced, waiting, isolated, hasEdges, degreeIn, preferred, bestOf, nextVertex, closing, open′}
 use Rattle.model.specs.GreedyAppend.{frontCrossings, backCrossings, alone, placeFront, placeBack, placeVertex, placeMore, placeAtBack, placeLinked}
 use Rattle.model.specs.GreedyAppend.{placeAll, formerPlaceAll, layChecks, layOf, formerLayOf}
-use Rattle.model.specs.Sifting.{clockwiseFrom, candidates, least, leastCrossings, improves, siftedOrder, sifted, reduction, siftChecks, siftOf}
-use Rattle.model.specs.Sifting.{countWith, optima, optimaOf, moves, siftAll, siftRound, roundOf, afterRound, stopped, roundsUpTo, settleChecks, settleOf}
+use Rattle.model.specs.Search.{least, countWith, reached, movedIn, lastStill, siftBest, siftMoves, bestCandidates, siftsThrough, savedIn, roundBy}
+use Rattle.model.specs.Search.{siftsOfAll, roundAt, roundsWithin}
+use Rattle.model.specs.Sifting.{clockwiseFrom, candidateLayouts, reduction, siftChecks, siftOf, optimaIn, swept, siftRound, roundOf, settled}
+use Rattle.model.specs.Sifting.{roundsUpTo, settleChecks, settleOf}
 use Rattle.model.specs.Charts.{sameList, sameEdge, joins, wordIn}
 
 -- ---- the tables
@@ -155,13 +157,8 @@ withTally =
 -- the layout of a ring of a table, with its true count
 unfoldable pub layoutOf : Ring → Layout
 layoutOf r =
-    let adj = map (wordIn (r .links)) (upto capacity) in
-    record {
-      n = r .vertices;
-      order = take capacity (r .order ++ replicate capacity 0);
-      adjacency = adj;
-      count = crossings (r .vertices) (r .order) adj;
-    }
+    let l = uncounted (r .vertices) (take capacity (r .order ++ replicate capacity 0)) (map (wordIn (r .links)) (upto capacity)) in
+    record { n = l .n; order = l .order; adjacency = l .adjacency; count = crossingsOf l }
 
 -- are two lists of edges the same?
 unfoldable pub sameEdges : List Edge → List Edge → Bool
@@ -202,10 +199,11 @@ holds l (settleOptima limit k) = let r = settleOf l limit in eqb (r .refusal) 0 
 -- every claim of the tables holds, by computation
 pub starred-holds : T (every (λ row. every (holds (layoutOf (row .ring))) (row .claims)) (starred ++ withIsolated ++ withOptima ++ withTally))
 unfolding starred withIsolated withOptima withTally first complete _to_ layoutOf sameEdges gives lays holds one upto every any keep firstWith sumOver
-    sumPairs noRepeats member occurrences place bit linked edges between alternate crosses crossings vertexOrder crossingsOf eachOnce zeroFrom
-    symmetric loopless bitsBelow valid carried changed reordered refusal byRefusal checked isValid isVertex differ limitFits changedOr insertAfter
-    movedAfter moveChecks moveOf pairWith orElse firstPair firstCrossingOf unplaced waiting isolated hasEdges degreeIn preferred bestOf nextVertex
-    closing open′ frontCrossings backCrossings alone placeFront placeBack placeVertex placeMore placeAtBack placeLinked placeAll formerPlaceAll
-    layChecks layOf formerLayOf clockwiseFrom candidates least leastCrossings countWith optima optimaOf improves siftedOrder sifted reduction
-    siftChecks siftOf moves siftAll siftRound roundOf afterRound stopped roundsUpTo settleChecks settleOf sameList sameEdge joins wordIn flatMap xor
+    sumPairs noRepeats member occurrences place bit linked edges between alternate crosses adjacent weightedEdges crossingWeight crossings vertexOrder
+    weight crossingsOf eachOnce zeroFrom symmetric loopless bitsBelow valid carried changed reordered refusal byRefusal checked isValid isVertex
+    differ limitFits changedOr insertAfter movedAfter moveChecks moveOf pairWith orElse firstPair firstCrossingOf unplaced waiting isolated hasEdges
+    degreeIn preferred bestOf nextVertex closing open′ frontCrossings backCrossings alone placeFront placeBack placeVertex placeMore placeAtBack
+    placeLinked placeAll formerPlaceAll layChecks layOf formerLayOf clockwiseFrom candidateLayouts least countWith reached movedIn lastStill siftBest
+    siftMoves bestCandidates siftsThrough savedIn roundBy siftsOfAll roundAt roundsWithin reduction siftChecks siftOf optimaIn swept siftRound roundOf
+    settled roundsUpTo settleChecks settleOf sameList sameEdge joins wordIn flatMap xor
 starred-holds = tt

@@ -6,7 +6,7 @@ use lib.ListN.{length, replicate}
 use lib.Dec.{T, eqb}
 use Rattle.model.specs.declared.Layout.{Layout}
 use Rattle.model.specs.Lists.{one, upto, every, any, keep, sumOver, sumPairs, noRepeats, occurrences, place}
-use Rattle.model.specs.Crossings.{bit, linked, edges, between, alternate, crosses, crossings}
+use Rattle.model.specs.Crossings.{bit, linked, edges, between, alternate, crosses, adjacent, weightedEdges, crossingWeight, crossings}
 use Rattle.model.specs.Layouts.{vertexOrder, eachOnce, zeroFrom, symmetric, loopless, bitsBelow, valid}
 use Rattle.model.specs.Checks.{refusal, byRefusal, checked, isValid, roomFor}
 use Rattle.model.specs.Charts.{fieldsIn, fieldsOf, bodyOf, bodyLength, startsWithField, firstField, chartSize, edgesIn, chartEdges, chartOrder}
@@ -41,8 +41,8 @@ pub worked-writes : let first : List ℕ = 0 ∷ 2 ∷ 1 ∷ 3 ∷ [] in
     && writesInto l 20 0 (chartWithLinks first)
     && writesInto invalid 0 11 []
     && writesInto invalid 20 11 [])
-unfolding chartWithLinks writesLinks writesInto chartOf fieldBytes edgeBytes writeOf writtenBytes chartLayout chartSize chartEdges chartOrder
-    bodyOf fieldsOf fieldsIn startsWithField bodyLength firstField edgesIn wordIn joins sameEdge sameList crossings crosses edges linked bit between
-    alternate upto every any keep one sumOver sumPairs noRepeats occurrences place refusal byRefusal checked isValid roomFor valid eachOnce zeroFrom symmetric
-    loopless bitsBelow vertexOrder flatMap xor
+unfolding chartWithLinks writesLinks writesInto chartOf fieldBytes edgeBytes writeOf writtenBytes chartLayout chartSize chartEdges chartOrder bodyOf
+    fieldsOf fieldsIn startsWithField bodyLength firstField edgesIn wordIn joins sameEdge sameList adjacent weightedEdges crossingWeight crossings
+    crosses edges linked bit between alternate upto every any keep one sumOver sumPairs noRepeats occurrences place refusal byRefusal checked isValid
+    roomFor valid eachOnce zeroFrom symmetric loopless bitsBelow vertexOrder flatMap xor
 worked-writes = tt

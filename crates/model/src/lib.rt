@@ -108,7 +108,7 @@ pub struct EdgesCounted {
 // What the passes of the chart reader and of the graph6 reader answer. specs/Charts.antt says for each
 // case which number and values of document 01 it stands for.
 
-// A pass that only asks: questions 1 and 2, 5 and 6, 7, and 8; of graph6 21, and 22.
+// A pass that only asks: questions 1 and 2, 3, 5 and 6, 7, and 8; of graph6 21, and 22.
 pub enum Asked {
     Passed,
     Refused(u8),
@@ -119,12 +119,6 @@ pub enum Asked {
 pub enum FieldFound {
     Field(u8, usize),
     Nothing,
-}
-
-// Question 3: the lengths of the bodies of fields 44, 4C and 52.
-pub enum BodiesFound {
-    Found(usize, usize, usize),
-    Refused(u8),
 }
 
 // Question 4, and 20 of graph6: the number of vertices.

@@ -15,8 +15,8 @@ use Rattle.model.specs.Graph6.{pairsByHigher, unpacked, chosen, graph6Edges}
 use Rattle.laws.specs.Sums.Lists.{length-upto}
 use Rattle.laws.specs.Layouts.EdgeEdits.{ends-within}
 use Rattle.laws.specs.Graph6.Pairs.{pairs-next, pair-place, chosen-none, chosen-next}
-use Rattle.pairs.specs.Edges.{edge}
-use Rattle.bodies.specs.Words.{adjacencyOf, no-edges, edge-joined}
+use Rattle.laws.specs.Charts.Ends.{edge}
+use Rattle.laws.specs.Charts.Words.{adjacencyOf, no-edges, edge-joined}
 
 -- the pairs whose higher end is b, and whose lower one is below a
 pub lower : ℕ → ℕ → List Edge

@@ -10,7 +10,7 @@ ghost use Rattle.model.specs.Lists.{every};
 ghost use Rattle.model.specs.Edits.{withBit, atBothEnds};
 ghost use Rattle.model.specs.Charts.{asked, answer};
 ghost use Rattle.model.specs.Graph6.{bytesFor, pairsByHigher, unpacked, dataChecks, paddingChecks, graph6Edges};
-ghost use Rattle.bodies.specs.Words.{adjacencyOf};
+ghost use Rattle.laws.specs.Charts.Words.{adjacencyOf};
 ghost use Rattle.pair_bits.specs.Questions.{asks};
 use model::Asked;
 use six_bits::all_hold_six;

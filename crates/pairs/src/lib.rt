@@ -3,7 +3,7 @@ use model::Asked;
 ghost use mathlib.Core.Path.{_≡_};
 ghost use mathlib.Core.List.{[]};
 ghost use Rattle.model.specs.Charts.{asked, answer, endChecks, edgeWithin};
-ghost use Rattle.pairs.specs.Edges.{edge};
+ghost use Rattle.laws.specs.Charts.Ends.{edge};
 
 // Questions 5 and 6: an even length, and the ends of each edge below n and different.
 pub fn ask_ends(n: usize, links: &[u8]) -> Asked

@@ -1,15 +1,12 @@
-// Questions 1 to 4 about a chart: its fields and the number of vertices. Each pass answers an enum.
+// Questions 1 to 4 about a chart, and the bodies of its fields. Each pass answers an enum.
 use model::Asked;
-use model::BodiesFound;
 use model::FieldFound;
 use model::SizeFound;
 ghost use mathlib.Core.Path.{_≡_};
-ghost use mathlib.Core.List.{[], _∷_};
 ghost use Prim.Native.Nat.{_≤_};
 ghost use lib.ListN.{length, drop};
-ghost use Rattle.model.specs.Charts.{asked, fieldFound, bodiesFound, sizeFound};
-ghost use Rattle.model.specs.Charts.{fieldsOf, fieldAnswer, divisionAnswer, bodiesAnswer, sizeAnswer};
-ghost use Rattle.passes.specs.Fields.{rightTags};
+ghost use Rattle.model.specs.Charts.{asked, fieldFound, sizeFound};
+ghost use Rattle.model.specs.Charts.{fieldsOf, tagsOf, bodyOf, sameList, fieldAnswer, divisionAnswer, tagsAnswer, sizeAnswer};
 
 // Questions 1 and 2: at most 8,192 bytes, which divide exactly into fields.
 pub fn ask_fields(bytes: &[u8]) -> Asked
@@ -62,41 +59,56 @@ fn first_field(bytes: &[u8]) -> FieldFound
 }
 
 // Question 3: fields 44, 4C and 52 in that sequence, and no other behind them.
-pub fn find_bodies(bytes: &[u8]) -> BodiesFound
-    ensures { λ r. ⌜ bodiesFound r ≡ bodiesAnswer (now (bytes .entry)) ⌝ }
+pub fn ask_tags(bytes: &[u8]) -> Asked
+    ensures { λ r. ⌜ asked r ≡ tagsAnswer (now (bytes .entry)) ⌝ }
 {
-    let FieldFound::Field(first, size_length) = field_at(bytes, 0) else {
-        return BodiesFound::Refused(3);
-    };
-    let links = 3 + size_length;
-    let FieldFound::Field(second, links_length) = field_at(bytes, links) else {
-        return BodiesFound::Refused(3);
-    };
-    let order = links + 3 + links_length;
-    let FieldFound::Field(third, order_length) = field_at(bytes, order) else {
-        return BodiesFound::Refused(3);
-    };
-    let end = order + 3 + order_length;
-    let FieldFound::Nothing = field_at(bytes, end) else {
-        return BodiesFound::Refused(3);
-    };
-    if are_tags(first, second, third) {
-        BodiesFound::Found(size_length, links_length, order_length)
-    } else {
-        BodiesFound::Refused(3)
+    let tags = [0x44, 0x4C, 0x52];
+    if has_tags(bytes, &tags) {
+        return Asked::Passed;
     }
+    Asked::Refused(3)
 }
 
-fn are_tags(first: u8, second: u8, third: u8) -> bool
-    ensures { λ r. ⌜ r ≡ rightTags (first ∷ second ∷ third ∷ []) ⌝ }
+// Has the input a field with each of these tags, in their sequence, and no other behind them?
+fn has_tags(bytes: &[u8], tags: &[u8]) -> bool
+    ensures { λ r. ⌜ r ≡ sameList (tagsOf (now (bytes .entry))) (now (tags .entry)) ⌝ }
 {
-    if first != 0x44 {
-        return false;
+    let mut at = 0;
+    let mut i = 0;
+    while i < tags.len() {
+        let FieldFound::Field(tag, length) = field_at(bytes, at) else {
+            return false;
+        };
+        if tag != tags[i] {
+            return false;
+        }
+        at += 3 + length;
+        i += 1;
     }
-    if second != 0x4C {
-        return false;
+    let FieldFound::Field(_, _) = field_at(bytes, at) else {
+        return true;
+    };
+    false
+}
+
+// The body of field i, counted from 0; empty where there are not so many fields.
+pub fn body_of(bytes: &[u8], i: usize) -> &[u8]
+    ensures { λ r. ⌜ now r ≡ bodyOf (now (bytes .entry)) i ⌝ }
+{
+    let mut at = 0;
+    let mut left = i;
+    loop {
+        let FieldFound::Field(_, length) = field_at(bytes, at) else {
+            return &bytes[..0];
+        };
+        let start = at + 3;
+        let end = start + length;
+        if left == 0 {
+            return &bytes[start..end];
+        }
+        at = end;
+        left -= 1;
     }
-    third == 0x52
 }
 
 // Question 4: the body of field 44 is one byte, at most 64.

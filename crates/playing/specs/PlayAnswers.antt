@@ -15,12 +15,13 @@ use Rattle.model.specs.declared.Call.{Call}
 use Rattle.model.specs.Checks.{refusal}
 use Rattle.model.specs.Charts.{readOf}
 use Rattle.model.specs.Graph6.{importOf}
-use Rattle.model.specs.Histories.{Start, empty, read, imported, steps, played}
+use Rattle.model.specs.Runs.{stepsFrom, playedFrom}
+use Rattle.model.specs.Histories.{Start, empty, read, imported, played}
 use Rattle.model.specs.Playing.{callsOf, answerWidth, answersOf, startOf, playChecks, playedCalls, playOf, tableOf}
 use Rattle.laws.specs.Layouts.Refusals.{when-accepted, when-refused}
-use Rattle.readers.specs.Passes.{refusedRead}
-use Rattle.readers.specs.Graph6.{import-refused}
-use Rattle.chart.specs.Laws.{read-refused}
+use Rattle.laws.specs.Charts.Passes.{refusedRead}
+use Rattle.laws.specs.Graph6.Imports.{import-refused}
+use Rattle.laws.specs.Charts.Reading.{read-refused}
 use Rattle.history.specs.Demand3.{Demand3, demand-3}
 
 -- what comes back and the table are those of the definition
@@ -46,7 +47,7 @@ module _ (from : Origin) (bytes numbers table : List ℕ) where
 
   refused : {r : ℕ} → r ≡ refusal (playChecks from bytes numbers (length table)) → (r ≡ 0 → ⊥)
       → Answered from bytes numbers table (notPlayed r (startOf from bytes .layout)) table
-  unfolding playedCalls played answersOf steps flatMap
+  unfolding playedCalls playedFrom answersOf stepsFrom flatMap
   refused e d = by-calls e (sym (when-refused (playChecks from bytes numbers (length table)) (callsOf numbers) (λ r. []) e d))
 
   no-start : (startOf from bytes .refusal ≡ 0 → ⊥) → startOf from bytes .refusal ≡ refusal (playChecks from bytes numbers (length table))

@@ -9,7 +9,8 @@ use Rattle.model.specs.declared.Layout.{Layout}
 use Rattle.model.specs.declared.Outcome.{Outcome}
 use Rattle.model.specs.declared.Call.{Call}
 use Rattle.model.specs.declared.Decoded.the-variants as decoded
-use Rattle.model.specs.Histories.{answerOf, steps, played}
+use Rattle.model.specs.Runs.{stepsFrom, playedFrom}
+use Rattle.model.specs.Histories.{answerOf, played}
 use Rattle.model.specs.Playing.{callsOf, answerWidth, answerNumbers, answersOf}
 use Rattle.laws.specs.Buffers.Writing.{written, Written, written-none, written-nothing, written-step, written-whole}
 use Rattle.encoding.specs.Answers.{withAnswer, is-answered}
@@ -18,19 +19,19 @@ use Rattle.encoding.specs.CallLists.{callAt, callThere, there-next, there-end, 
 -- ---- calls behind calls
 
 played-append : (l : Layout) (xs ys : List Call) → played l (xs ++ ys) ≡ played (played l xs) ys
-unfolding played
+unfolding playedFrom
 played-append l [] ys = refl
 played-append l (x ∷ xs) ys = played-append (answerOf l x .layout) xs ys
 
 answers-append : (l : Layout) (xs ys : List Call) → answersOf l (xs ++ ys) ≡ answersOf l xs ++ answersOf (played l xs) ys
-unfolding answersOf steps played flatMap
+unfolding answersOf stepsFrom playedFrom flatMap
 answers-append l [] ys = refl
 answers-append l (x ∷ xs) ys =
     ap (λ (t : List ℕ). answerNumbers (answerOf l x) ++ t) (answers-append (answerOf l x .layout) xs ys)
     ∙ sym (append-assoc (answerNumbers (answerOf l x)) (answersOf (answerOf l x .layout) xs) (answersOf (played (answerOf l x .layout) xs) ys))
 
 answers-length : (l : Layout) (cs : List Call) → length (answersOf l cs) ≡ answerWidth * length cs
-unfolding answersOf steps flatMap answerNumbers
+unfolding answersOf stepsFrom flatMap answerNumbers
 answers-length l [] = refl
 answers-length l (c ∷ cs) = let rest = answers-length (answerOf l c .layout) cs in omega arith
 
@@ -41,7 +42,7 @@ module _ (s : List ℕ) (i : ℕ) (l : Layout) (table : List ℕ) where
   pub there-played : {c : Call} → callAt s i ≡ decoded.Next c → {a : Outcome} → a ≡ answerOf l c
       → answerWidth * i + answerWidth ≤ length table → {after : List ℕ} → after ≡ withAnswer a table (answerWidth * i)
       → (a .layout ≡ played l (callThere s i)) × (after ≡ written table (answerWidth * i) (answersOf l (callThere s i)))
-  unfolding played answersOf steps flatMap answerNumbers
+  unfolding playedFrom answersOf stepsFrom flatMap answerNumbers
   there-played {c} e {a} q room w =
       let one = there-next s i e in (
         ap (λ (x : Outcome). x .layout) q ∙ ap (played l) (sym one),
@@ -54,7 +55,7 @@ module _ (s : List ℕ) (i : ℕ) (l : Layout) (table : List ℕ) where
   -- none there
   pub there-ended : callAt s i ≡ decoded.End
       → (l ≡ played l (callThere s i)) × (table ≡ written table (answerWidth * i) (answersOf l (callThere s i)))
-  unfolding played answersOf steps flatMap
+  unfolding playedFrom answersOf stepsFrom flatMap
   there-ended e =
       let none = there-end s i e in (
         ap (played l) (sym none),
@@ -70,7 +71,7 @@ pub record PlayedUpTo (start : Layout) (numbers table : List ℕ) (i : ℕ) (now
   pub answered : Written table 0 (answersOf start (take i (callsOf numbers))) after (answerWidth * i)
 
 pub played-start : (start : Layout) (numbers table : List ℕ) → PlayedUpTo start numbers table 0 start table
-unfolding played answersOf steps flatMap
+unfolding playedFrom answersOf stepsFrom flatMap
 played-start start numbers table = record { inside = omega arith; reached = refl; answered = written-none table 0 }
 
 module _ {start : Layout} {numbers table : List ℕ} {i : ℕ} {now : Layout} {after : List ℕ} (p : PlayedUpTo start numbers table i now after) where

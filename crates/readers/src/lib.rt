@@ -6,7 +6,7 @@ use model::LayoutRead;
 use model::SizeFound;
 ghost use mathlib.Core.Path.{_≡_};
 ghost use Rattle.model.specs.Charts.{asked, sizeFound};
-ghost use Rattle.readers.specs.Passes.{refusedRead, acceptedRead, countedLayout};
+ghost use Rattle.laws.specs.Charts.Passes.{refusedRead, acceptedRead, countedLayout};
 
 // Refused: the number and the empty layout.
 pub fn refused(code: u8) -> LayoutRead

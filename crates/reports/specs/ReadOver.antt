@@ -9,7 +9,7 @@ use Rattle.model.specs.Checks.{Check, refusal, byRefusal, checked}
 use Rattle.model.specs.Charts.{chartChecks, chartLayout, readAs, readOf}
 use Rattle.model.specs.Graph6.{graph6Checks, graph6Layout, importOf}
 use Rattle.model.specs.Reports.{readOver, importOver}
-use Rattle.readers.specs.Passes.{acceptedRead}
+use Rattle.laws.specs.Charts.Passes.{acceptedRead}
 
 -- the answer to what is refused, with a layout
 abbrev pub refusedWith : Layout → ℕ → LayoutRead

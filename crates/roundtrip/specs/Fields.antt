@@ -11,7 +11,7 @@ use borrow.Author.Tests.{le-leb}
 use Rattle.model.specs.Charts.{Field, bodyLength, startsWithField, firstField, fieldsIn, fieldsOf}
 use Rattle.model.specs.WrittenCharts.{fieldBytes}
 use Rattle.laws.specs.Sums.Lists.{All, also}
-use Rattle.passes.specs.Fields.{behindField, inFront, fields-there}
+use Rattle.laws.specs.Charts.Fields.{behindField, inFront, fields-there}
 
 abbrev pub fieldOf : ℕ → List ℕ → Field
 fieldOf tag body = record { tag = tag; body = body }

@@ -10,10 +10,9 @@ use borrow.Author.Tests.{le-leb, eq-eqb}
 use Rattle.model.specs.declared.Edge.{Edge}
 use Rattle.model.specs.declared.Layout.{Layout}
 use Rattle.model.specs.Lists.{noRepeats}
-use Rattle.model.specs.Crossings.{crossings}
 use Rattle.model.specs.Layouts.{eachOnce}
 use Rattle.model.specs.Checks.{refusal}
-use Rattle.model.specs.Charts.{Field, Fields, fieldsOf, bodyOf, chartSize, chartEdges, chartOrder, edgesIn, sameList, sameEdge, edgeWithin}
+use Rattle.model.specs.Charts.{Field, Fields, fieldsOf, bodyOf, chartSize, chartEdges, chartOrder, edgesIn, sameList, sameEdge, edgeWithin, layoutWith}
 use Rattle.model.specs.Charts.{chartChecks, sizeChecks, endChecks, repeatChecks, placeChecks, chartLayout, readOf}
 use Rattle.model.specs.WrittenCharts.{edgeBytes}
 use Rattle.laws.specs.Sums.Indicators.{T-true}
@@ -24,12 +23,12 @@ use Rattle.laws.specs.Layouts.Validity.{permutation-eachOnce}
 use Rattle.laws.specs.Crossings.Bound.{mostEdges}
 use Rattle.laws.specs.Buffers.EdgeBytes.{edge-bytes-length}
 use Rattle.laws.specs.Buffers.Charts.{chartWith, chart-length}
-use Rattle.bodies.specs.Words.{adjacencyOf}
-use Rattle.readers.specs.Padded.{padded}
-use Rattle.chart.specs.Laws.{read-number, read-is}
+use Rattle.laws.specs.Charts.Words.{adjacencyOf}
+use Rattle.laws.specs.Charts.Padded.{padded}
+use Rattle.laws.specs.Charts.Reading.{read-number, read-is}
 use Rattle.roundtrip.specs.Fields.{fieldOf, field-bytes, allBytes, fields-read}
 use Rattle.laws.specs.Crossings.Edges.{edge-rises, edge-below}
-use Rattle.roundtrip.specs.EdgeLists.{edge-bytes-all, edge-bytes-read}
+use Rattle.laws.specs.Charts.EdgeLists.{edge-bytes-all, edge-bytes-read}
 
 -- the three fields
 abbrev fieldsWith : ℕ → List Edge → List ℕ → List Field
@@ -107,11 +106,11 @@ module _ (n : ℕ) (es : List Edge) (o : List ℕ) (p : Proper n es o) where
 
   -- ---- so the layout has the vertices, the order and the edges that were written, and their crossings
 
-  layout-read : chartLayout chart ≡ record { n = n; order = padded o; adjacency = adjacencyOf es; count = crossings n o (adjacencyOf es) }
+  layout-read : chartLayout chart ≡ layoutWith n es o
   unfolding chartLayout chartSize chartEdges chartOrder
   layout-read = rw (body 0, body 1, body 2, listed)
 
   pub chart-read : readOf (chartWith n es o)
-      ≡ record { refusal = 0; layout = record { n = n; order = padded o; adjacency = adjacencyOf es; count = crossings n o (adjacencyOf es) } }
+      ≡ record { refusal = 0; layout = layoutWith n es o }
   unfolding chart
   chart-read = read-is chart (read-number chart ∙ accepted) ∙ ap (λ (l : Layout). record { refusal = 0; layout = l }) layout-read

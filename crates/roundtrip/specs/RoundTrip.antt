@@ -11,8 +11,8 @@ use Rattle.model.specs.declared.Edge.{Edge}
 use Rattle.model.specs.declared.Layout.{Layout}
 use Rattle.model.specs.declared.LayoutRead.{LayoutRead}
 use Rattle.model.specs.Lists.{any}
-use Rattle.model.specs.Crossings.{edges, crossings}
-use Rattle.model.specs.Layouts.{vertexOrder, crossingsOf, valid}
+use Rattle.model.specs.Crossings.{edges, unitWeight, crossings}
+use Rattle.model.specs.Layouts.{vertexOrder, weight, crossingsOf, valid}
 use Rattle.model.specs.Checks.{refusal}
 use Rattle.model.specs.Charts.{bodyOf, chartSize, chartEdges, chartOrder, sameEdge, chartChecks, readOf}
 use Rattle.model.specs.Writing.{writeOf, writtenBytes}
@@ -23,12 +23,12 @@ use Rattle.laws.specs.Buffers.Charts.{chart-edges}
 pub use Rattle.laws.specs.Buffers.Charts.{chart-size}
 use Rattle.laws.specs.Buffers.Formats.{write-accepted, written-front}
 use Rattle.laws.specs.Layouts.Sizes.{Sized}
-use Rattle.laws.specs.Layouts.Validity.{sound}
-use Rattle.readers.specs.Padded.{padded, padded-length, padded-at}
-use Rattle.chart.specs.Laws.{read-valid, read-sized, same-charts}
-use Rattle.chart.specs.Sequence.{Rewritten, rewriting-free}
+use Rattle.laws.specs.Layouts.Validity.{sound, words-symmetric}
+use Rattle.laws.specs.Charts.Padded.{padded, padded-length, padded-at}
+use Rattle.laws.specs.Charts.Reading.{read-valid, read-sized, same-charts}
+use Rattle.laws.specs.Charts.Sequence.{Rewritten, rewriting-free}
 use Rattle.laws.specs.Crossings.Edges.{edges-within}
-use Rattle.roundtrip.specs.EdgeLists.{edges-once, edges-words}
+use Rattle.laws.specs.Charts.EdgeLists.{edges-once, edges-words}
 use Rattle.roundtrip.specs.Listings.{Proper, chart-bytes, chart-read}
 
 -- a list that is 0 from place n on is its first n entries, filled up with 0
@@ -69,16 +69,16 @@ module _ (l : Layout) (t : T (valid l)) where
 
 -- "Reading a written chart gives the ring with its true count."
 pub written-read : (l : Layout) → Sized l → T (valid l) → readOf (chartOf l) ≡ record { refusal = 0; layout = withTrueCount l }
-unfolding withTrueCount crossingsOf vertexOrder
+unfolding withTrueCount crossingsOf vertexOrder weight
 written-read l s t =
     ap readOf (chart-edges l)
     ∙ chart-read (l .n) (edges (l .n) (l .adjacency)) (vertexOrder l) (proper l t)
     ∙ ap₂ read-as
     (padded-again (l .n) (l .order) (s .places) (sound l t .places))
-    (edges-words (l .n) (l .adjacency) (sound l t .symmetry) (sound l t .bits) (sound l t .unused) (sound l t .small) (s .words))
+    (edges-words (l .n) (l .adjacency) (words-symmetric l t) (sound l t .bits) (sound l t .unused) (sound l t .small) (s .words))
   where
     read-as : List ℕ → List ℕ → LayoutRead
-    read-as o adj = record { refusal = 0; layout = record { n = l .n; order = o; adjacency = adj; count = crossings (l .n) (vertexOrder l) adj } }
+    read-as o adj = record { refusal = 0; layout = record { n = l .n; order = o; adjacency = adj; count = crossings (l .n) (vertexOrder l) (unitWeight adj) } }
 
 -- so with the call itself: where it is accepted, as many bytes of the buffer as it answers are read as the layout with its true count
 pub write-then-read : (l : Layout) (buffer : List ℕ) → Sized l → writeOf chartOf l buffer .refusal ≡ 0

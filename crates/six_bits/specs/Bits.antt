@@ -1,26 +1,15 @@
--- The bytes that hold six bits, and bit k of some bytes, by the byte that it stands in.
+-- Bit k of some bytes, by the byte that it stands in.
 use Prim.Native.Nat.{ℕ, _-_, _/_, _%_, _≤_, _<_}
 use native.Mathlib.Omega.{arith}
 use mathlib.Core.Path.{_≡_, sym, ap, _∙_}
-use mathlib.Core.Bool.{Bool, true, false}
+use mathlib.Core.Bool.{Bool, false}
 use mathlib.Core.List.{List}
 use lib.ListN.{length, getD, List·getD-eq-default}
-use lib.Dec.{eqb, leb}
-use borrow.Author.Tests.{le-leb, leb-true}
+use lib.Dec.{eqb}
 use Rattle.model.specs.Crossings.{bit}
-use Rattle.model.specs.Graph6.{holdsSix, unpacked}
-use Rattle.laws.specs.Sums.Indicators.{both-left, both-right}
+use Rattle.model.specs.Graph6.{unpacked}
 use Rattle.laws.specs.Sums.Bits.{bit-beyond}
 use Rattle.laws.specs.Graph6.Packing.{unpacked-length, unpacked-at}
-
-pub six-within : {byte : ℕ} → holdsSix byte ≡ true → (63 ≤ byte) × (byte ≤ 126)
-unfolding holdsSix
-six-within {byte} e =
-    (leb-true 63 byte (both-left (leb 63 byte) (leb byte 126) e), leb-true byte 126 (both-right (leb 63 byte) (leb byte 126) e))
-
-pub within-six : {byte : ℕ} → 63 ≤ byte → byte ≤ 126 → holdsSix byte ≡ true
-unfolding holdsSix
-within-six {byte} h l = rw (le-leb 63 byte h, le-leb byte 126 l)
 
 module _ (bytes : List ℕ) (k : ℕ) where
   -- behind the last byte there is none

@@ -9,25 +9,26 @@ use lib.ListN.{length, getD, take, drop, length-map, take-append-drop, List·get
 use lib.Dec.{ltb}
 use borrow.Author.Tests.{lt-ltb, le-ltb}
 use Rattle.model.specs.Lists.{place}
-use Rattle.model.specs.Crossings.{crossings}
+use Rattle.model.specs.Crossings.{unitWeight, crossings}
 use Rattle.model.specs.Edits.{movedAfter}
-use Rattle.model.specs.Sifting.{candidates, least, leastCrossings, improves, siftedOrder, optima, countWith}
+use Rattle.model.specs.Search.{least, countWith}
 use Rattle.laws.specs.Sums.Indicators.{less, same, more, order}
 use Rattle.laws.specs.Orders.Permutations.{at, at-lt, place-below, place-of-at}
 use Rattle.laws.specs.Sifting.LocalSearch.{least-default, count-most}
-use Rattle.laws.specs.Sifting.Candidates.{sift-stays}
+use Rattle.laws.specs.Sifting.Candidates.{candidates, leastCrossings, improves, siftedOrder, optima, sift-stays}
 use Rattle.laws.specs.Sifting.Walk.{last-stays}
 use Rattle.places.specs.MovedPlaces.{shifted, shifted-moved}
 use Rattle.walk.specs.declared.Kept.{Kept}
 use Rattle.walk.specs.declared.Walk.{Walk}
-use Rattle.walk.specs.Keeping.{KeptOf, kept-as, number-kept, first-kept, least-kept, least-over}
+use Rattle.laws.specs.Sifting.Keeping.{best-as, number-kept, first-kept, least-kept, least-over}
+use Rattle.walk.specs.Keeping.{KeptOf}
 use Rattle.walk.specs.Words.{turned, Seated, othersOf, small, perm, below, others-length, turned-vertex}
 use Rattle.walk.specs.Walks.{candidateCrossings, present-few}
 
 pub record Found (n : ℕ) (places adj : List ℕ) (u : ℕ) (r : Walk) : Type 0 where
-  pub order : r .order ≡ siftedOrder n adj u (take n places) ++ drop n places
-  pub after : r .after ≡ leastCrossings n adj u (take n places)
-  pub optima-are : r .optima ≡ optima n adj u (take n places)
+  pub order : r .order ≡ siftedOrder n (unitWeight adj) u (take n places) ++ drop n places
+  pub after : r .after ≡ leastCrossings n (unitWeight adj) u (take n places)
+  pub optima-are : r .optima ≡ optima n (unitWeight adj) u (take n places)
 
 -- the entries after the one at place p was moved behind the one at place q, if both are places
 unfoldable pub movedPlaces : List ℕ → ℕ → ℕ → List ℕ
@@ -61,7 +62,7 @@ module _ {n : ℕ} {places adj : List ℕ} {u p : ℕ} (seat : Seated n places a
   candidate j = movedAfter u (at (othersOf n places u) j) (take n places)
 
   abbrev score : List ℕ → ℕ
-  score c = crossings n c adj
+  score c = crossings n c (unitWeight adj)
 
   -- the array that moving by places makes of candidate j
   candidate-array : (j : ℕ) → j + 1 < n → movedPlaces places p (turned n p j) ≡ candidate j ++ drop n places
@@ -88,24 +89,26 @@ module _ {n : ℕ} {places adj : List ℕ} {u p : ℕ} (seat : Seated n places a
   unfolding candidates
   candidate-at j = List·getD-map (λ v. movedAfter u v o) (othersOf n places u) j 0
 
-  module _ {kept : Kept} {before : ℕ} (e : before ≡ crossings n (take n places) adj) (s : KeptOf (candidateCrossings n places adj u) (n - 1) kept) where
+  module _ {kept : Kept} {before : ℕ} (e : before ≡ crossings n (take n places) (unitWeight adj))
+      (s : KeptOf (candidateCrossings n places adj u) (n - 1) kept) where
     listed : KeptOf (λ i. score (getD (candidates u o) i (movedAfter u 0 o))) (length (candidates u o)) kept
     listed =
         let size : n - 1 ≡ length (candidates u o) = omega (arith, candidates-length) in
-        rw size at (kept-as (λ i. ap score (sym (candidate-at i))) s)
+        rw size at (best-as (λ i. ap score (sym (candidate-at i))) s)
 
-    fewest-first : kept .least ≡ leastCrossings n adj u o → 0 < n - 1 → kept .least < before → siftedOrder n adj u o ≡ candidate (kept .first)
+    fewest-first : kept .least ≡ leastCrossings n (unitWeight adj) u o → 0 < n - 1 → kept .least < before
+        → siftedOrder n (unitWeight adj) u o ≡ candidate (kept .first)
     unfolding siftedOrder improves
     fewest-first fewest some l =
-        rw (← fewest, lt-ltb (kept .least) (crossings n o adj) (rw e at l))
+        rw (← fewest, lt-ltb (kept .least) (crossings n o (unitWeight adj)) (rw e at l))
         (first-kept score (candidates u o) (movedAfter u 0 o) listed (omega (arith, candidates-length)) o ∙ candidate-at (kept .first))
 
-    number : kept .least ≡ leastCrossings n adj u o → kept .optima ≡ optima n adj u o
+    number : kept .least ≡ leastCrossings n (unitWeight adj) u o → kept .optima ≡ optima n (unitWeight adj) u o
     unfolding optima
     number fewest =
         number-kept score (candidates u o) (movedAfter u 0 o) listed ∙ ap (λ (k : ℕ). countWith score k (candidates u o)) fewest
 
-    found-moving : kept .least ≡ leastCrossings n adj u o → 0 < n - 1 → kept .least < before → Found n places adj u (moving n p places kept)
+    found-moving : kept .least ≡ leastCrossings n (unitWeight adj) u o → 0 < n - 1 → kept .least < before → Found n places adj u (moving n p places kept)
     found-moving fewest some l =
         record {
           order =
@@ -115,14 +118,15 @@ module _ {n : ℕ} {places adj : List ℕ} {u p : ℕ} (seat : Seated n places a
           optima-are = number fewest;
         }
 
-    found-staying : leastCrossings n adj u o ≡ before → kept .optima ≡ optima n adj u o → Found n places adj u (staying places kept before)
+    found-staying : leastCrossings n (unitWeight adj) u o ≡ before → kept .optima ≡ optima n (unitWeight adj) u o
+        → Found n places adj u (staying places kept before)
     unfolding improves
     found-staying fewest told =
         record {
           order =
               sym
               (ap (λ (x : List ℕ). x ++ drop n places)
-              (sift-stays (perm seat) adj u (below seat) (le-ltb (leastCrossings n adj u o) (crossings n o adj) (omega (arith, e, fewest))))
+              (sift-stays n (unitWeight adj) u o (le-ltb (leastCrossings n (unitWeight adj) u o) (crossings n o (unitWeight adj)) (omega (arith, e, fewest))))
               ∙ take-append-drop n places);
           after = sym fewest;
           optima-are = told;
@@ -136,10 +140,10 @@ module _ {n : ℕ} {places adj : List ℕ} {u p : ℕ} (seat : Seated n places a
             arith,
             e,
             s .below (n - 2) (omega arith),
-            last-stays (perm seat) adj (seat .walker .drawn .symmetry) u (below seat) (omega arith),
+            last-stays (perm seat) (unitWeight adj) (seat .walker .drawn .symmetry) u (below seat) (omega arith),
           )
 
-      fewest : kept .least ≡ leastCrossings n adj u o
+      fewest : kept .least ≡ leastCrossings n (unitWeight adj) u o
       unfolding leastCrossings
       fewest = rw e at (least-kept score (candidates u o) (movedAfter u 0 o) listed (omega (arith, candidates-length)) at-most)
 
@@ -157,16 +161,16 @@ module _ {n : ℕ} {places adj : List ℕ} {u p : ℕ} (seat : Seated n places a
     unfolding chosen leastCrossings optima
     found-none z =
         let none : length (candidates u o) ≡ 0 = omega (arith, candidates-length) in
-        let fewest : leastCrossings n adj u o ≡ before =
-        le-antisymm (omega (arith, e, least-default score (crossings n o adj) (candidates u o)))
-        (least-over score (crossings n o adj) before (movedAfter u 0 o) (candidates u o) (le-of-eq e) (λ i l. absurd (omega arith))) in
+        let fewest : leastCrossings n (unitWeight adj) u o ≡ before =
+        le-antisymm (omega (arith, e, least-default score (crossings n o (unitWeight adj)) (candidates u o)))
+        (least-over score (crossings n o (unitWeight adj)) before (movedAfter u 0 o) (candidates u o) (le-of-eq e) (λ i l. absurd (omega arith))) in
         rw (le-ltb (kept .least) before (omega (arith, s .none-yet (sym z), e, present-few seat)))
         (found-staying fewest
         (omega (
           arith,
           number-kept score (candidates u o) (movedAfter u 0 o) listed,
           count-most score (kept .least) (candidates u o),
-          count-most score (leastCrossings n adj u o) (candidates u o),
+          count-most score (leastCrossings n (unitWeight adj) u o) (candidates u o),
         )))
 
     pub walk-found : {r : Walk} → r ≡ chosen n p places kept before → Found n places adj u r

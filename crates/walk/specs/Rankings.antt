@@ -8,11 +8,10 @@ use mathlib.Core.List.{List}
 use lib.ListN.{getD, take, replicate}
 use lib.Seq.{take-all}
 use Rattle.model.specs.Lists.{sumOver, sumPairs}
-use Rattle.model.specs.Crossings.{bit}
+use Rattle.model.specs.Crossings.{bit, unitWeight}
 use Rattle.laws.specs.Sums.Lists.{sumOver-last, sumOver-scale-right, sumPairs-last}
 use Rattle.laws.specs.Sums.Bits.{bit-lt}
 use Rattle.laws.specs.Orders.Permutations.{at}
-use Rattle.laws.specs.Crossings.Edges.{weight}
 use Rattle.laws.specs.Crossings.Masks.{weight-bit}
 use Rattle.laws.specs.Sifting.Walk.{other-at}
 use Rattle.ranks.specs.Ranks.{rankSum, withRank, Unranked, rank-written, rank-other, unranked-none, ranks-none}
@@ -34,20 +33,20 @@ ranked-made r neighbours v e d = rw (e, d)
 -- the sum of the ranks over a set: the neighbours before each of its vertices
 pub record RankedUpTo (n : ℕ) (places adj : List ℕ) (u : ℕ) (r : Ranking) (j : ℕ) : Type 0 where
   pub inside : j < n
-  pub sums : (set : ℕ) → rankSum (r .ranks) set ≡ sumPairs (λ x y. weight adj u x * bit set y) (take j (othersOf n places u))
+  pub sums : (set : ℕ) → rankSum (r .ranks) set ≡ sumPairs (λ x y. unitWeight adj u x * bit set y) (take j (othersOf n places u))
   pub blank : (i : ℕ) → j ≤ i → suc i < n → Unranked (r .ranks) (at (othersOf n places u) i)
-  pub met-are : r .met ≡ sumOver (weight adj u) (take j (othersOf n places u))
+  pub met-are : r .met ≡ sumOver (unitWeight adj u) (take j (othersOf n places u))
 
 -- and once all are ranked, over the neighbours of any vertex v
 pub record RanksOf (n : ℕ) (places adj : List ℕ) (u : ℕ) (ranks : List ℕ) : Type 0 where
-  pub sums : (v : ℕ) → rankSum ranks (getD adj v 0) ≡ sumPairs (λ x y. weight adj u x * weight adj v y) (othersOf n places u)
+  pub sums : (v : ℕ) → rankSum ranks (getD adj v 0) ≡ sumPairs (λ x y. unitWeight adj u x * unitWeight adj v y) (othersOf n places u)
 
 module _ {n : ℕ} {places adj : List ℕ} {u p : ℕ} (seat : Seated n places adj u p) where
   abbrev others : List ℕ
   others = othersOf n places u
 
   abbrev W : ℕ → ℕ → ℕ
-  W = weight adj
+  W = unitWeight adj
 
   pub ranks-start : RankedUpTo n places adj u noRanks 0
   unfolding sumPairs sumOver

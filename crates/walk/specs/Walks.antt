@@ -9,13 +9,12 @@ use mathlib.Core.List.{List, [], _∷_, _++_}
 use lib.ListN.{length, getD, take, drop}
 use lib.Seq.{split-at}
 use Rattle.model.specs.Lists.{sumOver, occurrences}
-use Rattle.model.specs.Crossings.{bit, linked, crossings}
+use Rattle.model.specs.Crossings.{bit, linked, crossings, unitWeight}
 use Rattle.model.specs.Edits.{movedAfter}
 use Rattle.laws.specs.Sums.Indicators.{one-eq, one-le}
 use Rattle.laws.specs.Sums.Lists.{all-take, sumOver-last}
 use Rattle.laws.specs.Sums.Bits.{bit-lt, bit-none, maskedOnes, set-within}
 use Rattle.laws.specs.Orders.Permutations.{at, occurrences-nil, occurrences-split}
-use Rattle.laws.specs.Crossings.Edges.{weight}
 use Rattle.laws.specs.Crossings.Masks.{Holds, holds-set}
 use Rattle.laws.specs.Crossings.Bound.{mostCrossings}
 use Rattle.laws.specs.Crossings.Exchange.{lost, gained, lost-ranked, gained-ranked}
@@ -24,7 +23,8 @@ use Rattle.ranks.specs.Ranks.{rankSum}
 use Rattle.walk.specs.declared.Vertex.{Vertex}
 use Rattle.walk.specs.declared.Step.{Step}
 use Rattle.walk.specs.Exchanges.{Passed}
-use Rattle.walk.specs.Keeping.{KeptOf, nothing, next-few, next-first, kept-start, kept-next}
+use Rattle.laws.specs.Sifting.Keeping.{best-start}
+use Rattle.walk.specs.Keeping.{KeptOf, nothing, next-few, next-first, kept-next}
 use Rattle.walk.specs.Words.{otherAt, vertexWords, Seated, othersOf, Joined, small, perm, below, others-length, others-below, within}
 use Rattle.walk.specs.Rankings.{RanksOf}
 use Rattle.walk.specs.Words.{weighed, other-right, taken-next, degree-counted, neighbours-joined, others-counted, shared-counted}
@@ -33,10 +33,10 @@ use Rattle.walk.specs.Words.{weighed, other-right, taken-next, degree-co
 
 -- the crossings of candidate i, and of the present one once j were passed: the present order at first
 abbrev pub candidateCrossings : ℕ → List ℕ → List ℕ → ℕ → ℕ → ℕ
-candidateCrossings n places adj u i = crossings n (movedAfter u (at (othersOf n places u) i) (take n places)) adj
+candidateCrossings n places adj u i = crossings n (movedAfter u (at (othersOf n places u) i) (take n places)) (unitWeight adj)
 
 unfoldable pub presentCrossings : ℕ → List ℕ → List ℕ → ℕ → ℕ → ℕ
-presentCrossings n places adj u zero = crossings n (take n places) adj
+presentCrossings n places adj u zero = crossings n (take n places) (unitWeight adj)
 presentCrossings n places adj u (suc i) = candidateCrossings n places adj u i
 
 pub record WalkedUpTo (n : ℕ) (places adj : List ℕ) (u : ℕ) (step : Step) (j : ℕ) : Type 0 where
@@ -46,7 +46,7 @@ pub record WalkedUpTo (n : ℕ) (places adj : List ℕ) (u : ℕ) (step : Step) 
   -- what is kept is right for the candidates so far
   pub kept-right : KeptOf (candidateCrossings n places adj u) j (step .kept)
   pub passed-held : Holds (step .passed) (take j (othersOf n places u))
-  pub met-are : step .met ≡ sumOver (weight adj u) (take j (othersOf n places u))
+  pub met-are : step .met ≡ sumOver (unitWeight adj u) (take j (othersOf n places u))
 
 -- small numbers, whatever the bytes are
 pub record SmallStep (step : Step) (j : ℕ) : Type 0 where
@@ -71,18 +71,18 @@ small-next {step} {r} {vertex} {ranks} {word} {v} {j} s p =
 
 module _ {n : ℕ} {places adj : List ℕ} {u p : ℕ} (seat : Seated n places adj u p) where
   abbrev W : ℕ → ℕ → ℕ
-  W = weight adj
+  W = unitWeight adj
 
   abbrev others : List ℕ
   others = othersOf n places u
 
-  pub walk-start : {before : ℕ} → before ≡ crossings n (take n places) adj → WalkedUpTo n places adj u (firstStep before) 0
+  pub walk-start : {before : ℕ} → before ≡ crossings n (take n places) (unitWeight adj) → WalkedUpTo n places adj u (firstStep before) 0
   unfolding presentCrossings sumOver
   walk-start e =
       record {
         inside = omega (arith, below seat);
         present = e;
-        kept-right = kept-start;
+        kept-right = best-start;
         passed-held = λ v l. bit-none v ∙ sym (occurrences-nil v);
         met-are = refl;
       }
@@ -90,13 +90,13 @@ module _ {n : ℕ} {places adj : List ℕ} {u p : ℕ} (seat : Seated n places a
   -- by the exchanges
   present-exchanged : (j : ℕ) → j < n → presentCrossings n places adj u j ≡ walked W u others j
   unfolding presentCrossings
-  present-exchanged zero l = present-walked (perm seat) adj (seat .walker .drawn .symmetry) u (below seat)
-  present-exchanged (suc i) l = candidate-walked (perm seat) adj (seat .walker .drawn .symmetry) u (below seat) i l
+  present-exchanged zero l = present-walked (perm seat) W (seat .walker .drawn .symmetry) u (below seat)
+  present-exchanged (suc i) l = candidate-walked (perm seat) W (seat .walker .drawn .symmetry) u (below seat) i l
 
   few : (i : ℕ) → i < n → walked W u others i ≤ mostCrossings
   few i h = walked-few 1 (λ x y. one-le (linked adj x y)) u others i (omega (arith, others-length seat, small seat)) (omega (arith, others-length seat))
 
-  pub present-few : crossings n (take n places) adj ≤ mostCrossings
+  pub present-few : crossings n (take n places) (unitWeight adj) ≤ mostCrossings
   unfolding presentCrossings
   present-few = rw (present-exchanged 0 (omega (arith, below seat))) (few 0 (omega (arith, below seat)))
 
@@ -191,7 +191,7 @@ module _ {n : ℕ} {places adj : List ℕ} {u p : ℕ} (seat : Seated n places a
 pub record WalkUpTo (n p : ℕ) (places adj : List ℕ) (u before : ℕ) (step : Step) (j : ℕ) : Type 0 where
   pub inside : j ≤ n
   pub small-step : SmallStep step j
-  pub right : Seated n places adj u p → before ≡ crossings n (take n places) adj → WalkedUpTo n places adj u step j
+  pub right : Seated n places adj u p → before ≡ crossings n (take n places) (unitWeight adj) → WalkedUpTo n places adj u step j
 
 module _ {n p : ℕ} {places adj : List ℕ} {u before : ℕ} where
   pub walking-start : WalkUpTo n p places adj u before (firstStep before) 0
@@ -210,7 +210,7 @@ module _ {n p : ℕ} {places adj : List ℕ} {u before : ℕ} where
 
     pub walking-end : n ≤ j + 1 → n ≤ 64
         → (step .kept .first ≤ 64)
-        × (Seated n places adj u p → before ≡ crossings n (take n places) adj → KeptOf (candidateCrossings n places adj u) (n - 1) (step .kept))
+        × (Seated n places adj u p → before ≡ crossings n (take n places) (unitWeight adj) → KeptOf (candidateCrossings n places adj u) (n - 1) (step .kept))
     walking-end l h = (
       omega (arith, s .inside, s .small-step .first-few),
       λ seat d.

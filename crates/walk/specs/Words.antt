@@ -12,7 +12,7 @@ use lib.Bits.{bitAnd}
 use lib.Dec.{eqb, ltb}
 use borrow.Author.Tests.{lt-ltb, le-ltb}
 use Rattle.model.specs.Lists.{sumOver, occurrences, place}
-use Rattle.model.specs.Crossings.{bit}
+use Rattle.model.specs.Crossings.{bit, unitWeight}
 use Rattle.model.specs.Edits.{withoutBit}
 use Rattle.model.specs.Sifting.{clockwiseFrom}
 use Rattle.laws.specs.Sums.Indicators.{less, same, more, order, one-ne}
@@ -20,7 +20,6 @@ use Rattle.laws.specs.Sums.Ranges.{sum-ext}
 use Rattle.laws.specs.Sums.Lists.{All, all-mono, sumOver-ext}
 use Rattle.laws.specs.Sums.Bits.{bit-and, maskedOnes, clear-same, clear-other}
 use Rattle.laws.specs.Orders.Permutations.{at, Permutation, place-at, place-below}
-use Rattle.laws.specs.Crossings.Edges.{weight}
 use Rattle.laws.specs.Crossings.Masks.{Holds, sum-occurrences, masked-sum, weight-bit, holds-all}
 use Rattle.laws.specs.Layouts.Recount.{Drawn}
 use Rattle.laws.specs.Sifting.Candidates.{clockwise-occurrences, clockwise-not, clockwise-others}
@@ -106,7 +105,7 @@ othersOf n places u = clockwiseFrom u (take n places)
 
 -- the neighbours of u are those of the others that it is joined to
 pub record Joined (n : ℕ) (places adj : List ℕ) (u word : ℕ) : Type 0 where
-  pub joined : (j : ℕ) → suc j < n → bit word (at (othersOf n places u) j) ≡ weight adj u (at (othersOf n places u) j)
+  pub joined : (j : ℕ) → suc j < n → bit word (at (othersOf n places u) j) ≡ unitWeight adj u (at (othersOf n places u) j)
 
 module _ {n : ℕ} {places adj : List ℕ} {u p : ℕ} (seat : Seated n places adj u p) where
   pub small : n ≤ 64
@@ -122,7 +121,7 @@ module _ {n : ℕ} {places adj : List ℕ} {u p : ℕ} (seat : Seated n places a
   others = othersOf n places u
 
   abbrev W : ℕ → ℕ → ℕ
-  W = weight adj
+  W = unitWeight adj
 
   pub others-length : suc (length others) ≡ n
   others-length = clockwise-length perm u below

@@ -5,7 +5,7 @@ ghost use mathlib.Core.Path.{_≡_};
 ghost use mathlib.Core.List.{List};
 ghost use Prim.Native.Nat.{ℕ, _+_, _-_, _<_, _≤_};
 ghost use lib.ListN.{take};
-ghost use Rattle.model.specs.Crossings.{crossings as crossingsOf};
+ghost use Rattle.model.specs.Crossings.{unitWeight, crossings};
 ghost use Rattle.walk.specs.Keeping.{KeptOf, keptNext, keeping};
 ghost use Rattle.walk.specs.Words.{turned as turnedPlace, otherAt, vertexWords, Walker, Seated, Joined};
 ghost use Rattle.walk.specs.Rankings.{RanksOf, rankedNext};
@@ -58,7 +58,7 @@ struct Step {
 // crossings, and how many of the candidates have them. Of bytes that are no valid layout nothing is
 // said.
 pub fn best_order(n: usize, order: [u8; 64], adjacency: &[u64; 64], u: usize, before: u32) -> Walk
-    ensures { λ r. ⌜ (Walker n order (now (adjacency .entry)) u → before ≡ crossingsOf n (take n order) (now (adjacency .entry))
+    ensures { λ r. ⌜ (Walker n order (now (adjacency .entry)) u → before ≡ crossings n (take n order) (unitWeight (now (adjacency .entry)))
         → Found n order (now (adjacency .entry)) u r) ⌝ }
 {
     if 64 < n {
@@ -84,7 +84,8 @@ fn pass_all(
 ) -> Kept
     requires { ⌜ (n ≤ 64) × (p ≤ n) ⌝ }
     ensures { λ r. ⌜ (r .first ≤ 64)
-        × (Seated n (now (order .entry)) (now (adjacency .entry)) u p → before ≡ crossingsOf n (take n (now (order .entry))) (now (adjacency .entry))
+        × (Seated n (now (order .entry)) (now (adjacency .entry)) u p
+        → before ≡ crossings n (take n (now (order .entry))) (unitWeight (now (adjacency .entry)))
         → KeptOf (candidateCrossings n (now (order .entry)) (now (adjacency .entry)) u) (n - 1) r) ⌝ }
 {
     let vertex = vertex_of(n, adjacency, u);

@@ -1,6 +1,6 @@
 use borrow.Author.Needs.{needs}
 use mathlib.Core.Path.{_∙_}
-use Rattle.readers.specs.Passes.{asked-number}
+use Rattle.laws.specs.Charts.Passes.{asked-number}
 use Rattle.chart.specs.Reading.{read-divided, read-undivided}
 use Rattle.chart.proofs.read.Statement.{statement}
 use Rattle.chart.proofs.read.Tie as tie

@@ -4,7 +4,7 @@ use native.Mathlib.Omega.{arith}
 use mathlib.Core.Path.{_∙_}
 use mathlib.Core.List.{List}
 use lib.ListN.{length}
-use Rattle.readers.specs.Passes.{size-number}
+use Rattle.laws.specs.Charts.Passes.{size-number}
 use Rattle.graph6.specs.Importing.{SizeRead, size-read, size-refused, behind-size}
 use Rattle.graph6.proofs.import.Statement.{statement}
 use Rattle.graph6.proofs.import.Tie as tie

@@ -1,6 +1,6 @@
 use borrow.Author.Needs.{needs}
 use mathlib.Core.Path.{_∙_}
-use Rattle.readers.specs.Passes.{asked-number}
+use Rattle.laws.specs.Charts.Passes.{asked-number}
 use Rattle.graph6.specs.Importing.{bits-refused, bits-accepted}
 use Rattle.graph6.proofs.import_bits.Statement.{statement}
 use Rattle.graph6.proofs.import_bits.Tie as tie

@@ -3,7 +3,7 @@ use native.Mathlib.Omega.{arith}
 use mathlib.Core.Path.{refl}
 use Rattle.model.specs.Lists.{upto}
 use Rattle.laws.specs.Sums.Loops.{MadeUpTo, made-start, made-next, made-end}
-use Rattle.readers.specs.Padded.{padded}
+use Rattle.laws.specs.Charts.Padded.{padded}
 use Rattle.graph6.specs.Rising.{none-placed, one-placed}
 use Rattle.graph6.proofs.rising_order.Statement.{statement}
 use Rattle.graph6.proofs.rising_order.Tie as tie

@@ -5,7 +5,7 @@ use mathlib.Core.Path.{sym, _∙_}
 use mathlib.Core.Bool.{true≢false}
 use Rattle.model.specs.Charts.{sizeFound}
 use Rattle.laws.specs.Sums.Indicators.{test-held, test-failed}
-use Rattle.six_bits.specs.Bits.{six-within, within-six}
+use Rattle.laws.specs.Graph6.SixBits.{six-within, within-six}
 use Rattle.graph_size.specs.Sizes.{long-refused, long-found}
 use Rattle.graph_size.proofs.long_size.Statement.{statement}
 use Rattle.graph_size.proofs.long_size.Tie as tie

@@ -11,8 +11,8 @@ use lib.Dec.{T, eqb}
 use borrow.Author.Tests.{lt-ltb}
 use Rattle.model.specs.declared.Layout.{Layout}
 use Rattle.model.specs.Lists.{one, upto, any, sumOver, sumPairs, member, occurrences}
-use Rattle.model.specs.Layouts.{crossingsOf, valid, reordered}
-use Rattle.model.specs.GreedyAppend.{unplaced, waiting, hasEdges, degreeIn, nextVertex, closing, open′, frontCrossings, backCrossings}
+use Rattle.model.specs.Layouts.{weight, crossingsOf, valid, reordered}
+use Rattle.model.specs.GreedyAppend.{unplaced, waiting, hasEdges, nextVertex, closing, open′, frontCrossings, backCrossings}
 use Rattle.model.specs.GreedyAppend.{Placing, alone, placeFront, placeBack, placeVertex, placeMore, placeAtBack, placeLinked, placeAll}
 use Rattle.laws.specs.Sums.Indicators.{less, same, more, order, one-eq}
 use Rattle.laws.specs.Sums.Ranges.{sum}
@@ -21,12 +21,12 @@ use Rattle.laws.specs.Sums.Any.{any-append}
 use Rattle.laws.specs.Sums.Pairs.{Symmetric}
 use Rattle.laws.specs.Orders.Permutations.{at, Permutation, occurrences-cons, occurrences-append, occurrences-last, occurs-at, member-occurs}
 use Rattle.laws.specs.Orders.Permutations.{order-sum, none-beyond}
-use Rattle.laws.specs.Crossings.Edges.{weight}
 use Rattle.laws.specs.Crossings.Lists.{sumTriples, sumQuads, triples-last, quads-last, sumTriples-ext, sumTriples-add, sumQuads-ext, sumQuads-add}
 use Rattle.laws.specs.Crossings.Lists.{closedCrossings, closed-crossings}
 use Rattle.laws.specs.Layouts.Validity.{sound}
 use Rattle.laws.specs.Append.Order.{not-member, unplaced-front, unplaced-back}
 use Rattle.laws.specs.Append.Crossings.{crossingsMet, met-back, met-front, closing-edges, met-finished}
+use Rattle.laws.specs.Layouts.Weights.{weight-within-words}
 use Rattle.laws.specs.Append.Isolated.{isolated-at-back}
 use Rattle.laws.specs.Append.Calls.{either-end, laid-start, laid-more, laidOut, lay-permutation, lay-crossings}
 
@@ -298,95 +298,96 @@ module _ {n : ℕ} {W : ℕ → ℕ → ℕ} (symmetry : Symmetric n W) {zs : Li
 
 -- ---- the call lay
 
-module _ {n : ℕ} (adj : List ℕ) (symmetry : Symmetric n (weight adj)) {zs : List ℕ} (perm : Permutation n zs) where
+module _ {n : ℕ} (W : ℕ → ℕ → ℕ) (symmetry : Symmetric n W) {zs : List ℕ} (perm : Permutation n zs) where
   -- what a vertex adds to the tally, at the back, at the front, and at the end that is taken
-  pub back-counted : (s : Placing) (v : ℕ) → Around (placeBack n adj s v .placed) zs
-      → placeBack n adj s v .tally ≡ s .tally + crossingsFirst (weight adj) (s .placed) (placeBack n adj s v .placed) zs
-  unfolding placeBack backCrossings closing open′ degreeIn
+  pub back-counted : (s : Placing) (v : ℕ) → Around (placeBack n W s v .placed) zs
+      → placeBack n W s v .tally ≡ s .tally + crossingsFirst W (s .placed) (placeBack n W s v .placed) zs
+  unfolding placeBack backCrossings closing open′
   back-counted s v r = ap (λ (k : ℕ). s .tally + k) (sym (first-at-back symmetry perm v (s .placed) r ∙ rw (unplaced-back n (s .placed) v)))
 
-  front-counted : (s : Placing) (v : ℕ) → Around (placeFront n adj s v .placed) zs
-      → placeFront n adj s v .tally ≡ s .tally + crossingsFirst (weight adj) (s .placed) (placeFront n adj s v .placed) zs
-  unfolding placeFront frontCrossings closing open′ degreeIn
+  front-counted : (s : Placing) (v : ℕ) → Around (placeFront n W s v .placed) zs
+      → placeFront n W s v .tally ≡ s .tally + crossingsFirst W (s .placed) (placeFront n W s v .placed) zs
+  unfolding placeFront frontCrossings closing open′
   front-counted s v r = ap (λ (k : ℕ). s .tally + k) (sym (first-at-front symmetry perm r ∙ rw (unplaced-front n (s .placed) v)))
 
-  pub step-counted : (s : Placing) (v : ℕ) → Around (placeVertex n adj s v .placed) zs
-      → placeVertex n adj s v .tally ≡ s .tally + crossingsFirst (weight adj) (s .placed) (placeVertex n adj s v .placed) zs
+  pub step-counted : (s : Placing) (v : ℕ) → Around (placeVertex n W s v .placed) zs
+      → placeVertex n W s v .tally ≡ s .tally + crossingsFirst W (s .placed) (placeVertex n W s v .placed) zs
   step-counted s v =
-      either-end n adj (λ t. Around (t .placed) zs → t .tally ≡ s .tally + crossingsFirst (weight adj) (s .placed) (t .placed) zs) s v (front-counted s v)
+      either-end n W (λ t. Around (t .placed) zs → t .tally ≡ s .tally + crossingsFirst W (s .placed) (t .placed) zs) s v (front-counted s v)
       (back-counted s v)
 
 -- the last vertex adds nothing, as no edge is open
-module _ (n : ℕ) (adj xs : List ℕ) (v : ℕ) (done : unplaced n (v ∷ xs) ≡ []) where
-  no-open : (q : ℕ) → open′ n adj xs v q ≡ 0
-  unfolding open′ degreeIn sumOver
-  no-open q = ap (degreeIn adj q) (sym (unplaced-front n xs v) ∙ done)
+module _ (n : ℕ) (W : ℕ → ℕ → ℕ) (xs : List ℕ) (v : ℕ) (done : unplaced n (v ∷ xs) ≡ []) where
+  no-open : (q : ℕ) → open′ n W xs v q ≡ 0
+  unfolding open′ sumOver
+  no-open q = ap (sumOver (W q)) (sym (unplaced-front n xs v) ∙ done)
 
-  pub last-adds-nothing : (frontCrossings n adj xs v ≡ 0) × (backCrossings n adj xs v ≡ 0)
+  pub last-adds-nothing : (frontCrossings n W xs v ≡ 0) × (backCrossings n W xs v ≡ 0)
   unfolding frontCrossings backCrossings
   last-adds-nothing = (
-    (λ i. sumPairs (λ q p. closing n adj xs v p * no-open q i) xs) ∙ simp mul-zero (omega (arith, sumPairs-scale 0 (λ q p. 0) xs)),
-    (λ i. sumPairs (λ p q. closing n adj xs v p * no-open q i) xs) ∙ simp mul-zero (omega (arith, sumPairs-scale 0 (λ p q. 0) xs)),
+    (λ i. sumPairs (λ q p. closing n W xs v p * no-open q i) xs) ∙ simp mul-zero (omega (arith, sumPairs-scale 0 (λ q p. 0) xs)),
+    (λ i. sumPairs (λ p q. closing n W xs v p * no-open q i) xs) ∙ simp mul-zero (omega (arith, sumPairs-scale 0 (λ p q. 0) xs)),
   )
 
 -- the steps of a run, each seen from those before it
-module _ (n : ℕ) (adj : List ℕ) where
+module _ (n : ℕ) (adj : List ℕ) (W : ℕ → ℕ → ℕ) where
   abbrev placeNext : (ℕ → Bool) → Placing → Placing
-  placeNext p s = placeVertex n adj s (nextVertex n adj (s .placed) (waiting n p (s .placed)))
+  placeNext p s = placeVertex n W s (nextVertex n adj (s .placed) (waiting n p (s .placed)))
 
-  more-last : (p : ℕ → Bool) (k : ℕ) (s : Placing) → placeMore n adj p (suc k) s ≡ placeNext p (placeMore n adj p k s)
+  more-last : (p : ℕ → Bool) (k : ℕ) (s : Placing) → placeMore n adj W p (suc k) s ≡ placeNext p (placeMore n adj W p k s)
   unfolding placeMore
   more-last p zero s = refl
   more-last p (suc k) s = more-last p k (placeNext p s)
 
   module _ {zs : List ℕ} where
-    around-vertex : (s : Placing) (v : ℕ) → Around (placeVertex n adj s v .placed) zs → Around (s .placed) zs
+    around-vertex : (s : Placing) (v : ℕ) → Around (placeVertex n W s v .placed) zs → Around (s .placed) zs
     unfolding placeFront placeBack
-    around-vertex s v = either-end n adj (λ t. Around (t .placed) zs → Around (s .placed) zs) s v around-front (around-back v (s .placed))
+    around-vertex s v = either-end n W (λ t. Around (t .placed) zs → Around (s .placed) zs) s v around-front (around-back v (s .placed))
 
-    around-placed : (vs : List ℕ) (s : Placing) → Around (placeAtBack n adj s vs .placed) zs → Around (s .placed) zs
+    around-placed : (vs : List ℕ) (s : Placing) → Around (placeAtBack n W s vs .placed) zs → Around (s .placed) zs
     unfolding placeAtBack placeBack
     around-placed [] s r = r
-    around-placed (v ∷ vs) s r = around-back v (s .placed) (around-placed vs (placeBack n adj s v) r)
+    around-placed (v ∷ vs) s r = around-back v (s .placed) (around-placed vs (placeBack n W s v) r)
 
-    around-earlier : (p : ℕ → Bool) (k : ℕ) (s : Placing) → Around (placeMore n adj p (suc k) s .placed) zs → Around (placeMore n adj p k s .placed) zs
-    around-earlier p k s r = around-vertex (placeMore n adj p k s) _ (subst (λ (t : Placing). Around (t .placed) zs) (more-last p k s) r)
+    around-earlier : (p : ℕ → Bool) (k : ℕ) (s : Placing) → Around (placeMore n adj W p (suc k) s .placed) zs → Around (placeMore n adj W p k s .placed) zs
+    around-earlier p k s r = around-vertex (placeMore n adj W p k s) _ (subst (λ (t : Placing). Around (t .placed) zs) (more-last p k s) r)
 
-    around-more : (p : ℕ → Bool) (k j : ℕ) (s : Placing) → Around (placeMore n adj p (k + j) s .placed) zs → Around (placeMore n adj p k s .placed) zs
+    around-more : (p : ℕ → Bool) (k j : ℕ) (s : Placing) → Around (placeMore n adj W p (k + j) s .placed) zs → Around (placeMore n adj W p k s .placed) zs
     around-more p k zero s r = rw add-zero at r
     around-more p k (suc j) s r = around-more p k j s (around-earlier p (k + j) s (rw add-suc at r))
 
 module _ (l : Layout) (s : ℕ) where
   -- the list and the tally after k of the steps that place the vertices with edges
   abbrev pub after : ℕ → Placing
-  after k = placeMore (l .n) (l .adjacency) (hasEdges (l .adjacency)) k (alone s)
+  after k = placeMore (l .n) (l .adjacency) (weight l) (hasEdges (l .adjacency)) k (alone s)
 
   abbrev pub steps : ℕ
   steps = length (waiting (l .n) (hasEdges (l .adjacency)) (s ∷ []))
 
   -- the crossings of the finished order whose first edge closes in the step after these k
   abbrev pub firstIn : ℕ → ℕ
-  firstIn k = crossingsFirst (weight (l .adjacency)) (after k .placed) (after (suc k) .placed) (laidOut l s .placed)
+  firstIn k = crossingsFirst (weight l) (after k .placed) (after (suc k) .placed) (laidOut l s .placed)
 
   after-around : (k : ℕ) → k ≤ steps → Around (after k .placed) (laidOut l s .placed)
   unfolding placeAll placeLinked
   after-around k small =
-      around-more (l .n) (l .adjacency) (hasEdges (l .adjacency)) k (steps - k) (alone s)
-      (rw (add-sub-of-le small) (around-placed (l .n) (l .adjacency) _ (placeLinked (l .n) (l .adjacency) s) (around-all (laidOut l s .placed))))
+      around-more (l .n) (l .adjacency) (weight l) (hasEdges (l .adjacency)) k (steps - k) (alone s)
+      (rw (add-sub-of-le small)
+      (around-placed (l .n) (l .adjacency) (weight l) _ (placeLinked (l .n) (l .adjacency) (weight l) s) (around-all (laidOut l s .placed))))
 
   module _ (t : T (valid l)) (h : s < l .n) where
     -- the step adds these to the tally
     pub lay-counted : (k : ℕ) → k < steps → after (suc k) .tally ≡ after k .tally + firstIn k
     lay-counted k small =
-        let last = more-last (l .n) (l .adjacency) (hasEdges (l .adjacency)) k (alone s) in
-        rw last (step-counted (l .adjacency) (sound l t .symmetry) (lay-permutation l s t h) (after k) _ (rw last at (after-around (suc k) small)))
+        let last = more-last (l .n) (l .adjacency) (weight l) (hasEdges (l .adjacency)) k (alone s) in
+        rw last (step-counted (weight l) (sound l t .symmetry) (lay-permutation l s t h) (after k) _ (rw last at (after-around (suc k) small)))
 
     -- the tally so far is the crossings of the finished order that have a closed edge
-    pub lay-tally-closed : (k : ℕ) → k ≤ steps → after k .tally ≡ crossingsClosed (weight (l .adjacency)) (after k .placed) (laidOut l s .placed)
-    unfolding degreeIn alone
+    pub lay-tally-closed : (k : ℕ) → k ≤ steps → after k .tally ≡ crossingsClosed (weight l) (after k .placed) (laidOut l s .placed)
+    unfolding alone
     lay-tally-closed k small =
         let symmetry = sound l t .symmetry in
-        laid-more (l .adjacency) symmetry (hasEdges (l .adjacency)) k small (laid-start (l .n) (l .adjacency) s h) .0 .tallied
+        laid-more (weight l) symmetry (l .adjacency) (hasEdges (l .adjacency)) k small (laid-start (l .n) (weight l) s h) .0 .tallied
         ∙ sym (closed-met symmetry (lay-permutation l s t h) (after-around k small))
 
     summed : (k : ℕ) → k ≤ steps → sum k firstIn ≡ after k .tally
@@ -399,5 +400,5 @@ module _ (l : Layout) (s : ℕ) where
     unfolding placeAll placeLinked
     lay-once =
         summed steps (le-refl steps)
-        ∙ sym (ap (λ (p : Placing). p .tally) (isolated-at-back (l .n) (l .adjacency) (placeLinked (l .n) (l .adjacency) s)))
+        ∙ sym (ap (λ (p : Placing). p .tally) (isolated-at-back (weight-within-words l t) (l .n) (placeLinked (l .n) (l .adjacency) (weight l) s)))
         ∙ lay-crossings l s t h

@@ -8,7 +8,7 @@ use Rattle.model.specs.declared.Layout.{Layout}
 use Rattle.model.specs.declared.EdgesCounted.{EdgesCounted}
 use Rattle.model.specs.Lists.{sumOver}
 use Rattle.model.specs.Crossings.{edges}
-use Rattle.model.specs.Layouts.{vertexOrder, crossingsOf}
+use Rattle.model.specs.Layouts.{vertexOrder, weight, crossingsOf}
 use Rattle.model.specs.Checks.{refusal}
 use Rattle.model.specs.Writing.{fillChecks}
 use Rattle.model.specs.EdgeCrossings.{crossingsWith, edgeCrossings, tableShort, countAnswer, edgeCrossingsOf, crossingTable}
@@ -19,7 +19,7 @@ use Rattle.laws.specs.Buffers.Formats.{fill-accepted, fill-answered, fil
 -- there is a number for each edge
 pub numbers-length : (l : Layout) → length (edgeCrossings l) ≡ length (edges (l .n) (l .adjacency))
 unfolding edgeCrossings
-numbers-length l = let es = edges (l .n) (l .adjacency) in length-map es (crossingsWith (vertexOrder l) es)
+numbers-length l = let es = edges (l .n) (l .adjacency) in length-map es (crossingsWith (weight l) (vertexOrder l) es)
 
 module _ (l : Layout) (table : List ℕ) (accepted : edgeCrossingsOf l table .refusal ≡ 0) where
   passed : refusal (fillChecks tableShort edgeCrossings l table) ≡ 0

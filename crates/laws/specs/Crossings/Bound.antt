@@ -7,13 +7,13 @@ use mathlib.Core.List.{List}
 use lib.ListN.{length}
 use lib.Dec.{ltb}
 use Rattle.model.specs.Lists.{one}
-use Rattle.model.specs.Crossings.{linked, edges}
+use Rattle.model.specs.Crossings.{linked, edges, unitWeight}
 use Rattle.laws.specs.Sums.Indicators.{less, same, more, order, one-ge, one-le}
 use Rattle.laws.specs.Sums.Ranges.{sum, sum-const, sum-cut, sum-below, sum-above, sum-mono}
 use Rattle.laws.specs.Sums.Lists.{sumOver-places}
 use Rattle.laws.specs.Sums.Pairs.{pairSum, pairSum-ext, pairSum-scale}
 use Rattle.laws.specs.Crossings.Counting.{crossingSum, crossingSum-counted}
-use Rattle.laws.specs.Crossings.Edges.{weight, edge, sumOver-edges}
+use Rattle.laws.specs.Crossings.Edges.{edge, sumOver-edges}
 
 -- more terms make no less
 pub sum-more : (n m : ℕ) (f : ℕ → ℕ) → n ≤ m → sum n f ≤ sum m f
@@ -98,11 +98,11 @@ crossingSum-complete c w h =
 
 -- ---- the most edges
 
-edges-number : (n : ℕ) (adj : List ℕ) → length (edges n adj) ≡ pairSum n (weight adj)
+edges-number : (n : ℕ) (adj : List ℕ) → length (edges n adj) ≡ pairSum n (unitWeight adj)
 edges-number n adj =
     sym (sumOver-places (λ e. 1) (edge 0 0) (edges n adj) ∙ sum-const (length (edges n adj)) 1 ∙ mul-one (length (edges n adj)))
     ∙ sumOver-edges n adj (λ e. 1)
-    ∙ pairSum-ext n (λ a b. weight adj a b * 1) (weight adj) (λ a b l m. mul-one (weight adj a b))
+    ∙ pairSum-ext n (λ a b. unitWeight adj a b * 1) (unitWeight adj) (λ a b l m. mul-one (unitWeight adj a b))
 
 -- each two of 64 vertices
 abbrev pub mostEdges : ℕ
@@ -110,4 +110,4 @@ mostEdges = 2016
 
 pub edges-few : (n : ℕ) (adj : List ℕ) → n ≤ 64 → length (edges n adj) ≤ mostEdges
 unfolding pairSum sum one
-edges-few n adj h = rw (edges-number n adj) (pairSum-mono n 64 (weight adj) (λ a b. 1) h (λ a b l m. one-le (linked adj a b)))
+edges-few n adj h = rw (edges-number n adj) (pairSum-mono n 64 (unitWeight adj) (λ a b. 1) h (λ a b l m. one-le (linked adj a b)))

@@ -11,7 +11,7 @@ use lib.Seq.{take-suc, getD-drop}
 use lib.Dec.{eqb, ltb}
 use Rattle.model.specs.declared.Edge.{Edge}
 use Rattle.model.specs.Lists.{one, sumOver, occurrences, place}
-use Rattle.model.specs.Crossings.{edges}
+use Rattle.model.specs.Crossings.{weightedEdges, edgeWeight}
 use Rattle.model.specs.EdgeCrossings.{crossingsWith}
 use Rattle.laws.specs.Sums.Indicators.{less, same, more, order, one-ne, one-ge}
 use Rattle.laws.specs.Sums.Ranges.{double, halves, sum, sum-ext, sum-zero, sum-add, sum-scale, sum-swap}
@@ -20,7 +20,7 @@ use Rattle.laws.specs.Sums.Pairs.{pairSum, pairSum-ext, pairSum-twice, S
 use Rattle.laws.specs.Orders.Permutations.{at, Permutation, at-lt, place-of-at, place-below, sum-before, sum-behind, sum-between, from-place}
 use Rattle.laws.specs.Crossings.Alternation.{cross, rising, cross-ordered, cross-swap-left, cross-swap-right}
 use Rattle.laws.specs.Crossings.Counting.{placed}
-use Rattle.laws.specs.Crossings.Edges.{weight, Within, edge-crossed}
+use Rattle.laws.specs.Crossings.Edges.{Within, edge-crossed}
 
 -- the weight of the edges from vertices of one list to vertices of another
 unfoldable pub joining : (ℕ → ℕ → ℕ) → List ℕ → List ℕ → ℕ
@@ -258,15 +258,19 @@ module _ {n : ℕ} {o : List ℕ} (perm : Permutation n o) {W : ℕ → ℕ → 
 
 -- ---- the edges of the model
 
-module _ {n : ℕ} {o : List ℕ} (perm : Permutation n o) (adj : List ℕ) (symmetry : Symmetric n (weight adj)) (e : Edge) (ends : Within n e) where
+module _ {n : ℕ} {o : List ℕ} (perm : Permutation n o) (W : ℕ → ℕ → ℕ) (symmetry : Symmetric n W) (e : Edge) (ends : Within n e) where
   -- an edge crosses what the chord between the places of its ends crosses
   pub edge-chord : place o (e .low) < place o (e .high)
-      → crossingsWith o (edges n adj) e ≡ chordCrossings (weight adj) o (place o (e .low)) (place o (e .high))
-  edge-chord l = edge-crossed perm adj e ends ∙ chord-crossings perm symmetry (place o (e .low)) (place o (e .high)) l (place-below perm (e .high) (ends .1))
+      → crossingsWith W o (weightedEdges n W) e ≡ edgeWeight W e * chordCrossings W o (place o (e .low)) (place o (e .high))
+  edge-chord l =
+      edge-crossed perm W e ends
+      ∙ ap (λ (x : ℕ). edgeWeight W e * x)
+      (chord-crossings perm symmetry (place o (e .low)) (place o (e .high)) l (place-below perm (e .high) (ends .1)))
 
   pub edge-chord-back : place o (e .high) < place o (e .low)
-      → crossingsWith o (edges n adj) e ≡ chordCrossings (weight adj) o (place o (e .high)) (place o (e .low))
+      → crossingsWith W o (weightedEdges n W) e ≡ edgeWeight W e * chordCrossings W o (place o (e .high)) (place o (e .low))
   edge-chord-back l =
-      edge-crossed perm adj e ends
-      ∙ pairSum-ext n _ _ (λ c d k m. ap (λ (x : ℕ). weight adj c d * x) (cross-swap-left (place o (e .low)) (place o (e .high)) (place o c) (place o d)))
-      ∙ chord-crossings perm symmetry (place o (e .high)) (place o (e .low)) l (place-below perm (e .low) (ends .0))
+      edge-crossed perm W e ends
+      ∙ ap (λ (x : ℕ). edgeWeight W e * x)
+      (pairSum-ext n _ _ (λ c d k m. ap (λ (x : ℕ). W c d * x) (cross-swap-left (place o (e .low)) (place o (e .high)) (place o c) (place o d)))
+      ∙ chord-crossings perm symmetry (place o (e .high)) (place o (e .low)) l (place-below perm (e .low) (ends .0)))

@@ -7,7 +7,7 @@ use mathlib.Core.Bool.{Bool, xor}
 use mathlib.Core.List.{List, [], _∷_, flatMap}
 use lib.Dec.{ltb}
 use Rattle.model.specs.Lists.{one, upto, any, keep, sumOver, sumPairs, noRepeats, place}
-use Rattle.model.specs.Crossings.{bit, linked, edges, between, alternate, crosses, crossings}
+use Rattle.model.specs.Crossings.{bit, linked, edges, between, alternate, crosses, crossingPairs}
 use Rattle.model.specs.Sifting.{clockwiseFrom}
 
 -- N(v)
@@ -34,11 +34,11 @@ pub printed-shows-one : (lostAsPrinted 3 (0 ∷ 1 ∷ 2 ∷ []) words 0 1 ≡ 0)
 unfolding lostAsPrinted gainedAsPrinted neighbours comesBefore clockwiseFrom sumOver keep upto linked bit place one
 printed-shows-one = (refl, refl)
 
-pub nothing-crosses : (crossings 3 (0 ∷ 1 ∷ 2 ∷ []) words ≡ 0) × (crossings 3 (1 ∷ 0 ∷ 2 ∷ []) words ≡ 0)
-unfolding crossings edges crosses alternate between noRepeats any sumPairs sumOver flatMap xor keep upto linked bit place one
+pub nothing-crosses : (crossingPairs 3 (0 ∷ 1 ∷ 2 ∷ []) words ≡ 0) × (crossingPairs 3 (1 ∷ 0 ∷ 2 ∷ []) words ≡ 0)
+unfolding crossingPairs edges crosses alternate between noRepeats any sumPairs sumOver flatMap xor keep upto linked bit place one
 nothing-crosses = (refl, refl)
 
 -- so that the lemma as printed does not hold
-pub printed-false : crossings 3 (1 ∷ 0 ∷ 2 ∷ []) words + lostAsPrinted 3 (0 ∷ 1 ∷ 2 ∷ []) words 0 1
-    ≡ crossings 3 (0 ∷ 1 ∷ 2 ∷ []) words + gainedAsPrinted 3 (1 ∷ 0 ∷ 2 ∷ []) words 0 1 → ⊥
+pub printed-false : crossingPairs 3 (1 ∷ 0 ∷ 2 ∷ []) words + lostAsPrinted 3 (0 ∷ 1 ∷ 2 ∷ []) words 0 1
+    ≡ crossingPairs 3 (0 ∷ 1 ∷ 2 ∷ []) words + gainedAsPrinted 3 (1 ∷ 0 ∷ 2 ∷ []) words 0 1 → ⊥
 printed-false e = omega (arith, printed-shows-one .0, printed-shows-one .1, nothing-crosses .0, nothing-crosses .1)

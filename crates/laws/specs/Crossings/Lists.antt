@@ -14,7 +14,7 @@ use Rattle.laws.specs.Orders.Permutations.{at, Permutation}
 use Rattle.laws.specs.Sums.Pairs.{Symmetric}
 use Rattle.laws.specs.Crossings.Alternation.{rising}
 use Rattle.laws.specs.Crossings.Counting.{crossingSum, placed}
-use Rattle.laws.specs.Crossings.Edges.{weight, crossings-sum}
+use Rattle.laws.specs.Crossings.Edges.{crossings-sum}
 
 -- ---- sums over each three and each four entries of a list, in their sequence
 
@@ -123,9 +123,8 @@ unfolding closedCrossings crossingSum sum4 sumAfter rising
 closed-crossings W xs = quads-places (λ a b c d. W a c * W b d) xs ∙ simp (← sum-scale, mul-assoc)
 
 -- the crossings of the model are those of its order
-pub crossings-closed : {n : ℕ} {o : List ℕ} → Permutation n o → (adj : List ℕ) → Symmetric n (weight adj)
-    → crossings n o adj ≡ closedCrossings (weight adj) o
-crossings-closed {n} {o} perm adj s =
-    crossings-sum perm adj s
-    ∙ ap (λ (m : ℕ). crossingSum m (placed o (weight adj))) (sym (perm .size))
-    ∙ sym (closed-crossings (weight adj) o)
+pub crossings-closed : {n : ℕ} {o : List ℕ} → Permutation n o → (W : ℕ → ℕ → ℕ) → Symmetric n W → crossings n o W ≡ closedCrossings W o
+crossings-closed {n} {o} perm W s =
+    crossings-sum perm W s
+    ∙ ap (λ (m : ℕ). crossingSum m (placed o W)) (sym (perm .size))
+    ∙ sym (closed-crossings W o)

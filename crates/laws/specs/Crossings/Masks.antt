@@ -11,7 +11,7 @@ use lib.Arith.{dbl-pred, digits-div, digits-mod}
 use lib.Pow.{pow-pos, ones-lt}
 use native.Mathlib.Decide.{ℕ-discrete, decLt}
 use Rattle.model.specs.Lists.{one, sumOver, occurrences}
-use Rattle.model.specs.Crossings.{bit, linked, crossings}
+use Rattle.model.specs.Crossings.{bit, linked, crossings, unitWeight}
 use Rattle.model.specs.Edits.{withBit, withoutBit}
 use Rattle.laws.specs.Sums.Indicators.{order, one-eq, one-ne}
 use Rattle.laws.specs.Sums.Ranges.{sum, sum-ext, sum-zero, sum-add, sum-at-right}
@@ -21,7 +21,7 @@ use Rattle.laws.specs.Orders.Permutations.{from-place, alone-before, alo
 use Rattle.laws.specs.Sums.Pairs.{pairSum, pairSum-ext, Symmetric}
 use Rattle.laws.specs.Sums.Bits.{bit-lt, bit-first, bit-next, bit-beyond, maskedOnes, set-same, set-other, clear-same, clear-other}
 use Rattle.laws.specs.Crossings.Counting.{placed, crossingSum-counted}
-use Rattle.laws.specs.Crossings.Edges.{weight, crossings-sum}
+use Rattle.laws.specs.Crossings.Edges.{crossings-sum}
 
 -- ---- the formula, for any bytes at all: a place is taken modulo 64
 
@@ -98,7 +98,7 @@ masked-sum w m {xs} h a =
     ∙ sum-occurrences 64 (bit w) a
 
 -- the weight of an edge is a bit of the word
-pub weight-bit : (adj : List ℕ) (u v : ℕ) → weight adj u v ≡ bit (getD adj u 0) v
+pub weight-bit : (adj : List ℕ) (u v : ℕ) → unitWeight adj u v ≡ bit (getD adj u 0) v
 unfolding linked
 weight-bit adj u v = small-eq (bit (getD adj u 0) v) (bit-lt (getD adj u 0) v)
   where
@@ -158,14 +158,14 @@ module _ (n : ℕ) (order o : List ℕ) (small : n ≤ 64) (perm : Permutation n
       masked-sum w (maskFrom n order (suc k)) (holds-from (suc k) h) (all-drop (suc k) within) ∙ sum-behind perm (bit w) k h
 
   -- the formula counts the crossings
-  pub countOn-crossings : (adj : List ℕ) → Symmetric n (weight adj) → countOn n order adj ≡ crossings n o adj
+  pub countOn-crossings : (adj : List ℕ) → Symmetric n (unitWeight adj) → countOn n order adj ≡ crossings n o (unitWeight adj)
   unfolding countOn countRow countPair pairSum wordAt
   countOn-crossings adj s =
       pairSum-ext n (countPair n order adj) (λ j k. sum n (λ i. one (ltb i j) * w i k) * sum n (λ l. one (ltb k l) * w j l)) (λ j k a b. pair j k a b)
-      ∙ sym (crossings-sum perm adj s ∙ crossingSum-counted n w)
+      ∙ sym (crossings-sum perm (unitWeight adj) s ∙ crossingSum-counted n w)
     where
       w : ℕ → ℕ → ℕ
-      w = placed o (weight adj)
+      w = placed o (unitWeight adj)
 
       pair : (j k : ℕ) → j < k → k < n
           → countPair n order adj j k ≡ sum n (λ i. one (ltb i j) * w i k) * sum n (λ l. one (ltb k l) * w j l)

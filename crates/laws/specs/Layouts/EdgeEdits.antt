@@ -7,17 +7,16 @@ use mathlib.Core.List.{List}
 use lib.ListN.{length, getD, set, length-set}
 use lib.Seq.{getD-set-same, getD-set-other}
 use lib.Dec.{T}
-use Rattle.model.specs.Crossings.{bit}
+use Rattle.model.specs.Crossings.{bit, unitWeight}
 use Rattle.model.specs.declared.Layout.{Layout}
-use Rattle.model.specs.Layouts.{vertexOrder, valid, changed}
+use Rattle.model.specs.Layouts.{vertexOrder, weight, valid, changed}
 use Rattle.model.specs.Edits.{withBit, withoutBit, atBothEnds, withEdges}
 use Rattle.laws.specs.Layouts.Recount.{drawn, recounted, recounted-changed}
 use Rattle.laws.specs.Layouts.Refusals.{Pair, within-capacity}
 use Rattle.laws.specs.Sums.Pairs.{Symmetric}
 use Rattle.laws.specs.Sums.Bits.{set-same, set-other, set-lt, clear-same, clear-other, clear-lt}
-use Rattle.laws.specs.Crossings.Edges.{weight}
 use Rattle.laws.specs.Crossings.Masks.{weight-bit}
-use Rattle.laws.specs.Layouts.Validity.{sound, sound-valid}
+use Rattle.laws.specs.Layouts.Validity.{sound, sound-valid, words-symmetric}
 
 pub both : {A B : Type 0} → Dec A → Dec B → Dec (A × B)
 both (yes a) (yes b) = yes (a, b)
@@ -96,7 +95,7 @@ module _ (f : ℕ → ℕ → ℕ) (adj : List ℕ) (a b : ℕ) (first : a < len
               ]
         ]
 
-    pub still-symmetric : (n : ℕ) → Symmetric n (weight adj) → Symmetric n (weight (atBothEnds f adj a b))
+    pub still-symmetric : (n : ℕ) → Symmetric n (unitWeight adj) → Symmetric n (unitWeight (atBothEnds f adj a b))
     still-symmetric n s =
         record {
           swap = λ u v i j. rw (weight-bit (atBothEnds f adj a b) u v, weight-bit (atBothEnds f adj a b) v u)
@@ -125,13 +124,13 @@ module _ {l : Layout} {a b : ℕ} (f : ℕ → ℕ → ℕ) (x : ℕ) (change : 
   second-word : b < length (l .adjacency)
   second-word = rw size (within-capacity p .1)
 
-  edges-symmetric : Symmetric (l .n) (weight (atBothEnds f (l .adjacency) a b))
+  edges-symmetric : Symmetric (l .n) (unitWeight (atBothEnds f (l .adjacency) a b))
   edges-symmetric =
-      still-symmetric f (l .adjacency) a b first-word second-word (p .different) x change (l .n) (sound l (p .is-valid) .symmetry)
+      still-symmetric f (l .adjacency) a b first-word second-word (p .different) x change (l .n) (words-symmetric l (p .is-valid))
 
   -- is valid
   pub edges-valid : T (valid (withEdges l (atBothEnds f (l .adjacency) a b)))
-  unfolding withEdges changed vertexOrder
+  unfolding withEdges changed vertexOrder weight
   edges-valid =
       let s = sound l (p .is-valid) in
       sound-valid (withEdges l (atBothEnds f (l .adjacency) a b))

@@ -1,6 +1,6 @@
 -- The shown crossing pair: when there is none, and that the pair shown are two edges of the layout that cross.
-use Prim.Native.Nat.{ℕ, zero, suc, _+_}
-use native.Mathlib.Nat.{zero-add}
+use Prim.Native.Nat.{ℕ, zero, suc, _+_, _*_, _<_}
+use native.Mathlib.Nat.{zero-add, zero-mul, mul-pos}
 use native.Mathlib.Omega.{arith}
 use mathlib.Core.Path.{_≡_, refl, sym, ap, ap₂, _∙_, subst}
 use mathlib.Core.Bool.{Bool, true, false, cond, _&&_, _||_}
@@ -11,14 +11,16 @@ use borrow.Author.Tests.{eq-eqb, ne-eqb, eqb-true}
 use Rattle.model.specs.declared.Edge.{Edge}
 use Rattle.model.specs.declared.Layout.{Layout}
 use Rattle.model.specs.Lists.{one, any, sumOver, sumPairs}
-use Rattle.model.specs.Crossings.{edges, crosses, crossings}
-use Rattle.model.specs.Layouts.{vertexOrder, crossingsOf, valid}
+use Rattle.model.specs.Crossings.{edges, crosses, edgeWeight, crossingWeight, crossings}
+use Rattle.model.specs.Layouts.{vertexOrder, weight, crossingsOf, valid}
 use Rattle.model.specs.Checks.{refusal, byRefusal, checked, isValid}
 use Rattle.model.specs.Charts.{sameEdge}
 use Rattle.model.specs.Reading.{Shown, pairWith, orElse, firstPair, firstCrossingOf}
 use Rattle.laws.specs.Sums.Indicators.{T-true}
 use Rattle.laws.specs.Sums.Ranges.{sum}
 use Rattle.laws.specs.Sums.Lists.{All, none, also, all-mono}
+use Rattle.laws.specs.Crossings.Edges.{weighted-positive}
+use Rattle.laws.specs.Layouts.Weights.{valid-edges}
 
 -- ---- what is said of a pair
 
@@ -32,20 +34,26 @@ found-valid l t = rw (T-true (valid l) t)
 
 -- ---- "It answers "none" exactly when no two links cross."
 
-module _ (o : List ℕ) where
-  -- whether a search finds nothing is whether the sum of the crossings is 0
-  pair-none : (e : Edge) (fs : List Edge) → eqb (length (pairWith o e fs)) 0 ≡ eqb (sumOver (λ f. one (crosses o e f)) fs) 0
-  unfolding pairWith sumOver one
-  pair-none e [] = refl
-  pair-none e (f ∷ fs) = by-test (crosses o e f) (pair-none e fs)
+module _ (W : ℕ → ℕ → ℕ) (o : List ℕ) where
+  abbrev Weighty : Edge → Type 0
+  Weighty e = 0 < edgeWeight W e
+
+  -- whether a search finds nothing is whether the sum of the crossings is 0, where each edge weighs something
+  pair-none : (e : Edge) → Weighty e → {fs : List Edge} → All Weighty fs → eqb (length (pairWith o e fs)) 0 ≡ eqb (sumOver (crossingWeight W o e) fs) 0
+  unfolding pairWith sumOver crossingWeight one
+  pair-none e p none = refl
+  pair-none e p (also {x = f} {xs = fs} q qs) = by-test (crosses o e f) (pair-none e p qs)
     where
       rest : ℕ
-      rest = sumOver (λ f. one (crosses o e f)) fs
+      rest = sumOver (crossingWeight W o e) fs
+
+      both : 0 < edgeWeight W e * edgeWeight W f
+      both = mul-pos p q
 
       by-test : (b : Bool) → eqb (length (pairWith o e fs)) 0 ≡ eqb rest 0
-          → eqb (length (cond b (e ∷ f ∷ []) (pairWith o e fs))) 0 ≡ eqb (one b + rest) 0
-      by-test true h = sym (ne-eqb (1 + rest) 0 (λ z. omega arith))
-      by-test false h = h ∙ ap (λ (x : ℕ). eqb x 0) (sym (zero-add rest))
+          → eqb (length (cond b (e ∷ f ∷ []) (pairWith o e fs))) 0 ≡ eqb (one b * (edgeWeight W e * edgeWeight W f) + rest) 0
+      by-test true h = sym (ne-eqb (1 * (edgeWeight W e * edgeWeight W f) + rest) 0 (λ z. omega (arith, both)))
+      by-test false h = h ∙ ap (λ (x : ℕ). eqb x 0) (sym (ap (λ (x : ℕ). x + rest) (zero-mul (edgeWeight W e * edgeWeight W f)) ∙ zero-add rest))
 
   or-none : (p q : List Edge) → eqb (length (orElse p q)) 0 ≡ (eqb (length p) 0 && eqb (length q) 0)
   unfolding orElse
@@ -56,18 +64,21 @@ module _ (o : List ℕ) where
   sum-none zero b = ap (λ (x : ℕ). eqb x 0) (zero-add b)
   sum-none (suc a) b = rw (ne-eqb (suc a) 0 (λ z. omega arith), ne-eqb (suc a + b) 0 (λ z. omega arith))
 
-  first-none : (es : List Edge) → eqb (length (firstPair o es)) 0 ≡ eqb (sumPairs (λ e f. one (crosses o e f)) es) 0
+  first-none : {es : List Edge} → All Weighty es → eqb (length (firstPair o es)) 0 ≡ eqb (sumPairs (crossingWeight W o) es) 0
   unfolding firstPair sumPairs
-  first-none [] = refl
-  first-none (e ∷ es) =
+  first-none none = refl
+  first-none (also {x = e} {xs = es} p ps) =
       or-none (pairWith o e es) (firstPair o es)
-      ∙ ap₂ (λ (a b : Bool). a && b) (pair-none e es) (first-none es)
-      ∙ sym (sum-none (sumOver (λ f. one (crosses o e f)) es) (sumPairs (λ e f. one (crosses o e f)) es))
+      ∙ ap₂ (λ (a b : Bool). a && b) (pair-none e p ps) (first-none ps)
+      ∙ sym (sum-none (sumOver (crossingWeight W o e) es) (sumPairs (crossingWeight W o) es))
 
 module _ (l : Layout) (t : T (valid l)) where
   pub none-exactly : firstCrossingOf l .none ≡ eqb (crossingsOf l) 0
   unfolding found crossingsOf crossings
-  none-exactly = ap (λ (s : Shown). s .none) (sym (found-valid l t)) ∙ first-none (vertexOrder l) (edges (l .n) (l .adjacency))
+  none-exactly =
+      ap (λ (s : Shown). s .none) (sym (found-valid l t))
+      ∙ ap (λ (es : List Edge). eqb (length (firstPair (vertexOrder l) es)) 0) (sym (valid-edges l t))
+      ∙ first-none (weight l) (vertexOrder l) (weighted-positive (l .n) (weight l))
 
   pub none-said : firstCrossingOf l .none ≡ true → crossingsOf l ≡ 0
   none-said e = eqb-true (crossingsOf l) 0 (sym none-exactly ∙ e)

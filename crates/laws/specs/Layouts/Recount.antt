@@ -10,23 +10,22 @@ use lib.Seq.{getD-take}
 use lib.Dec.{T, leb}
 use borrow.Author.Tests.{le-leb}
 use Rattle.model.specs.declared.Layout.{Layout}
-use Rattle.model.specs.Crossings.{crossings}
-use Rattle.model.specs.Layouts.{modulus, vertexOrder, crossingsOf, valid, carried, changed}
+use Rattle.model.specs.Crossings.{unitWeight}
+use Rattle.model.specs.Layouts.{modulus, vertexOrder, weight, crossingsOf, valid, carried, changed, uncounted}
 use Rattle.laws.specs.Orders.Permutations.{at, Permutation, at-lt}
 use Rattle.laws.specs.Sums.Pairs.{Symmetric}
-use Rattle.laws.specs.Crossings.Edges.{weight}
 use Rattle.laws.specs.Crossings.Masks.{vertexAt, countOn, countOn-crossings}
-use Rattle.laws.specs.Layouts.Validity.{sound}
+use Rattle.laws.specs.Layouts.Validity.{sound, words-symmetric}
 
 -- an order that holds each vertex once, and symmetric edges
 pub record Drawn (n : ℕ) (order adj : List ℕ) : Type 0 where
   pub small : n ≤ 64
   pub permutation : Permutation n (take n order)
-  pub symmetry : Symmetric n (weight adj)
+  pub symmetry : Symmetric n (unitWeight adj)
 
 pub drawn : (l : Layout) → T (valid l) → Drawn (l .n) (l .order) (l .adjacency)
 unfolding vertexOrder
-drawn l t = record { small = sound l t .small; permutation = sound l t .permutation; symmetry = sound l t .symmetry }
+drawn l t = record { small = sound l t .small; permutation = sound l t .permutation; symmetry = words-symmetric l t }
 
 -- the vertex at a place, which the counter takes modulo 64
 pub drawn-vertex : {n : ℕ} {order adj : List ℕ} → Drawn n order adj → (j : ℕ) → j < n → vertexAt order j ≡ at (take n order) j
@@ -38,15 +37,15 @@ drawn-vertex {n} {order} d j h =
 unfoldable pub counted : ℕ → List ℕ → List ℕ → ℕ
 counted n order adj = cond (leb n 64) (countOn n order adj) 0
 
-pub counted-crossings : {n : ℕ} {order adj : List ℕ} → Drawn n order adj → counted n order adj ≡ crossings n (take n order) adj
-unfolding counted
+pub counted-crossings : {n : ℕ} {order adj : List ℕ} → Drawn n order adj → counted n order adj ≡ crossingsOf (uncounted n order adj)
+unfolding counted crossingsOf vertexOrder weight
 counted-crossings {n} {order} {adj} d =
     rw (le-leb n 64 (d .small))
     (countOn-crossings n order (take n order) (d .small) (d .permutation) (drawn-vertex d) adj (d .symmetry))
 
 -- of a valid layout, its crossings
 pub counted-valid : (l : Layout) → T (valid l) → counted (l .n) (l .order) (l .adjacency) ≡ crossingsOf l
-unfolding crossingsOf vertexOrder
+unfolding crossingsOf vertexOrder weight
 counted-valid l t = counted-crossings (drawn l t)
 
 -- a layout changed and its count carried on to so many crossings, those before the change by the counter's answer
@@ -60,7 +59,7 @@ carriedTo l n order adj after =
     }
 
 -- if these are the crossings of the changed layout, it is that of the definition
-pub carried-changed : (l : Layout) (n : ℕ) (order adj : List ℕ) {after : ℕ} → T (valid l) → after ≡ crossings n (take n order) adj
+pub carried-changed : (l : Layout) (n : ℕ) (order adj : List ℕ) {after : ℕ} → T (valid l) → after ≡ crossingsOf (uncounted n order adj)
     → carriedTo l n order adj after ≡ changed l n order adj
 unfolding carriedTo changed
 carried-changed l n order adj t right =

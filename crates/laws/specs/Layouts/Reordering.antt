@@ -11,7 +11,7 @@ use Rattle.model.specs.declared.Layout.{Layout}
 use Rattle.model.specs.declared.Changed.{Changed}
 use Rattle.model.specs.Lists.{one}
 use Rattle.model.specs.Crossings.{crossings}
-use Rattle.model.specs.Layouts.{vertexOrder, crossingsOf, valid, modulus, carried, changed, reordered}
+use Rattle.model.specs.Layouts.{vertexOrder, weight, crossingsOf, valid, modulus, carried, changed, reordered, uncounted}
 use Rattle.model.specs.Checks.{refusal}
 use Rattle.model.specs.Edits.{changedTo, changeRefused, movedAfter, moveChecks, moveOf}
 use Rattle.laws.specs.Sums.Indicators.{order}
@@ -28,12 +28,12 @@ module _ (l : Layout) (o : List ℕ) where
   unfolding reordered changed vertexOrder
   reordered-order e = take-at o (drop (l .n) (l .order)) (l .n) e
 
-  pub reordered-crossings : length o ≡ l .n → crossingsOf (reordered l o) ≡ crossings (l .n) o (l .adjacency)
-  unfolding reordered changed crossingsOf
-  reordered-crossings e = ap (λ (x : List ℕ). crossings (l .n) x (l .adjacency)) (reordered-order e)
+  pub reordered-crossings : length o ≡ l .n → crossingsOf (reordered l o) ≡ crossings (l .n) o (weight l)
+  unfolding reordered changed crossingsOf weight
+  reordered-crossings e = ap (λ (x : List ℕ). crossings (l .n) x (weight l)) (reordered-order e)
 
   pub reordered-valid : T (valid l) → Permutation (l .n) o → T (valid (reordered l o))
-  unfolding reordered changed
+  unfolding reordered changed weight
   reordered-valid t perm =
       let s = sound l t in
       sound-valid (reordered l o)
@@ -88,10 +88,10 @@ CountRight l = l .count ≡ crossingsOf l
 -- where that holds of a valid layout, it holds of the valid layout that a call makes of it
 pub changed-count : (l : Layout) (n : ℕ) (places adj : List ℕ) → T (valid l) → T (valid (changed l n places adj))
     → CountRight l → CountRight (changed l n places adj)
-unfolding changed crossingsOf vertexOrder
+unfolding changed crossingsOf vertexOrder weight
 changed-count l n places adj t u e =
-    ap (λ (c : ℕ). carried c (crossingsOf l) (crossings n (take n places) adj)) e
-    ∙ carried-right (crossingsOf l) (crossings n (take n places) adj) (crossings-fit l t) (crossings-fit (changed l n places adj) u)
+    ap (λ (c : ℕ). carried c (crossingsOf l) (crossingsOf (uncounted n places adj))) e
+    ∙ carried-right (crossingsOf l) (crossingsOf (uncounted n places adj)) (crossings-fit l t) (crossings-fit (changed l n places adj) u)
 
 -- a call that returns m for l leaves a valid layout valid, and a right count right
 abbrev pub Keeps : Layout → Layout → Type 0
@@ -131,7 +131,7 @@ module _ (l : Layout) (t : T (valid l)) (a : ℕ) (h : a < l .n) (b : ℕ) (k : 
   pub move-valid : T (valid (movedLayout l a b))
   move-valid = reordered-valid l (movedAfter a b (vertexOrder l)) t (moved-permutation (sound l t .permutation) a h b k d)
 
-  pub move-crossings : crossingsOf (moveOf l a b .layout) ≡ crossings (l .n) (movedAfter a b (vertexOrder l)) (l .adjacency)
+  pub move-crossings : crossingsOf (moveOf l a b .layout) ≡ crossings (l .n) (movedAfter a b (vertexOrder l)) (weight l)
   move-crossings =
       ap crossingsOf move-layout
       ∙ reordered-crossings l (movedAfter a b (vertexOrder l)) (moved-permutation (sound l t .permutation) a h b k d .size)

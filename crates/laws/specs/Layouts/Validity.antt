@@ -10,15 +10,15 @@ use borrow.Author.Tests.{le-leb, lt-leb, eq-eqb, ne-eqb}
 use lib.Dec.{T, eqb, leb, ltb, leb→le, ltb→lt, lt→ltb, eqb→eq}
 use Rattle.model.specs.declared.Layout.{Layout}
 use Rattle.model.specs.Lists.{one, upto, every, occurrences}
-use Rattle.model.specs.Crossings.{linked}
-use Rattle.model.specs.Layouts.{capacity, vertexOrder, crossingsOf, eachOnce, zeroFrom, symmetric, loopless, bitsBelow, valid}
+use Rattle.model.specs.Crossings.{linked, unitWeight}
+use Rattle.model.specs.Layouts.{capacity, vertexOrder, weight, crossingsOf, eachOnce, zeroFrom, symmetric, loopless, bitsBelow, valid}
 use Rattle.laws.specs.Sums.Indicators.{T-true, less, same, more, order, and-left, and-right, one-le, beq-eq}
 use Rattle.laws.specs.Sums.Every.{every-upto, upto-every, upto-fails, every-keep}
 use Rattle.laws.specs.Sums.Ranges.{sum, sum-ext, sum-const, sum-swap, sum-mono}
 use Rattle.laws.specs.Orders.Permutations.{at, Permutation, occurrences-places, sum-hits}
 use Rattle.laws.specs.Sums.Pairs.{pairSum, Symmetric}
 use Rattle.laws.specs.Crossings.Counting.{crossingSum, placed, crossingSum-counted}
-use Rattle.laws.specs.Crossings.Edges.{weight, crossings-sum}
+use Rattle.laws.specs.Crossings.Edges.{crossings-sum}
 use Rattle.laws.specs.Crossings.Bound.{mostCrossings, crossingSum-bound}
 
 -- a bit that is not 1 is 0
@@ -60,7 +60,7 @@ unfolding one
 not-one true t = absurd t
 not-one false t = refl
 
-pub symmetric-weight : (n : ℕ) (adj : List ℕ) → T (symmetric n adj) → T (loopless n adj) → Symmetric n (weight adj)
+pub symmetric-weight : (n : ℕ) (adj : List ℕ) → T (symmetric n adj) → T (loopless n adj) → Symmetric n (unitWeight adj)
 unfolding symmetric loopless
 symmetric-weight n adj s d =
     record {
@@ -85,7 +85,7 @@ unfolding one
 not-zero true e = absurd (omega arith)
 not-zero false e = tt
 
-module _ (n : ℕ) (adj : List ℕ) (s : Symmetric n (weight adj)) where
+module _ (n : ℕ) (adj : List ℕ) (s : Symmetric n (unitWeight adj)) where
   weight-symmetric : T (symmetric n adj)
   unfolding symmetric
   weight-symmetric =
@@ -124,12 +124,12 @@ pub record Sound (l : Layout) : Type 0 where
   pub small : l .n ≤ capacity
   pub permutation : Permutation (l .n) (vertexOrder l)
   pub places : (i : ℕ) → l .n ≤ i → i < capacity → getD (l .order) i 0 ≡ 0
-  pub symmetry : Symmetric (l .n) (weight (l .adjacency))
+  pub symmetry : Symmetric (l .n) (weight l)
   pub bits : (v : ℕ) → v < capacity → getD (l .adjacency) v 0 < 2 ^ l .n
   pub unused : (v : ℕ) → l .n ≤ v → v < capacity → getD (l .adjacency) v 0 ≡ 0
 
 pub sound : (l : Layout) → T (valid l) → Sound l
-unfolding valid vertexOrder bitsBelow
+unfolding valid vertexOrder weight bitsBelow
 sound l t =
     record {
       small = leb→le (l .n) capacity (search (and-left, and-right) depth 7);
@@ -147,7 +147,7 @@ sound l t =
 
 -- and a layout with all that is valid
 pub sound-valid : (l : Layout) → Sound l → T (valid l)
-unfolding valid bitsBelow
+unfolding valid weight bitsBelow
 sound-valid l s =
     rw (
       le-leb (l .n) capacity (s .small),
@@ -161,17 +161,27 @@ sound-valid l s =
     )
     tt
 
+-- the words of a valid layout
+pub words-symmetric : (l : Layout) → T (valid l) → Symmetric (l .n) (unitWeight (l .adjacency))
+unfolding weight
+words-symmetric l t = sound l t .symmetry
+
+-- no edge weighs more
+pub weight-most : (l : Layout) → T (valid l) → (u v : ℕ) → weight l u v ≤ 1
+unfolding weight
+weight-most l t u v = one-le (linked (l .adjacency) u v)
+
 -- ---- the crossings of a valid layout
 
 -- the weight of the edge between two places of a layout
 abbrev pub placeWeight : Layout → ℕ → ℕ → ℕ
-placeWeight l = placed (vertexOrder l) (weight (l .adjacency))
+placeWeight l = placed (vertexOrder l) (weight l)
 
 module _ (l : Layout) (t : T (valid l)) where
   -- counted over rising places
   pub crossings-rising : crossingsOf l ≡ crossingSum (l .n) (placeWeight l)
   unfolding crossingsOf
-  crossings-rising = crossings-sum (sound l t .permutation) (l .adjacency) (sound l t .symmetry)
+  crossings-rising = crossings-sum (sound l t .permutation) (weight l) (sound l t .symmetry)
 
   -- counted with two counts for each pair of places j < k: the edges from before j to k, and those from j to beyond k
   pub crossings-counted : crossingsOf l
@@ -184,4 +194,4 @@ module _ (l : Layout) (t : T (valid l)) where
   crossings-bound =
       le-trans (le-of-eq crossings-rising)
       (crossingSum-bound (l .n) 1 (placeWeight l) (sound l t .small)
-      (λ i j a b. one-le (linked (l .adjacency) (at (vertexOrder l) i) (at (vertexOrder l) j))))
+      (λ i j a b. weight-most l t (at (vertexOrder l) i) (at (vertexOrder l) j)))

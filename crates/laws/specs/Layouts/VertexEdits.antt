@@ -13,7 +13,7 @@ use lib.Pow.{pow-mono}
 use Rattle.model.specs.declared.Layout.{Layout}
 use Rattle.model.specs.Lists.{one, occurrences}
 use Rattle.model.specs.Crossings.{crossings}
-use Rattle.model.specs.Layouts.{vertexOrder, crossingsOf, valid, modulus, carried, changed}
+use Rattle.model.specs.Layouts.{vertexOrder, weight, crossingsOf, valid, modulus, carried, changed}
 use Rattle.model.specs.Edits.{added}
 use Rattle.laws.specs.Sums.Indicators.{less, same, more, order, one-eq, one-ne}
 use Rattle.laws.specs.Orders.Permutations.{occurrences-nil, occurrences-cons, occurrences-append, at, Permutation, at-lt, none-beyond}
@@ -21,7 +21,7 @@ use Rattle.laws.specs.Orders.Moves.{at-left, at-right}
 use Rattle.laws.specs.Sums.Pairs.{Symmetric}
 use Rattle.laws.specs.Sums.Bits.{bit-beyond}
 use Rattle.laws.specs.Crossings.Counting.{placed, crossingSum-last}
-use Rattle.laws.specs.Crossings.Edges.{weight, crossings-sum}
+use Rattle.laws.specs.Crossings.Edges.{crossings-sum}
 use Rattle.laws.specs.Crossings.Masks.{weight-bit}
 use Rattle.laws.specs.Layouts.Validity.{sound, sound-valid}
 use Rattle.laws.specs.Layouts.Reordering.{carried-same}
@@ -44,15 +44,17 @@ permutation-more {n} {o} p =
 
 module _ (l : Layout) (t : T (valid l)) (room : l .n < 64) where
   -- the new vertex has no edge, either way
-  no-edge-from : (v : ℕ) → weight (l .adjacency) (l .n) v ≡ 0
+  no-edge-from : (v : ℕ) → weight l (l .n) v ≡ 0
+  unfolding weight
   no-edge-from v =
       weight-bit (l .adjacency) (l .n) v
       ∙ bit-beyond 0 (getD (l .adjacency) (l .n) 0) v (omega (arith, sound l t .unused (l .n) (omega arith) room)) (omega arith)
 
-  no-edge-to : (u : ℕ) → u < 64 → weight (l .adjacency) u (l .n) ≡ 0
+  no-edge-to : (u : ℕ) → u < 64 → weight l u (l .n) ≡ 0
+  unfolding weight
   no-edge-to u h = weight-bit (l .adjacency) u (l .n) ∙ bit-beyond (l .n) (getD (l .adjacency) u 0) (l .n) (sound l t .bits u h) (omega arith)
 
-  symmetric-more : Symmetric (suc (l .n)) (weight (l .adjacency))
+  symmetric-more : Symmetric (suc (l .n)) (weight l)
   symmetric-more =
       record {
         swap = λ u v a b.
@@ -69,13 +71,13 @@ module _ (l : Layout) (t : T (valid l)) (room : l .n < 64) where
       }
 
   -- so it crosses nothing
-  pub crossings-added : crossings (suc (l .n)) (vertexOrder l ++ (l .n ∷ [])) (l .adjacency) ≡ crossings (l .n) (vertexOrder l) (l .adjacency)
+  pub crossings-added : crossings (suc (l .n)) (vertexOrder l ++ (l .n ∷ [])) (weight l) ≡ crossings (l .n) (vertexOrder l) (weight l)
   crossings-added =
-      crossings-sum (permutation-more perm) (l .adjacency) symmetric-more
-      ∙ crossingSum-last (l .n) (placed more (weight (l .adjacency))) (placed (vertexOrder l) (weight (l .adjacency)))
-      (λ i j a b. ap₂ (weight (l .adjacency)) (kept i a) (kept j b))
-      (λ i a. ap₂ (weight (l .adjacency)) (kept i a) last ∙ no-edge-to (at (vertexOrder l) i) (omega (arith, at-lt perm i a)))
-      ∙ sym (crossings-sum perm (l .adjacency) (sound l t .symmetry))
+      crossings-sum (permutation-more perm) (weight l) symmetric-more
+      ∙ crossingSum-last (l .n) (placed more (weight l)) (placed (vertexOrder l) (weight l))
+      (λ i j a b. ap₂ (weight l) (kept i a) (kept j b))
+      (λ i a. ap₂ (weight l) (kept i a) last ∙ no-edge-to (at (vertexOrder l) i) (omega (arith, at-lt perm i a)))
+      ∙ sym (crossings-sum perm (weight l) (sound l t .symmetry))
     where
       perm : Permutation (l .n) (vertexOrder l)
       perm = sound l t .permutation
@@ -96,7 +98,7 @@ module _ (l : Layout) (t : T (valid l)) (room : l .n < 64) where
 
     -- the layout with the vertex added is valid
     pub added-valid : T (valid (added l))
-    unfolding added changed vertexOrder
+    unfolding added changed vertexOrder weight
     added-valid =
         let s = sound l t in
         sound-valid (added l)
@@ -112,11 +114,11 @@ module _ (l : Layout) (t : T (valid l)) (room : l .n < 64) where
     -- and its count is the one before
     pub added-kept : {places : List ℕ} → l .count < modulus → places ≡ set (l .order) (l .n) (l .n)
         → record { n = l .n + 1; order = places; adjacency = l .adjacency; count = l .count } ≡ added l
-    unfolding added changed crossingsOf vertexOrder
+    unfolding added changed crossingsOf vertexOrder weight
     added-kept h e =
         rw (e, add-one (l .n))
         (ap (λ (x : ℕ). record { n = suc (l .n); order = set (l .order) (l .n) (l .n); adjacency = l .adjacency; count = x })
         (sym
         (ap (carried (l .count) (crossingsOf l))
-        (ap (λ (o : List ℕ). crossings (suc (l .n)) o (l .adjacency)) (take-suc-set (l .order) (l .n) (l .n) (omega arith)) ∙ crossings-added)
+        (ap (λ (o : List ℕ). crossings (suc (l .n)) o (weight l)) (take-suc-set (l .order) (l .n) (l .n) (omega arith)) ∙ crossings-added)
         ∙ carried-same (l .count) (crossingsOf l) h)))

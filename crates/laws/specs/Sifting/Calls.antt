@@ -2,7 +2,7 @@
 use Prim.Native.Nat.{ℕ, _≤_, _<_}
 use native.Mathlib.Omega.{arith}
 use mathlib.Core.Path.{_≡_, refl, sym, ap, _∙_}
-use mathlib.Core.List.{List, [], _∷_}
+use mathlib.Core.List.{[], _∷_}
 use lib.ListN.{length}
 use lib.Dec.{T, leb, le→leb, lt→ltb}
 use borrow.Author.Tests.{leb-true}
@@ -10,21 +10,20 @@ use Rattle.model.specs.declared.Layout.{Layout}
 use Rattle.model.specs.declared.Sifted.{Sifted}
 use Rattle.model.specs.declared.Rounded.{Rounded}
 use Rattle.model.specs.declared.Converged.{Converged}
-use Rattle.model.specs.Lists.{upto}
 use Rattle.model.specs.Layouts.{valid}
 use Rattle.model.specs.Checks.{refusal, isValid, isVertex, limitFits}
-use Rattle.model.specs.Sifting.{sifted, siftChecks, siftAnswer, siftRefused, siftOf, siftAll, siftRound, roundRefused, roundOf, roundsUpTo}
+use Rattle.model.specs.Sifting.{sifted, siftChecks, siftAnswer, siftRefused, siftOf, siftRound, swept, roundRefused, roundOf, roundsUpTo, settled}
 use Rattle.model.specs.Sifting.{settleChecks, settleRefused, settleOf}
 use Rattle.laws.specs.Sums.Indicators.{and-intro, both-left, both-right}
 use Rattle.laws.specs.Sums.Lists.{none, also}
 use Rattle.laws.specs.Layouts.Sizes.{Sized}
 use Rattle.laws.specs.Layouts.Refusals.{passed, valid-passed, vertex-passed, all-passed, when-accepted, when-refused, checked-number, checked-either}
 use Rattle.laws.specs.Layouts.Reordering.{Keeps, same-keeps}
-use Rattle.laws.specs.Sifting.Candidates.{Improved, improved-count, sifted-improved}
-use Rattle.laws.specs.Sifting.Rounds.{round-reduced, settling, rounds-refusal}
+use Rattle.laws.specs.Sifting.Candidates.{Rearranged, rearranged-count, sifted-rearranged}
+use Rattle.laws.specs.Sifting.Rounds.{round-reduced, settled-rearranged}
 
-improved-keeps : {l m : Layout} → Improved l m → Keeps l m
-improved-keeps p t = (p .valid-after, improved-count t p)
+rearranged-keeps : {l m : Layout} → Rearranged l m → Keeps l m
+rearranged-keeps p t = (p .valid-after, rearranged-count t p)
 
 -- ---- sift
 
@@ -53,20 +52,15 @@ module _ (l : Layout) (u : ℕ) where
       (λ e. (let passed = vertex-passed l u e in a (passed .0) (passed .1))) (λ k. r)
 
   pub sift-keeps : Keeps l (siftOf l u .layout)
-  sift-keeps = sift-either (Keeps l) (λ t h. improved-keeps (sifted-improved l t u h)) (same-keeps refl)
+  sift-keeps = sift-either (Keeps l) (λ t h. rearranged-keeps (sifted-rearranged l t u h)) (same-keeps refl)
 
 -- ---- round
 
-all-refusal : (us : List ℕ) (l : Layout) → siftAll us l .refusal ≡ 0
-unfolding siftAll
-all-refusal [] l = refl
-all-refusal (u ∷ us) l = refl
-
 module _ (l : Layout) where
   round-number : roundOf l .refusal ≡ refusal (isValid l ∷ [])
-  unfolding roundOf siftRound
+  unfolding roundOf siftRound swept
   round-number =
-      checked-number (isValid l ∷ []) (siftRound l) (roundRefused l) (λ (r : Rounded). r .refusal) (all-refusal (upto (l .n)) l) (λ r. refl)
+      checked-number (isValid l ∷ []) (siftRound l) (roundRefused l) (λ (r : Rounded). r .refusal) refl (λ r. refl)
 
   pub round-passed : roundOf l .refusal ≡ 0 → T (valid l)
   round-passed e = valid-passed l [] (sym round-number ∙ e) .0
@@ -85,15 +79,15 @@ module _ (l : Layout) where
       checked-either (isValid l ∷ []) (siftRound l) (roundRefused l) (λ (s : Rounded). P (s .layout)) (λ e. a (valid-passed l [] e .0)) (λ k. r)
 
   pub round-keeps : Keeps l (roundOf l .layout)
-  round-keeps = round-either (Keeps l) (λ t. improved-keeps (round-reduced l t .improved)) (same-keeps refl)
+  round-keeps = round-either (Keeps l) (λ t. rearranged-keeps (round-reduced l t .rearranged)) (same-keeps refl)
 
 -- ---- settle
 
 module _ (l : Layout) (limit : ℕ) where
   settle-number : settleOf l limit .refusal ≡ refusal (settleChecks l limit)
-  unfolding settleOf
+  unfolding settleOf roundsUpTo settled
   settle-number =
-      checked-number (settleChecks l limit) (roundsUpTo limit l) (settleRefused l) (λ (c : Converged). c .refusal) (rounds-refusal limit l) (λ r. refl)
+      checked-number (settleChecks l limit) (roundsUpTo limit l) (settleRefused l) (λ (c : Converged). c .refusal) refl (λ r. refl)
 
   pub limit-passed : refusal (settleChecks l limit) ≡ 0 → T (valid l) × (1 ≤ limit) × (limit ≤ 1000)
   unfolding settleChecks limitFits
@@ -122,19 +116,19 @@ module _ (l : Layout) (limit : ℕ) where
       (λ e. a (valid-passed l (limitFits limit ∷ []) e .0)) (λ k. r)
 
   pub settle-keeps : Keeps l (settleOf l limit .layout)
-  settle-keeps = settle-either (Keeps l) (λ t. improved-keeps (settling limit l t .improved)) (same-keeps refl)
+  settle-keeps = settle-either (Keeps l) (λ t. rearranged-keeps (settled-rearranged limit l t)) (same-keeps refl)
 
 -- ---- the arrays keep their places
 
 module _ (l : Layout) (s : Sized l) where
-  improved-sized : {m : Layout} → Improved l m → Sized m
-  improved-sized p = record { places = p .same-places ∙ s .places; words = ap length (p .same-adjacency) ∙ s .words }
+  rearranged-sized : {m : Layout} → Rearranged l m → Sized m
+  rearranged-sized p = record { places = p .same-places ∙ s .places; words = ap length (p .same-adjacency) ∙ s .words }
 
   pub sift-sized : (u : ℕ) → Sized (siftOf l u .layout)
-  sift-sized u = sift-either l u Sized (λ t h. improved-sized (sifted-improved l t u h)) s
+  sift-sized u = sift-either l u Sized (λ t h. rearranged-sized (sifted-rearranged l t u h)) s
 
   pub round-sized : Sized (roundOf l .layout)
-  round-sized = round-either l Sized (λ t. improved-sized (round-reduced l t .improved)) s
+  round-sized = round-either l Sized (λ t. rearranged-sized (round-reduced l t .rearranged)) s
 
   pub settle-sized : (limit : ℕ) → Sized (settleOf l limit .layout)
-  settle-sized limit = settle-either l limit Sized (λ t. improved-sized (settling limit l t .improved)) s
+  settle-sized limit = settle-either l limit Sized (λ t. rearranged-sized (settled-rearranged limit l t)) s

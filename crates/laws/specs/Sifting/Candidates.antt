@@ -1,27 +1,26 @@
--- Sifting one vertex of a layout: the candidates, and the one that is chosen.
+-- The candidates of a vertex of a ring as orders alone, and the one that is chosen: what the code walks through, and that it is the sift of the layout.
 use Prim.Native.Nat.{ℕ, suc, _+_, _-_, _≤_, _<_}
-use native.Mathlib.Nat.{le-refl, le-trans, le-of-eq}
 use native.Mathlib.Omega.{arith}
 use mathlib.Core.Path.{_≡_, refl, sym, ap, _∙_}
-use mathlib.Core.Bool.{true, false}
-use mathlib.Core.List.{List}
-use lib.ListN.{length, take, drop, length-append, length-drop, List·getD-append}
+use mathlib.Core.Bool.{Bool, false, cond}
+use mathlib.Core.List.{List, [], _∷_, map}
+use lib.ListN.{length, take, drop, length-append, length-drop, take-append-drop, List·getD-append}
 use lib.Seq.{length-take-le, getD-take, getD-drop}
-use lib.Dec.{T, eqb}
-use borrow.Author.Tests.{ltb-true}
+use lib.Dec.{T, eqb, ltb}
 use Rattle.model.specs.declared.Layout.{Layout}
-use Rattle.model.specs.Lists.{one, sumOver, occurrences, place}
-use Rattle.model.specs.Crossings.{crossings}
-use Rattle.model.specs.Layouts.{vertexOrder, crossingsOf, valid, modulus, carried, changed, reordered}
+use Rattle.model.specs.Lists.{one, sumOver, occurrences, place, firstWith}
+use Rattle.model.specs.Crossings.{unitWeight, crossings}
+use Rattle.model.specs.Layouts.{vertexOrder, weight, crossingsOf, valid, modulus, carried, changed, reordered}
 use Rattle.model.specs.Edits.{movedAfter}
-use Rattle.model.specs.Sifting.{clockwiseFrom, candidates, leastCrossings, improves, siftedOrder, sifted, reduction, moves}
+use Rattle.model.specs.Search.{least, countWith, leastCost, chosen, siftBest, bestCandidates}
+use Rattle.model.specs.Sifting.{clockwiseFrom, candidateLayouts, sifted, optimaOf}
 use Rattle.laws.specs.Sums.Indicators.{less, same, more, order, one-eq, one-ne}
 use Rattle.laws.specs.Sums.Lists.{All, all-mono, all-map, all-places, sumOver-append, sumOver-split}
 use Rattle.laws.specs.Orders.Permutations.{at, Permutation, place-below, at-of-place, occurs-at, none-beyond}
 use Rattle.laws.specs.Layouts.Validity.{sound}
-use Rattle.laws.specs.Sifting.LocalSearch.{least-default, chosen-stays, chosen-has, chosen-least}
-use Rattle.laws.specs.Orders.Moves.{at-right, moved-permutation, moved-again}
-use Rattle.laws.specs.Layouts.Reordering.{reordered-order, reordered-crossings}
+use Rattle.laws.specs.Sifting.LocalSearch.{chosen-stays, chosen-has, chosen-least, least-same, count-same, chosen-same}
+use Rattle.laws.specs.Orders.Moves.{at-right, moved-permutation}
+use Rattle.laws.specs.Layouts.Reordering.{reordered-crossings}
 use Rattle.laws.specs.Layouts.Reordering.{reordered-length, reordered-valid, carried-right, carried-carried, carried-lt, carried-same, crossings-fit}
 use Rattle.laws.specs.Layouts.Reordering.{CountRight}
 
@@ -82,6 +81,29 @@ module _ {n : ℕ} {o : List ℕ} (perm : Permutation n o) (u : ℕ) (h : u < n)
       (length-drop (suc (place o u)) o ∙ ap (λ (m : ℕ). m - suc (place o u)) (perm .size))
       ∙ getD-take (place o u) o k 0 l
 
+-- ---- the candidates of an order, and the order chosen
+
+-- u directly after each other vertex, clockwise from u
+unfoldable pub candidates : ℕ → List ℕ → List (List ℕ)
+candidates u o = map (λ v. movedAfter u v o) (clockwiseFrom u o)
+
+module _ (n : ℕ) (W : ℕ → ℕ → ℕ) (u : ℕ) (o : List ℕ) where
+  unfoldable pub leastCrossings : ℕ
+  leastCrossings = least (λ c. crossings n c W) (crossings n o W) (candidates u o)
+
+  unfoldable pub optima : ℕ
+  optima = countWith (λ c. crossings n c W) leastCrossings (candidates u o)
+
+  unfoldable pub improves : Bool
+  improves = ltb leastCrossings (crossings n o W)
+
+  unfoldable pub siftedOrder : List ℕ
+  siftedOrder = cond improves (firstWith (λ c. eqb (crossings n c W) leastCrossings) o (candidates u o)) o
+
+  pub sift-stays : improves ≡ false → siftedOrder ≡ o
+  unfolding siftedOrder improves leastCrossings
+  sift-stays e = chosen-stays (λ c. crossings n c W) o (candidates u o) e
+
 -- c is o with u moved behind another vertex
 pub record Candidate (n u : ℕ) (o c : List ℕ) : Type 0 where
   pub behind : ℕ
@@ -99,132 +121,116 @@ module _ {n : ℕ} {o : List ℕ} (perm : Permutation n o) (u : ℕ) (h : u < n)
   pub candidate-permutation : {c : List ℕ} → Candidate n u o c → Permutation n c
   candidate-permutation {c} k = rw (k .moved) (moved-permutation perm u h (k .behind) (k .below) (k .other))
 
--- ---- the order after a sift
-
-module _ {n : ℕ} {o : List ℕ} (perm : Permutation n o) (adj : List ℕ) (u : ℕ) (h : u < n) where
-  -- without an improvement the list stays as it was, with one u is moved to a candidate
-  pub sift-stays : improves n adj u o ≡ false → siftedOrder n adj u o ≡ o
-  unfolding siftedOrder improves leastCrossings
-  sift-stays e = chosen-stays (λ c. crossings n c adj) o (candidates u o) e
-
-  pub sift-permutation : Permutation n (siftedOrder n adj u o)
-  unfolding siftedOrder improves leastCrossings
-  sift-permutation =
-      chosen-has (λ c. crossings n c adj) o (candidates u o) perm (all-mono (all-candidates perm u h) (λ c k. candidate-permutation perm u h k))
-
-  -- its crossings are the least, so no more than before, and fewer exactly where it improves
-  pub sift-least : crossings n (siftedOrder n adj u o) adj ≡ leastCrossings n adj u o
-  unfolding siftedOrder improves leastCrossings
-  sift-least = chosen-least (λ c. crossings n c adj) o (candidates u o)
-
-  pub sift-le : crossings n (siftedOrder n adj u o) adj ≤ crossings n o adj
-  unfolding leastCrossings
-  sift-le = rw sift-least (least-default (λ c. crossings n c adj) (crossings n o adj) (candidates u o))
-
-  pub sift-less : improves n adj u o ≡ true → crossings n (siftedOrder n adj u o) adj < crossings n o adj
-  unfolding improves
-  sift-less e = rw sift-least (ltb-true (leastCrossings n adj u o) (crossings n o adj) e)
-
-  -- moving u once more leads where moving it at once would have led
-  pub sift-moved : (v : ℕ) → movedAfter u v (siftedOrder n adj u o) ≡ movedAfter u v o
-  unfolding siftedOrder improves leastCrossings
-  sift-moved v =
-      chosen-has (λ c. crossings n c adj) o (candidates u o) {P = λ c. movedAfter u v c ≡ movedAfter u v o} refl
-      (all-mono (all-candidates perm u h) (λ c k. ap (movedAfter u v) (k .moved) ∙ moved-again u (k .behind) v o))
-
 -- ---- layouts
 
--- m is a valid layout of the vertices and edges of l, with no more crossings, and its count has changed by what they have
-pub record Improved (l m : Layout) : Type 0 where
+map-map : {A B C : Type 0} (g : B → C) (f : A → B) (xs : List A) → map g (map f xs) ≡ map (λ x. g (f x)) xs
+map-map g f [] = refl
+map-map {C = C} g f (x ∷ xs) = ap (λ (ys : List C). g (f x) ∷ ys) (map-map g f xs)
+
+-- m is a valid layout of the vertices and edges of l, and its count has changed by what the crossings have
+pub record Rearranged (l m : Layout) : Type 0 where
   pub valid-after : T (valid m)
   pub same-n : m .n ≡ l .n
   pub same-adjacency : m .adjacency ≡ l .adjacency
   pub same-places : length (m .order) ≡ length (l .order)
-  pub no-more : crossingsOf m ≤ crossingsOf l
   pub count-carried : l .count < modulus → m .count ≡ carried (l .count) (crossingsOf l) (crossingsOf m)
 
-pub improved-refl : (l : Layout) → T (valid l) → Improved l l
-improved-refl l t =
+pub rearranged-refl : (l : Layout) → T (valid l) → Rearranged l l
+rearranged-refl l t =
     record {
       valid-after = t;
       same-n = refl;
       same-adjacency = refl;
       same-places = refl;
-      no-more = le-refl (crossingsOf l);
       count-carried = λ h. sym (carried-same (l .count) (crossingsOf l) h);
     }
 
-pub improved-trans : {l m k : Layout} → Improved l m → Improved m k → Improved l k
-improved-trans {l} {m} {k} p q =
+pub rearranged-trans : (l m k : Layout) → Rearranged l m → Rearranged m k → Rearranged l k
+rearranged-trans l m k p q =
     record {
       valid-after = q .valid-after;
       same-n = q .same-n ∙ p .same-n;
       same-adjacency = q .same-adjacency ∙ p .same-adjacency;
       same-places = q .same-places ∙ p .same-places;
-      no-more = le-trans (q .no-more) (p .no-more);
       count-carried = λ h.
           q .count-carried (rw (p .count-carried h) (carried-lt (l .count) (crossingsOf l) (crossingsOf m)))
           ∙ ap (λ (c : ℕ). carried c (crossingsOf m) (crossingsOf k)) (p .count-carried h)
           ∙ carried-carried (l .count) (crossingsOf l) (crossingsOf m) (crossingsOf k);
     }
 
+-- the same edges, the same weights
+pub rearranged-weight : {l m : Layout} → Rearranged l m → weight m ≡ weight l
+unfolding weight
+rearranged-weight p = ap unitWeight (p .same-adjacency)
+
 -- a right count stays right
-pub improved-count : {l m : Layout} → T (valid l) → Improved l m → CountRight l → CountRight m
-improved-count {l} {m} t p e =
+pub rearranged-count : {l m : Layout} → T (valid l) → Rearranged l m → CountRight l → CountRight m
+rearranged-count {l} {m} t p e =
     p .count-carried (rw e (crossings-fit l t))
     ∙ ap (λ (c : ℕ). carried c (crossingsOf l) (crossingsOf m)) e
     ∙ carried-right (crossingsOf l) (crossingsOf m) (crossings-fit l t) (crossings-fit m (p .valid-after))
 
--- any other order with no more crossings
+-- any other order
 module _ (l : Layout) (t : T (valid l)) (o : List ℕ) (perm : Permutation (l .n) o) where
-  pub reordered-improved : crossings (l .n) o (l .adjacency) ≤ crossingsOf l → Improved l (reordered l o)
-  unfolding reordered changed crossingsOf vertexOrder
-  reordered-improved h =
+  pub reordered-rearranged : Rearranged l (reordered l o)
+  unfolding reordered changed crossingsOf vertexOrder weight
+  reordered-rearranged =
       record {
         valid-after = reordered-valid l o t perm;
         same-n = refl;
         same-adjacency = refl;
         same-places = reordered-length l o t perm;
-        no-more = le-trans (le-of-eq (reordered-crossings l o (perm .size))) h;
         count-carried = λ k. refl;
       }
+
+-- the order that it has already changes nothing
+reordered-same : (l : Layout) → l .count < modulus → reordered l (vertexOrder l) ≡ l
+unfolding reordered changed crossingsOf vertexOrder weight
+reordered-same l h =
+    rw (take-append-drop (l .n) (l .order), carried-same (l .count) (crossings (l .n) (take (l .n) (l .order)) (weight l)) h) refl
 
 -- ---- a layout sifted
 
 module _ (l : Layout) (t : T (valid l)) (u : ℕ) (h : u < l .n) where
-  pub sifted-permutation : Permutation (l .n) (siftedOrder (l .n) (l .adjacency) u (vertexOrder l))
-  sifted-permutation = sift-permutation (sound l t .permutation) (l .adjacency) u h
+  pub sifted-rearranged : Rearranged l (sifted l u)
+  unfolding siftBest candidateLayouts
+  sifted-rearranged =
+      chosen-has crossingsOf l (candidateLayouts u l) (rearranged-refl l t)
+      (all-map (Rearranged l) (λ v. reordered l (movedAfter u v (vertexOrder l))) (clockwise-others (sound l t .permutation) u h)
+      (λ v p. reordered-rearranged l t (movedAfter u v (vertexOrder l)) (moved-permutation (sound l t .permutation) u h v (p .0) (p .1))))
 
-  pub sifted-order : vertexOrder (sifted l u) ≡ siftedOrder (l .n) (l .adjacency) u (vertexOrder l)
-  unfolding sifted
-  sifted-order = reordered-order l (siftedOrder (l .n) (l .adjacency) u (vertexOrder l)) (sifted-permutation .size)
+  -- in orders alone: the candidates, what they cost
+  as-orders : candidateLayouts u l ≡ map (reordered l) (candidates u (vertexOrder l))
+  unfolding candidateLayouts candidates
+  as-orders = sym (map-map (reordered l) (λ v. movedAfter u v (vertexOrder l)) (clockwiseFrom u (vertexOrder l)))
 
-  pub sifted-crossings : crossingsOf (sifted l u) ≡ crossings (l .n) (siftedOrder (l .n) (l .adjacency) u (vertexOrder l)) (l .adjacency)
-  unfolding sifted
-  sifted-crossings = reordered-crossings l (siftedOrder (l .n) (l .adjacency) u (vertexOrder l)) (sifted-permutation .size)
+  as-crossings : All (λ c. crossingsOf (reordered l c) ≡ crossings (l .n) c (weight l)) (candidates u (vertexOrder l))
+  as-crossings =
+      all-mono (all-candidates (sound l t .permutation) u h)
+      (λ c k. reordered-crossings l c (candidate-permutation (sound l t .permutation) u h k .size))
 
-  -- valid, with no more crossings
-  pub sifted-improved : Improved l (sifted l u)
-  unfolding sifted crossingsOf
-  sifted-improved =
-      reordered-improved l t (siftedOrder (l .n) (l .adjacency) u (vertexOrder l)) sifted-permutation
-      (sift-le (sound l t .permutation) (l .adjacency) u h)
+  least-order : leastCost crossingsOf l (candidateLayouts u l) ≡ leastCrossings (l .n) (weight l) u (vertexOrder l)
+  unfolding leastCrossings crossingsOf
+  least-order =
+      ap (λ (cs : List Layout). leastCost crossingsOf l cs) as-orders
+      ∙ least-same (λ c. crossings (l .n) c (weight l)) crossingsOf (reordered l) (crossingsOf l) as-crossings
 
-  -- the reduction is exact
-  pub sifted-reduction : crossingsOf (sifted l u) + reduction l (sifted l u) ≡ crossingsOf l
-  unfolding reduction
-  sifted-reduction = omega (arith, sifted-improved .no-more)
+  -- its crossings, how many candidates have them, and the layout itself
+  pub sifted-crossings : crossingsOf (sifted l u) ≡ leastCrossings (l .n) (weight l) u (vertexOrder l)
+  unfolding siftBest
+  sifted-crossings = chosen-least crossingsOf l (candidateLayouts u l) ∙ least-order
 
-  -- where u does not move the order stays, and where it does there are fewer crossings
-  pub sifted-stays : moves l u ≡ false → vertexOrder (sifted l u) ≡ vertexOrder l
-  unfolding moves
-  sifted-stays e = sifted-order ∙ sift-stays (sound l t .permutation) (l .adjacency) u h e
+  pub sifted-optima : optimaOf l u ≡ optima (l .n) (weight l) u (vertexOrder l)
+  unfolding bestCandidates optima
+  sifted-optima =
+      rw (least-order, as-orders)
+      (count-same (λ c. crossings (l .n) c (weight l)) crossingsOf (reordered l)
+      (leastCrossings (l .n) (weight l) u (vertexOrder l)) as-crossings)
 
-  pub sifted-still : moves l u ≡ false → crossingsOf (sifted l u) ≡ crossingsOf l
-  unfolding moves crossingsOf
-  sifted-still e =
-      sifted-crossings ∙ ap (λ (x : List ℕ). crossings (l .n) x (l .adjacency)) (sift-stays (sound l t .permutation) (l .adjacency) u h e)
-
-  pub sifted-less : moves l u ≡ true → crossingsOf (sifted l u) < crossingsOf l
-  unfolding moves crossingsOf
-  sifted-less e = rw sifted-crossings (sift-less (sound l t .permutation) (l .adjacency) u h e)
+  pub sifted-order : l .count < modulus → sifted l u ≡ reordered l (siftedOrder (l .n) (weight l) u (vertexOrder l))
+  unfolding siftBest siftedOrder improves leastCrossings
+  sifted-order fits =
+      ap (λ (cs : List Layout). chosen crossingsOf l cs) as-orders
+      ∙ ap (λ (m : Layout). chosen crossingsOf m (map (reordered l) (candidates u (vertexOrder l)))) (sym (reordered-same l fits))
+      ∙ chosen-same (λ c. crossings (l .n) c (weight l)) crossingsOf (reordered l) (vertexOrder l)
+      (reordered-crossings l (vertexOrder l) (sound l t .permutation .size)) as-crossings

@@ -22,7 +22,6 @@ use Rattle.laws.specs.Sums.Pairs.{Symmetric}
 use Rattle.laws.specs.Orders.Permutations.{at, occurrences-append, occurrences-last, Permutation, at-lt, at-of-place, place-below}
 use Rattle.laws.specs.Orders.Moves.{without-place, moved-permutation}
 use Rattle.laws.specs.Crossings.Counting.{placed}
-use Rattle.laws.specs.Crossings.Edges.{weight}
 use Rattle.laws.specs.Crossings.Bound.{mostCrossings, crossingSum-bound}
 use Rattle.laws.specs.Crossings.Lists.{closedCrossings, closed-crossings, crossings-closed}
 use Rattle.laws.specs.Crossings.Exchange.{lost, gained, exchanged, lost-few, turned-once, turned-lists}
@@ -234,28 +233,28 @@ module _ {n : ℕ} {W : ℕ → ℕ → ℕ} (s : Symmetric n W) where
     walked-lost = rw before-exchange (lost-few W u v rest)
 
 -- and of the model
-module _ {n : ℕ} {o : List ℕ} (perm : Permutation n o) (adj : List ℕ) (s : Symmetric n (weight adj)) (u : ℕ) (h : u < n) where
-  pub present-walked : crossings n o adj ≡ walked (weight adj) u (clockwiseFrom u o) 0
+module _ {n : ℕ} {o : List ℕ} (perm : Permutation n o) (W : ℕ → ℕ → ℕ) (s : Symmetric n W) (u : ℕ) (h : u < n) where
+  pub present-walked : crossings n o W ≡ walked W u (clockwiseFrom u o) 0
   unfolding walked
   present-walked =
-      crossings-closed perm adj s
+      crossings-closed perm W s
       ∙ clockwise-crossings s perm u h
-      ∙ ap (λ (xs : List ℕ). closedCrossings (weight adj) (u ∷ xs)) (sym (append-nil (clockwiseFrom u o)))
+      ∙ ap (λ (xs : List ℕ). closedCrossings W (u ∷ xs)) (sym (append-nil (clockwiseFrom u o)))
 
   pub candidate-walked : (k : ℕ) → suc k < n
-      → crossings n (movedAfter u (at (clockwiseFrom u o) k) o) adj ≡ walked (weight adj) u (clockwiseFrom u o) (suc k)
+      → crossings n (movedAfter u (at (clockwiseFrom u o) k) o) W ≡ walked W u (clockwiseFrom u o) (suc k)
   unfolding walked
   candidate-walked k l =
       let v = other-at perm u h k l in
       let moved = moved-permutation perm u h (at (clockwiseFrom u o) k) (v .0) (v .1) in
-      crossings-closed moved adj s
+      crossings-closed moved W s
       ∙ clockwise-crossings s moved u h
-      ∙ ap (λ (xs : List ℕ). closedCrossings (weight adj) (u ∷ xs)) (candidate-turned perm u h k l)
+      ∙ ap (λ (xs : List ℕ). closedCrossings W (u ∷ xs)) (candidate-turned perm u h k l)
 
   -- the last candidate has the crossings of the present order, also where u stands first
-  pub last-stays : 2 ≤ n → crossings n (movedAfter u (at (clockwiseFrom u o) (n - 2)) o) adj ≡ crossings n o adj
+  pub last-stays : 2 ≤ n → crossings n (movedAfter u (at (clockwiseFrom u o) (n - 2)) o) W ≡ crossings n o W
   last-stays two =
       candidate-walked (n - 2) (omega arith)
-      ∙ ap (walked (weight adj) u (clockwiseFrom u o)) (omega (arith, clockwise-length perm u h))
-      ∙ walked-round (weight adj) u (clockwiseFrom u o)
+      ∙ ap (walked W u (clockwiseFrom u o)) (omega (arith, clockwise-length perm u h))
+      ∙ walked-round W u (clockwiseFrom u o)
       ∙ sym present-walked

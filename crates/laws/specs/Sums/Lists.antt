@@ -135,6 +135,11 @@ module _ {A B : Type 0} where
   map-ext f g none h = refl
   map-ext f g (also {x} p ps) h = ap₂ (λ (y : B) (ys : List B). y ∷ ys) (h x p) (map-ext f g ps h)
 
+  pub flatMap-ext : {P : A → Type 0} (f g : A → List B) {xs : List A} → All P xs → ((x : A) → P x → f x ≡ g x) → flatMap f xs ≡ flatMap g xs
+  unfolding flatMap
+  flatMap-ext f g none h = refl
+  flatMap-ext f g (also {x} p ps) h = ap₂ (λ (ys zs : List B). ys ++ zs) (h x p) (flatMap-ext f g ps h)
+
   pub all-flatMap : {P : A → Type 0} {Q : B → Type 0} (g : A → List B) {xs : List A} → All P xs → ((x : A) → P x → All Q (g x)) → All Q (flatMap g xs)
   unfolding flatMap
   all-flatMap g none h = none
@@ -150,6 +155,15 @@ module _ {A : Type 0} where
   pub all-mono : {P Q : A → Type 0} {xs : List A} → All P xs → ((x : A) → P x → Q x) → All Q xs
   all-mono none h = none
   all-mono (also {x} p ps) h = also (h x p) (all-mono ps h)
+
+  pub keep-ext : {P : A → Type 0} (p q : A → Bool) {xs : List A} → All P xs → ((x : A) → P x → p x ≡ q x) → keep p xs ≡ keep q xs
+  unfolding keep
+  keep-ext p q none h = refl
+  keep-ext p q (also {x} {xs} k ks) h = ap₂ (λ (b : Bool) (ys : List A). cond b (x ∷ ys) ys) (h x k) (keep-ext p q ks h)
+
+  pub all-both : {P Q : A → Type 0} {xs : List A} → All P xs → All Q xs → All (λ x. P x × Q x) xs
+  all-both none qs = none
+  all-both (also p ps) (also q qs) = also (p, q) (all-both ps qs)
 
   pub all-keep : {P : A → Type 0} (p : A → Bool) {xs : List A} → All P xs → All P (keep p xs)
   unfolding keep

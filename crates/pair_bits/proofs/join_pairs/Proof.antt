@@ -3,7 +3,7 @@ use Prim.Native.Nat.{_-_}
 use native.Mathlib.Omega.{arith}
 use Rattle.model.specs.Graph6.{graph6Edges}
 use Rattle.laws.specs.Sums.Loops.{MadeUpTo, made-start, made-next, made-end}
-use Rattle.bodies.specs.Words.{adjacencyOf}
+use Rattle.laws.specs.Charts.Words.{adjacencyOf}
 use Rattle.pair_bits.specs.Joining.{none-joined}
 use Rattle.pair_bits.proofs.join_pairs.Statement.{statement}
 use Rattle.pair_bits.proofs.join_pairs.Tie as tie

@@ -1,6 +1,6 @@
 use native.Mathlib.Omega.{arith}
 use mathlib.Core.Path.{sym}
-use Rattle.pairs.specs.Edges.{edge-within, edge-outside}
+use Rattle.laws.specs.Charts.Ends.{edge-within, edge-outside}
 use Rattle.pairs.proofs.is_edge.Statement.{statement}
 use Rattle.pairs.proofs.is_edge.Tie as tie
 

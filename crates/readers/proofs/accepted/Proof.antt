@@ -1,7 +1,7 @@
 use borrow.Author.Needs.{needs}
 use Prim.Native.Nat.{ℕ}
 use mathlib.Core.Path.{ap}
-use Rattle.readers.specs.Passes.{acceptedRead}
+use Rattle.laws.specs.Charts.Passes.{acceptedRead}
 use Rattle.readers.proofs.accepted.Statement.{statement}
 use Rattle.readers.proofs.accepted.Tie as tie
 

@@ -1,7 +1,7 @@
 use borrow.Author.Needs.{needs}
 use mathlib.Core.Path.{ap}
 use Rattle.model.specs.declared.Layout.{Layout}
-use Rattle.readers.specs.Passes.{refusedRead}
+use Rattle.laws.specs.Charts.Passes.{refusedRead}
 use Rattle.readers.proofs.refused.Statement.{statement}
 use Rattle.readers.proofs.refused.Tie as tie
 

@@ -1,5 +1,6 @@
 use borrow.Author.Needs.{needs}
 use mathlib.Core.Path.{_≡_, sym, _∙_}
+use Rattle.model.specs.Layouts.{weight}
 use Rattle.model.specs.Checks.{refusal}
 use Rattle.model.specs.GreedyAppend.{placeAll, layChecks, layAnswer, layRefused, layOf}
 use Rattle.laws.specs.Layouts.Refusals.{when-accepted, when-refused, vertex-passed}
@@ -19,7 +20,7 @@ unfolding layOf layChecks
 returns c =
     let s = c .before .before .args in
     sym
-    (when-refused (layChecks (s .l) (s .s)) (layAnswer (s .l) (placeAll (s .l .n) (s .l .adjacency) (s .s))) (layRefused (s .l))
+    (when-refused (layChecks (s .l) (s .s)) (layAnswer (s .l) (placeAll (s .l .n) (s .l .adjacency) (weight (s .l)) (s .s))) (layRefused (s .l))
     (c .before .vertex-refusal .ensures) (c .if1 .taken))
 
 append-from-requires : tie.Need-append-from-requires
@@ -31,7 +32,9 @@ unfolding layOf
 returns-2 c =
     let s = c .before .before .before .args in
     c .append-from .ensures
-    ∙ sym (when-accepted (layChecks (s .l) (s .s)) (layAnswer (s .l) (placeAll (s .l .n) (s .l .adjacency) (s .s))) (layRefused (s .l)) (accepted (c .before)))
+    ∙ sym
+    (when-accepted (layChecks (s .l) (s .s)) (layAnswer (s .l) (placeAll (s .l .n) (s .l .adjacency) (weight (s .l)) (s .s))) (layRefused (s .l))
+    (accepted (c .before)))
 
 pub greedy-append-spec : {M : Type 1} → statement M
 greedy-append-spec =

@@ -4,7 +4,7 @@ use mathlib.Core.Path.{sym, ap, _∙_}
 use Rattle.model.specs.declared.LayoutRead.{LayoutRead}
 use Rattle.model.specs.Lists.{upto}
 use Rattle.model.specs.Listing.{text, line}
-use Rattle.chart.specs.Laws.{read-valid}
+use Rattle.laws.specs.Charts.Reading.{read-valid}
 use Rattle.laws.specs.Buffers.Writing.{written-whole}
 use Rattle.listing.specs.Text.{listing-refused, listing-accepted, listed-short, listed-as}
 use Rattle.listing.proofs.listings.list_chart.Statement.{statement}

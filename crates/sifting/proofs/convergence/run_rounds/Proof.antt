@@ -39,14 +39,14 @@ add-reduction : tie.Need-add-reduction Inv-loop μ-loop
 add-reduction c =
     let round = c .before .before in
     let turn = round .before .before in
-    omega (arith, settling-bounds (turn .loop .inv) (turn .before .before .pre .0) (round .before .loop-test .taken) (round .sift-all .ensures) .0)
+    omega (arith, settling-bounds (turn .loop .inv) (round .before .loop-test .taken) (turn .before .before .pre .0) (round .sift-all .ensures) .0)
 
 add-optima : tie.Need-add-optima Inv-loop μ-loop
 add-optima c =
     let round = c .before .before in
     let turn = round .before .before in
     let start = turn .before .before .pre in
-    omega (arith, settling-bounds (turn .loop .inv) (start .0) (round .before .loop-test .taken) (round .sift-all .ensures) .1, start .1)
+    omega (arith, settling-bounds (turn .loop .inv) (round .before .loop-test .taken) (start .0) (round .sift-all .ensures) .1, start .1)
 
 add-rounds : tie.Need-add-rounds Inv-loop μ-loop
 add-rounds c = omega arith

@@ -11,17 +11,16 @@ use lib.Dec.{T}
 use lib.Arith.{lt-one}
 use Rattle.model.specs.declared.Edge.{Edge}
 use Rattle.model.specs.Lists.{one, every, any}
-use Rattle.model.specs.Crossings.{linked, crossings}
-use Rattle.model.specs.Layouts.{vertexOrder, crossingsOf, eachOnce, valid}
+use Rattle.model.specs.Crossings.{linked, crossings, unitWeight}
+use Rattle.model.specs.Layouts.{vertexOrder, weight, crossingsOf, eachOnce, valid}
 use Rattle.model.specs.Charts.{edgeWithin, joins, layoutWith}
 use Rattle.laws.specs.Orders.Permutations.{Permutation}
 use Rattle.laws.specs.Sums.Pairs.{Symmetric}
-use Rattle.laws.specs.Crossings.Edges.{weight}
 use Rattle.laws.specs.Layouts.Validity.{each-once, sound-valid}
-use Rattle.laws.specs.Layouts.Recount.{counted, counted-crossings}
-use Rattle.pairs.specs.Edges.{Ends, joins-none, joins-swap}
-use Rattle.bodies.specs.Words.{wordOf-below, adjacencyOf, adjacency-at, adjacency-linked}
-use Rattle.readers.specs.Padded.{padded, padded-length, padded-at}
+use Rattle.laws.specs.Layouts.Recount.{Drawn, counted, counted-crossings}
+use Rattle.laws.specs.Charts.Ends.{Ends, joins-none, joins-swap}
+use Rattle.laws.specs.Charts.Words.{wordOf-below, adjacencyOf, adjacency-at, adjacency-linked}
+use Rattle.laws.specs.Charts.Padded.{padded, padded-length, padded-at}
 
 -- edges whose ends are below n, and an order that holds each vertex once
 pub record Accepted (n : ℕ) (es : List Edge) (o : List ℕ) : Type 0 where
@@ -44,7 +43,7 @@ module _ {n : ℕ} {es : List Edge} {o : List ℕ} (a : Accepted n es o) where
   unfolding adj
   linked-joins u v h l = adjacency-linked es u v (lt-of-lt-of-le h (a .few)) (lt-of-lt-of-le l (a .few))
 
-  symmetry : Symmetric n (weight adj)
+  symmetry : Symmetric n (unitWeight adj)
   unfolding one
   symmetry =
       record {
@@ -64,19 +63,20 @@ module _ {n : ℕ} {es : List Edge} {o : List ℕ} (a : Accepted n es o) where
       sized = length-take-le n (padded o) (omega (arith, padded-length o, a .few))
 
   -- what the counter counts
-  pub count-read : counted n (padded o) (adjacencyOf es) ≡ crossings n o (adjacencyOf es)
-  unfolding adj
+  pub count-read : counted n (padded o) (adjacencyOf es) ≡ layoutWith n es o .count
+  unfolding adj crossingsOf vertexOrder weight
   count-read =
-      counted-crossings (record { small = a .few; permutation = rw front permutation; symmetry = symmetry })
-      ∙ ap (λ (x : List ℕ). crossings n x (adjacencyOf es)) front
+      let drawn : Drawn n (padded o) (adjacencyOf es) = record { small = a .few; permutation = rw front permutation; symmetry = symmetry } in
+      counted-crossings drawn
+      ∙ ap (λ (x : List ℕ). crossings n x (unitWeight (adjacencyOf es))) front
 
   pub count-true : layoutWith n es o .count ≡ crossingsOf (layoutWith n es o)
-  unfolding crossingsOf vertexOrder
-  count-true = ap (λ (x : List ℕ). crossings n x (adjacencyOf es)) (sym front)
+  unfolding crossingsOf vertexOrder weight
+  count-true = ap (λ (x : List ℕ). crossings n x (unitWeight (adjacencyOf es))) (sym front)
 
   -- the layout is valid
   pub valid-read : T (valid (layoutWith n es o))
-  unfolding vertexOrder adj
+  unfolding vertexOrder adj weight
   valid-read =
       sound-valid (layoutWith n es o)
       (record {

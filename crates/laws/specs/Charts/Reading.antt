@@ -10,20 +10,20 @@ use Rattle.model.specs.declared.Edge.{Edge}
 use Rattle.model.specs.declared.LayoutRead.{LayoutRead}
 use Rattle.model.specs.declared.Layout.{Layout}
 use Rattle.model.specs.Lists.{one, upto, every, any, keep, sumPairs}
-use Rattle.model.specs.Crossings.{edges, crossings}
+use Rattle.model.specs.Crossings.{weightedEdges, crossings}
 use Rattle.model.specs.Layouts.{emptyLayout, vertexOrder, crossingsOf, eachOnce, zeroFrom, symmetric, loopless, bitsBelow, valid}
 use Rattle.model.specs.Checks.{refusal}
 use Rattle.model.specs.Charts.{bodyOf, chartSize, chartEdges, chartOrder, sameEdge, joins, chartChecks, sizeChecks, endChecks, repeatChecks, placeChecks}
 use Rattle.model.specs.Charts.{chartLayout, readOf}
 use Rattle.laws.specs.Sums.Lists.{All, none, also}
 use Rattle.laws.specs.Layouts.Sizes.{Sized}
 use Rattle.laws.specs.Layouts.Refusals.{Numbered, all-pass}
 use Rattle.laws.specs.Sums.Indicators.{both-left, both-right, eqb-swap}
-use Rattle.pairs.specs.Edges.{edge}
-use Rattle.bodies.specs.Words.{adjacencyOf, adjacency-length, adjacency-bit, adjacency-lt, adjacency-ext}
-use Rattle.readers.specs.Padded.{padded-length}
-use Rattle.readers.specs.Layouts.{Accepted, valid-read, count-true}
-use Rattle.readers.specs.Passes.{acceptedRead, refusedRead, read-as-number, read-as-accepted, read-as-refused, read-as-sized}
+use Rattle.laws.specs.Charts.Ends.{edge}
+use Rattle.laws.specs.Charts.Words.{adjacencyOf, adjacency-length, adjacency-bit, adjacency-lt, adjacency-ext}
+use Rattle.laws.specs.Charts.Padded.{padded-length}
+use Rattle.laws.specs.Charts.Layouts.{Accepted, valid-read, count-true}
+use Rattle.laws.specs.Charts.Passes.{acceptedRead, refusedRead, read-as-number, read-as-accepted, read-as-refused, read-as-sized}
 
 -- ---- an accepted chart
 
@@ -67,7 +67,7 @@ unfolding valid emptyLayout vertexOrder eachOnce zeroFrom symmetric loopless bit
 empty-valid = tt
 
 pub empty-count : emptyLayout .count ≡ crossingsOf emptyLayout
-unfolding emptyLayout crossingsOf vertexOrder crossings edges sumPairs upto flatMap
+unfolding emptyLayout crossingsOf vertexOrder crossings weightedEdges sumPairs upto flatMap
 empty-count = refl
 
 pub read-refused : (s : List ℕ) → (readOf s .refusal ≡ 0 → ⊥) → readOf s ≡ refusedRead (readOf s .refusal)

@@ -12,20 +12,20 @@ use lib.Pow.{pow-mono}
 use borrow.Author.Tests.{eq-eqb, ne-eqb}
 use Rattle.model.specs.declared.Edge.{Edge}
 use Rattle.model.specs.Lists.{one, any, noRepeats}
-use Rattle.model.specs.Crossings.{bit, linked, edges}
+use Rattle.model.specs.Crossings.{bit, linked, edges, unitWeight}
 use Rattle.model.specs.Charts.{edgesIn, sameEdge, edgeWithin}
 use Rattle.model.specs.WrittenCharts.{edgeBytes}
 use Rattle.laws.specs.Sums.Indicators.{Order, less, same, more, order, one-and, one-le, one-lt, one-ge, one-ne}
 use Rattle.laws.specs.Sums.Ranges.{sum, sum-ext, sum-zero, sum-at}
 use Rattle.laws.specs.Sums.Lists.{All, none, also, all-flatMap}
 use Rattle.laws.specs.Sums.Pairs.{pairSum, Symmetric}
 use Rattle.laws.specs.Sums.Bits.{bit-beyond}
-use Rattle.laws.specs.Crossings.Edges.{weight, edge as rising, sumOver-edges}
+use Rattle.laws.specs.Crossings.Edges.{edge as rising, sumOver-edges}
 use Rattle.laws.specs.Crossings.Masks.{weight-bit}
-use Rattle.pairs.specs.Edges.{edge, edge-within, edge-outside}
-use Rattle.bodies.specs.Words.{adjacencyOf, adjacency-ext}
-use Rattle.chart.specs.Laws.{joins-member}
-use Rattle.chart.specs.Sequence.{written, written-any, few-once}
+use Rattle.laws.specs.Charts.Ends.{edge, edge-within, edge-outside}
+use Rattle.laws.specs.Charts.Words.{adjacencyOf, adjacency-ext}
+use Rattle.laws.specs.Charts.Reading.{joins-member}
+use Rattle.laws.specs.Charts.Sequence.{written, written-any, few-once}
 
 -- ---- the bytes of some edges
 
@@ -97,7 +97,7 @@ edges-often : (n : ℕ) (adj : List ℕ) (e : Edge) → written e (edges n adj) 
 unfolding written
 edges-often n adj e =
     sumOver-edges n adj (λ f. one (sameEdge e f))
-    ∙ pairSum-if-there n e (weight adj)
+    ∙ pairSum-if-there n e (unitWeight adj)
     ∙ sym (one-and (edgeWithin n e) (linked adj (e .low) (e .high)))
 
 -- no edge twice
@@ -116,10 +116,10 @@ edges-there n adj e = written-any e (edges n adj) ∙ ap (ltb 0) (edges-often n 
 -- ---- the words of all edges
 
 -- of a graph of n vertices, in words of n bits; the words behind them are 0
-module _ (n : ℕ) (adj : List ℕ) (s : Symmetric n (weight adj)) (bits : (u : ℕ) → u < 64 → getD adj u 0 < 2 ^ n)
+module _ (n : ℕ) (adj : List ℕ) (s : Symmetric n (unitWeight adj)) (bits : (u : ℕ) → u < 64 → getD adj u 0 < 2 ^ n)
     (unused : (u : ℕ) → n ≤ u → u < 64 → getD adj u 0 ≡ 0) where
   -- no edge joins what is no vertex
-  no-vertex : (u v : ℕ) → u < 64 → n ≤ max u v → weight adj u v ≡ 0
+  no-vertex : (u v : ℕ) → u < 64 → n ≤ max u v → unitWeight adj u v ≡ 0
   no-vertex u v h l =
       weight-bit adj u v
       ∙ elim (decLt u n) [
@@ -128,7 +128,7 @@ module _ (n : ℕ) (adj : List ℕ) (s : Symmetric n (weight adj)) (bits : (u : 
       ]
 
   -- what is joined has its edge in the list, either end first
-  joined-there : (u v : ℕ) → u < 64 → weight adj u v ≡ one (edgeWithin n (edge u v) && linked adj (min u v) (max u v))
+  joined-there : (u v : ℕ) → u < 64 → unitWeight adj u v ≡ one (edgeWithin n (edge u v) && linked adj (min u v) (max u v))
   unfolding one
   joined-there u v h =
       elim (decLt (max u v) n) [
@@ -136,9 +136,9 @@ module _ (n : ℕ) (adj : List ℕ) (s : Symmetric n (weight adj)) (bits : (u : 
         | no b ↦ no-vertex u v h (omega arith) ∙ sym (rw (edge-outside n u v (omega arith)))
       ]
     where
-      vertices : max u v < n → Order u v → weight adj u v ≡ one (not (eqb u v) && linked adj (min u v) (max u v))
+      vertices : max u v < n → Order u v → unitWeight adj u v ≡ one (not (eqb u v) && linked adj (min u v) (max u v))
       vertices b (less l) = rw (ne-eqb u v (λ e. omega arith), min-eq-left (le-of-lt l), max-eq-right (le-of-lt l))
-      vertices b (same e) = rw (eq-eqb u v e) (ap (weight adj u) (sym e) ∙ s .diagonal u (omega arith))
+      vertices b (same e) = rw (eq-eqb u v e) (ap (unitWeight adj u) (sym e) ∙ s .diagonal u (omega arith))
       vertices b (more l) = rw (ne-eqb u v (λ e. omega arith), min-eq-right (le-of-lt l), max-eq-left (le-of-lt l)) (s .swap u v (omega arith) (omega arith))
 
   pub edges-words : n ≤ 64 → length adj ≡ 64 → adjacencyOf (edges n adj) ≡ adj

@@ -16,13 +16,13 @@ use Rattle.model.specs.Layouts.{emptyLayout}
 use Rattle.model.specs.Checks.{Check, refusal, checked}
 use Rattle.model.specs.Charts.{bodyOf, chartSize, chartEdges, chartOrder, edgesIn, sameEdge, edgeWithin}
 use Rattle.model.specs.Charts.{chartChecks, sizeChecks, endChecks, repeatChecks, placeChecks, readOf}
 use Rattle.laws.specs.Sums.Lists.{All, none, also, all-mono}
 use Rattle.laws.specs.Sums.Every.{every-all, all-every}
 use Rattle.laws.specs.Sums.Indicators.{both-left, both-right}
 use Rattle.laws.specs.Layouts.Refusals.{Numbered, all-pass}
 use Rattle.laws.specs.Layouts.FirstCrossing.{self-same}
-use Rattle.pairs.specs.Edges.{edge, edge-swap}
-use Rattle.chart.specs.Laws.{same-words, same-layouts}
+use Rattle.laws.specs.Charts.Ends.{edge, edge-swap}
+use Rattle.laws.specs.Charts.Reading.{same-words, same-layouts}
 
 -- ---- how often an edge is written
 

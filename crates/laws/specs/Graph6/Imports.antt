@@ -13,18 +13,18 @@ use Rattle.model.specs.Layouts.{vertexOrder, crossingsOf, eachOnce, valid}
 use Rattle.model.specs.Checks.{refusal}
 use Rattle.model.specs.Graph6.{holdsSix, bytesFor, pairsByHigher, unpacked, startsWithSize, graph6Size, graph6Data, graph6Edges, graph6SizeChecks}
 use Rattle.model.specs.Graph6.{dataChecks, paddingChecks, graph6Checks, graph6Layout, importOf}
 use Rattle.laws.specs.Sums.Indicators.{T-true, both-left, both-right}
 use Rattle.laws.specs.Sums.Lists.{All, none, also, length-upto}
 use Rattle.laws.specs.Orders.Permutations.{upto-permutation}
 use Rattle.laws.specs.Layouts.Sizes.{Sized}
 use Rattle.laws.specs.Layouts.Validity.{permutation-eachOnce}
 use Rattle.laws.specs.Layouts.Refusals.{Numbered, all-pass}
 use Rattle.laws.specs.Graph6.Pairs.{chosen-within}
 use Rattle.laws.specs.Graph6.Sizes.{size-accepted, size-found}
-use Rattle.bodies.specs.Words.{adjacency-length}
-use Rattle.readers.specs.Padded.{padded-length}
-use Rattle.readers.specs.Layouts.{Accepted, front, valid-read, count-true}
-use Rattle.readers.specs.Passes.{acceptedRead, refusedRead, read-as-number, read-as-accepted, read-as-refused, read-as-sized}
+use Rattle.laws.specs.Charts.Words.{adjacency-length}
+use Rattle.laws.specs.Charts.Padded.{padded-length}
+use Rattle.laws.specs.Charts.Layouts.{Accepted, front, valid-read, count-true}
+use Rattle.laws.specs.Charts.Passes.{acceptedRead, refusedRead, read-as-number, read-as-accepted, read-as-refused, read-as-sized}
 
 pub import-number : (s : List ℕ) → importOf s .refusal ≡ refusal (graph6Checks s)
 unfolding importOf
