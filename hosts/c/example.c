@@ -1,7 +1,8 @@
 /*
  * Reads a chart from the file named, or from standard input, and prints its row
  * as the program ringlist does. Then adds a vertex, joins it to vertex 0, and
- * prints the row of the layout that this leads to.
+ * prints the row of the layout that this leads to. Status 1: refused. Status 2:
+ * what cannot be read or written, told on standard error.
  */
 #include <stdio.h>
 
@@ -64,17 +65,9 @@ static uint8_t add_joined(rl_layout *l)
     return rl_add_edge(l, added.vertex, 0);
 }
 
-int main(int argc, char **argv)
+/* Prints the rows of a chart; the status of the program. */
+static int print_rows(const uint8_t *chart, size_t length)
 {
-    FILE *file = argc > 1 ? fopen(argv[1], "rb") : stdin;
-    if (file == NULL) {
-        perror(argv[1]);
-        return 2;
-    }
-    /* One byte more than a chart may have, to tell that it is too long. */
-    uint8_t chart[RL_CHART_BYTES + 1];
-    size_t length = fread(chart, 1, sizeof chart, file);
-
     rl_layout l = rl_empty();
     uint8_t refusal = rl_read_chart(&l, chart, length);
     if (refusal != RL_ACCEPTED)
@@ -87,4 +80,29 @@ int main(int argc, char **argv)
     if (refusal != RL_ACCEPTED)
         return refused(refusal);
     return print_row(&l);
+}
+
+/* Says what could not be read or written; the status of the program. */
+static int failed(const char *name)
+{
+    perror(name);
+    return 2;
+}
+
+int main(int argc, char **argv)
+{
+    const char *name = argc > 1 ? argv[1] : "standard input";
+    FILE *file = argc > 1 ? fopen(name, "rb") : stdin;
+    if (file == NULL)
+        return failed(name);
+    /* One byte more than a chart may have, to tell that it is too long. */
+    uint8_t chart[RL_CHART_BYTES + 1];
+    size_t length = fread(chart, 1, sizeof chart, file);
+    if (ferror(file))
+        return failed(name);
+    int status = print_rows(chart, length);
+    /* What is written may fail as late as here. */
+    if (fflush(stdout) != 0 || ferror(stdout))
+        return failed("standard output");
+    return status;
 }

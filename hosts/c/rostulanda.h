@@ -2,8 +2,8 @@
  * Rostulanda: circular layouts with few crossings, proved.
  *
  * Vertices stand round a circle and edges are chords. A host holds one layout
- * and lends it to each call, which changes it in place. Link with the static
- * library: -Ltarget/staticlib -lin_place (hosts/README.md). x86-64 only.
+ * and lends it to each call, which changes it in place. hosts/README.md says how
+ * the library is built, installed and linked. x86-64 only.
  *
  * The words are those of graph drawing. Document 01's stand in brackets:
  * layout (ring), vertex (device), edge (link), valid (whole).
@@ -107,7 +107,7 @@ static inline const char *rl_refusal_text(uint8_t refusal)
     case RL_SAME_VERTEX: return "do the two vertices differ?";
     case RL_EDGE_IS_THERE: return "is there no edge between the two vertices yet?";
     case RL_NO_SUCH_EDGE: return "is there an edge between the two vertices?";
-    case RL_NO_ROOM: return "is n below 64?";
+    case RL_NO_ROOM: return "is there room for another (there are 64 vertices already)?";
     case RL_LIMIT_OUT_OF_RANGE: return "is the limit from 1 to 1000?";
     case RL_BUFFER_TOO_SHORT: return "is the lent buffer long enough?";
     case RL_WRITE_BUFFER_TOO_SHORT: return "has the buffer as many bytes as are written?";

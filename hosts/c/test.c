@@ -523,7 +523,7 @@ static void texts(void)
 {
     HOLDS(strcmp(rl_refusal_text(RL_ACCEPTED), "accepted") == 0);
     HOLDS(strcmp(rl_refusal_text(9), "unknown") == 0);
-    HOLDS(strcmp(rl_refusal_text(RL_NO_ROOM), "is n below 64?") == 0);
+    HOLDS(strcmp(rl_refusal_text(RL_NO_ROOM), "is there room for another (there are 64 vertices already)?") == 0);
 }
 
 int main(void)

@@ -1,9 +1,9 @@
 """Circular layouts with few crossings, proved.
 
 Vertices stand round a circle and edges are chords. Any graph of up to 64
-vertices goes in as its edges, for instance those of a networkx graph:
+vertices goes in, as a networkx graph or as its edges:
 
-    row = rostulanda.layout(G.edges())
+    row = rostulanda.layout(G)
     row.order, row.after, row.converged
 
 A Layout is held here and lent to each call of the proved library, which changes
@@ -12,8 +12,8 @@ it in place. A refused call leaves it as it was and raises Refused.
 The words are those of graph drawing; document 01's stand beside them once.
 
 The shared library is librostulanda.so: the file that RL_SHARED_LIBRARY names,
-or the one beside this file, or target/hosts/librostulanda.so of the repository.
-hosts/README.md says how to make it.
+or the one beside this file, or the one in target/staticlib of the repository,
+which ./build library makes.
 """
 
 import ctypes
@@ -23,7 +23,21 @@ import os
 from array import array
 from ctypes import c_bool, c_char_p, c_size_t, c_uint8, c_uint32, c_uint64
 from pathlib import Path
-from typing import Any, Callable, Dict, Hashable, Iterable, List, NamedTuple, Optional, Sequence, Tuple, TypeVar
+from typing import (
+    Any,
+    Callable,
+    Dict,
+    Hashable,
+    Iterable,
+    List,
+    NamedTuple,
+    Optional,
+    Protocol,
+    Sequence,
+    Tuple,
+    TypeVar,
+    Union,
+)
 
 #: The most vertices, and the places of an order.
 PLACES = 64
@@ -93,7 +107,7 @@ QUESTIONS: Dict[int, str] = {
     Refusal.SAME_VERTEX: "do the two vertices differ?",
     Refusal.EDGE_IS_THERE: "is there no edge between the two vertices yet?",
     Refusal.NO_SUCH_EDGE: "is there an edge between the two vertices?",
-    Refusal.NO_ROOM: "is n below 64?",
+    Refusal.NO_ROOM: "is there room for another (there are 64 vertices already)?",
     Refusal.LIMIT_OUT_OF_RANGE: "is the limit from 1 to 1000?",
     Refusal.BUFFER_TOO_SHORT: "is the lent buffer long enough?",
     Refusal.WRITE_BUFFER_TOO_SHORT: "has the buffer as many bytes as are written?",
@@ -223,12 +237,12 @@ def _load() -> ctypes.CDLL:
     """The shared library, each function with its types."""
     here = Path(__file__).resolve().parent
     named = os.environ.get("RL_SHARED_LIBRARY")
-    usual = [here / "librostulanda.so", here.parents[1] / "target" / "hosts" / "librostulanda.so"]
+    usual = [here / "librostulanda.so", here.parent.parent / "target" / "staticlib" / "librostulanda.so"]
     paths = [Path(named)] if named else usual
     path = next((path for path in paths if path.exists()), None)
     if path is None:
         missing = " and ".join(str(path) for path in paths)
-        raise ImportError(f"no shared library: {missing} not there; hosts/README.md says how to make it")
+        raise ImportError(f"no shared library: {missing} not there; ./build library makes it")
     library = ctypes.CDLL(str(path.resolve()))
     for name, (answer, arguments) in _FUNCTIONS.items():
         function = getattr(library, name)
@@ -357,12 +371,14 @@ class Layout:
 
     @classmethod
     def from_graph6(cls, graph6: bytes) -> "Layout":
-        """The layout of a graph in graph6, one without header or line end (document 02, Note 4).
+        """The layout of a graph in graph6 (document 02, Note 4).
 
-        Its order is 0, 1, 2 and so on, its count the true crossings.
+        A header >>graph6<< and a line end, as networkx.write_graph6 writes them,
+        are passed over; import_graph6, the library's own call, refuses them. The
+        order is 0, 1, 2 and so on, the count the true crossings.
         """
         layout = cls()
-        layout.import_graph6(graph6)
+        layout.import_graph6(_bare_graph6(_bytes(graph6)))
         return layout
 
     @classmethod
@@ -421,7 +437,7 @@ class Layout:
         self._read(_library.rl_read_chart, chart)
 
     def import_graph6(self, graph6: bytes) -> None:
-        """Imports a graph6 and takes its layout over; a refused one leaves this layout as it was."""
+        """Imports a graph6, one without header or line end, and takes its layout over; a refused one leaves this layout as it was."""
         self._read(_library.rl_import_graph6, graph6)
 
     def _read(self, call: Callable[..., int], given: bytes) -> None:
@@ -581,7 +597,7 @@ class Layout:
         count is not looked at: the numbers' sum is twice the crossings.
         """
         numbers = _written(self.write_edge_crossings, array("I", [0]) * MOST_EDGES)
-        return list(zip(self.edges(), numbers))
+        return list(zip(_chart_edges(self.chart()), numbers))
 
     def write_edge_crossings(self, table: "array[int]") -> int:
         """Writes each edge's number of crossings to the start of a table, an array("I").
@@ -611,13 +627,29 @@ class Layout:
         before = self.count()
         run = self.converge(limit)
         order = self.order()
-        return Row(len(order), len(self.edges()), before, self.count(), run.rounds, run.converged, order)
+        edges = len(_chart_edges(self.chart()))
+        return Row(len(order), edges, before, self.count(), run.rounds, run.converged, order)
 
 
 def _written(write: Callable[[_Lent], int], room: _Lent) -> _Lent:
     """What is written to the start of a buffer or table that has room for it."""
     length = write(room)
     return room[:length]
+
+
+def _chart_edges(chart: bytes) -> List[Edge]:
+    """The edges of a written chart, in its sequence."""
+    body = chart[7 : 7 + int.from_bytes(chart[5:7], "big")]
+    return list(zip(body[::2], body[1::2]))
+
+
+def _bare_graph6(graph6: bytes) -> bytes:
+    """A graph6 without the header and the line end that a file has."""
+    header = b">>graph6<<"
+    bare = graph6[len(header) :] if graph6.startswith(header) else graph6
+    for line_end in (b"\n", b"\r"):
+        bare = bare[:-1] if bare.endswith(line_end) else bare
+    return bare
 
 
 def _pair(edge: Any) -> Tuple[Any, Any]:
@@ -638,42 +670,130 @@ def _chart(n: int, edges: Iterable[Edge], order: Iterable[int]) -> bytes:
 # ---- graphs, charts and lists of calls in one go -----------------------------
 
 
+class Graph(Protocol):
+    """A graph as networkx has it: nodes() are its vertices, edges() its pairs."""
+
+    @property
+    def nodes(self) -> Callable[[], Iterable[Hashable]]: ...
+
+    @property
+    def edges(self) -> Callable[[], Iterable[Tuple[Hashable, Hashable]]]: ...
+
+
+#: A graph, or the edges of one: pairs of vertices of any hashable kind.
+GraphOrEdges = Union[Graph, Iterable[Tuple[Hashable, Hashable]]]
+
+
+def _parts(graph: GraphOrEdges) -> Tuple[List[Hashable], List[Tuple[Hashable, Hashable]]]:
+    """The vertices that a graph names itself, in its own sequence, and its edges."""
+    nodes: List[Hashable] = []
+    edges: Any = graph
+    if hasattr(graph, "nodes"):
+        nodes, edges = list(graph.nodes()), graph.edges()
+    return nodes, [_pair(edge) for edge in edges]
+
+
+def _numbered(labels: Sequence[Hashable], pairs: Iterable[Tuple[Hashable, Hashable]]) -> Layout:
+    """The layout of the vertices in this order, each numbered by its place, with these edges."""
+    number = {label: v for v, label in enumerate(labels)}
+    for a, b in pairs:
+        if number[a] == number[b]:
+            raise Refused(Refusal.SAME_VERTEX, f"({a!r} is joined to itself)")
+    return Layout.from_edges(((number[a], number[b]) for a, b in pairs), n=len(labels))
+
+
 def layout(
-    edges: Iterable[Tuple[Hashable, Hashable]],
+    graph: GraphOrEdges,
     vertices: Iterable[Hashable] = (),
     limit: int = LIMIT,
     start: Optional[Hashable] = None,
 ) -> Row:
     """A circular layout with few crossings of any graph of up to 64 vertices.
 
-    The edges are pairs of vertices of any hashable kind, as networkx's
-    G.edges() gives them, and are taken as a set of undirected edges: a pair
-    that comes again, either way round, is the same edge. Vertices are numbered
-    as they are first met, in `vertices` before the edges: name there those
-    without edges, or the order to begin with. With a start, greedy append from
-    that vertex makes the order to begin with. Then sifting rounds run up to the
-    limit. The row's order holds the vertices as they were given.
+    The graph is a networkx graph, or its edges: pairs of vertices of any
+    hashable kind. Edges are taken as a set of undirected ones: a pair that comes
+    again, either way round, is the same edge.
+
+    Vertices are numbered from 0, and the order to begin with, of which `before`
+    counts the crossings, is that of their numbers: a networkx graph's own
+    sequence, as in its graph6, with its isolated vertices. Of pairs it is that
+    in which they are first met, and vertices without edges are not known. Those
+    that `vertices` names come before all others. With a start, greedy append
+    from that vertex makes the order to begin with. Then sifting rounds run up to
+    the limit. The row's order holds the vertices as they were given.
 
     Raises Refused for a vertex joined to itself (13), for more than 64 vertices
     (16), and for a start that is not there (12).
     """
-    pairs = [_pair(edge) for edge in edges]
-    labels = list(dict.fromkeys([*vertices, *(end for pair in pairs for end in pair)]))
-    number = {label: v for v, label in enumerate(labels)}
-    for a, b in pairs:
-        if number[a] == number[b]:
-            raise Refused(Refusal.SAME_VERTEX, f"({a!r} is joined to itself)")
-    held = Layout.from_edges(((number[a], number[b]) for a, b in pairs), n=len(labels))
+    nodes, pairs = _parts(graph)
+    labels = list(dict.fromkeys([*vertices, *nodes, *(end for pair in pairs for end in pair)]))
+    held = _numbered(labels, pairs)
     if start is not None:
-        if start not in number:
+        if start not in labels:
             raise Refused(Refusal.NO_SUCH_VERTEX, f"({start!r} is not there)")
-        held.greedy_append(number[start])
+        held.greedy_append(labels.index(start))
     row = held.row(limit)
     return row._replace(order=[labels[v] for v in row.order])
 
 
 #: Document 01's word for it.
 settle = layout
+
+
+class Move(NamedTuple):
+    """A move of one vertex that lowers the crossings."""
+
+    #: The vertex that is moved,
+    vertex: Any
+    #: the one that it is put directly after (document 01: behind),
+    after: Any
+    #: and how many crossings fewer there are then.
+    reduction: int
+
+
+class Checked(NamedTuple):
+    """What is true of an order that somebody printed."""
+
+    #: Its crossings.
+    crossings: int
+    #: Whether these are what was printed.
+    right: bool
+    #: A move that betters it; None: a local minimum, no move of one vertex lowers the crossings.
+    better: Optional[Move]
+
+
+def check_row(graph: GraphOrEdges, order: Iterable[Hashable], crossings: int) -> Checked:
+    """Whether printed crossings are those of a printed order, and whether a move betters it.
+
+    The graph is what `layout` takes, the order holds each of its vertices once,
+    the isolated ones too. Each vertex is sifted, in the order's own sequence, and
+    the first one that moves gives the move, to its best place.
+
+    Raises ValueError where the order is none of the graph's, and Refused as
+    `layout` does.
+    """
+    nodes, pairs = _parts(graph)
+    labels = list(order)
+    places = set(labels)
+    if len(places) < len(labels):
+        raise ValueError("the order holds a vertex twice")
+    for vertex in [*nodes, *(end for pair in pairs for end in pair)]:
+        if vertex not in places:
+            raise ValueError(f"the order does not hold {vertex!r}")
+    held = _numbered(labels, pairs)
+    counted = held.count()
+    return Checked(counted, counted == crossings, _better(held, labels))
+
+
+def _better(held: Layout, labels: Sequence[Any]) -> Optional[Move]:
+    """The move of the first vertex that a sift moves, if there is one."""
+    for u, vertex in enumerate(labels):
+        reduction = held.sift(u).reduction
+        if reduction > 0:
+            # A sifted vertex never comes to stand first.
+            order = held.order()
+            return Move(vertex, labels[order[order.index(u) - 1]], reduction)
+    return None
 
 
 def list_chart(chart: bytes) -> str:
@@ -683,6 +803,18 @@ def list_chart(chart: bytes) -> str:
     length = _library.rl_list_chart(held, len(held), out, len(out))
     return bytes(out[:length]).decode("ascii")
 
+
+#: What each call of a list names.
+_NAMED: Dict[str, Tuple[str, ...]] = {
+    "add_vertex": (),
+    "add_edge": ("a", "b"),
+    "remove_edge": ("a", "b"),
+    "move_after": ("a", "b"),
+    "greedy_append": ("start",),
+    "sift": ("u",),
+    "sifting_round": (),
+    "converge": ("limit",),
+}
 
 #: The number of each call in a list.
 CALLS: Dict[str, int] = {
@@ -725,6 +857,19 @@ def _start(chart: Optional[bytes], graph6: Optional[bytes]) -> Tuple[int, bytes]
     return 0, b""
 
 
+def _call_numbers(call: Sequence[Any]) -> List[int]:
+    """The three numbers of a call: which it is, and what it names."""
+    if isinstance(call, str) or not call:
+        raise ValueError(f"a call is a name and what it names, as ('sift', 0), not {call!r}")
+    name, *named = call
+    if name not in CALLS:
+        raise ValueError(f"there is no call {name!r}: the calls are {', '.join(CALLS)}")
+    if len(named) != len(_NAMED[name]):
+        due = ", ".join([repr(name), *_NAMED[name]]) + ("" if _NAMED[name] else ",")
+        raise ValueError(f"{tuple(call)!r} names {len(named)} numbers: the call is ({due})")
+    return [CALLS[name], *map(_vertex, named), 0, 0][:3]
+
+
 def play(
     calls: Iterable[Sequence[Any]], chart: Optional[bytes] = None, graph6: Optional[bytes] = None
 ) -> Played:
@@ -732,12 +877,11 @@ def play(
 
     A call is its name and what it names: ("add_vertex",), ("add_edge", 0, 1),
     ("converge", 50). Refused calls may stand anywhere among them; only a
-    refused chart or graph6 raises Refused.
+    refused chart or graph6 raises Refused. The graph6 is one without header or
+    line end. Raises ValueError, and plays nothing, where a call is none of CALLS
+    or names too few or too many numbers.
     """
-    numbers: List[int] = []
-    for name, *named in calls:
-        first, second = (list(map(_vertex, named)) + [0, 0])[:2]
-        numbers += [CALLS[name], first, second]
+    numbers = [number for call in calls for number in _call_numbers(call)]
     origin, held = _start(chart, graph6)
     listed = (c_uint64 * len(numbers))(*numbers)
     table = (c_uint64 * (len(numbers) // 3 * ANSWER_NUMBERS))()

@@ -3,11 +3,14 @@
 import itertools
 import pathlib
 import random
+import tempfile
 import unittest
+import zipfile
 from array import array
 from collections import Counter
 
 import rostulanda
+import wheel_of_library
 from rostulanda import Layout, Refusal, Refused
 
 try:
@@ -267,10 +270,25 @@ class LayoutTest(unittest.TestCase):
         ):
             for graph6 in refused:
                 self.refuses(refusal, layout.import_graph6, graph6)
-                self.refuses(refusal, Layout.from_graph6, graph6)
         with self.assertRaises(TypeError):
             layout.import_graph6("CQ")
         self.assertEqual(layout, Layout.from_chart(CHART))
+
+
+    def test_a_graph6_as_a_file_has_it(self):
+        for header, line_end in itertools.product((b"", b">>graph6<<"), (b"", b"\n", b"\r\n")):
+            for graph6 in (b"?", GRAPH6):
+                layout = Layout.from_graph6(header + graph6 + line_end)
+                self.assertEqual(layout, Layout.from_graph6(graph6))
+        for refusal, refused in (
+            (Refusal.GRAPH6_SIZE, (b"", b"\n", b">>graph6<<", b">>graph6<<>>graph6<<CQ", b">>sparse6<<CQ", b"~??CQ")),
+            (Refusal.GRAPH6_DATA, (b"C", b"C\n", b"CQ\n\n", b"CQ\n\r", b"CQ ", b"CQ\nCQ\n")),
+            (Refusal.GRAPH6_PADDING, (b"B@", b">>graph6<<B@\n")),
+        ):
+            for graph6 in refused:
+                self.refuses(refusal, Layout.from_graph6, graph6)
+        with self.assertRaises(TypeError):
+            Layout.from_graph6("CQ")
 
 
 class FromEdgesTest(unittest.TestCase):
@@ -356,15 +374,53 @@ class GraphTest(unittest.TestCase):
             self.assertEqual(caught.exception.code, code)
             self.assertIn(words, str(caught.exception))
 
+    def test_a_graph_that_names_its_vertices(self):
+        class Triangle:
+            """As networkx has a graph, with an isolated vertex and an edge in both directions."""
+
+            def nodes(self):
+                return "dcba"
+
+            def edges(self):
+                return [("a", "b"), ("b", "c"), ("c", "a"), ("a", "c")]
+
+        row = rostulanda.layout(Triangle())
+        self.assertEqual((row.vertices, row.edges, row.order), (4, 3, ["d", "c", "b", "a"]))
+        self.assertEqual(rostulanda.layout(Triangle(), vertices="ab").order, ["a", "b", "d", "c"])
+        self.assertEqual(rostulanda.layout(Triangle().edges()).order, ["a", "b", "c"])
+
     @unittest.skipIf(networkx is None, "networkx is not installed")
     def test_a_networkx_graph_goes_in_with_one_line(self):
-        for graph in (networkx.petersen_graph(), networkx.karate_club_graph().to_directed()):
-            row = rostulanda.layout(graph.edges())
-            undirected = graph.to_undirected()
-            self.assertEqual(sorted(row.order), sorted(graph))
-            self.assertEqual(row.edges, undirected.number_of_edges())
-            self.assertEqual(row.after, len(crossing_pairs(row.order, undirected.edges())))
-            self.assertTrue(row.converged)
+        petersen = networkx.petersen_graph()
+        isolated = petersen.copy()
+        isolated.add_nodes_from(["x", "y"])
+        graphs = petersen, isolated, networkx.karate_club_graph().to_directed(), networkx.MultiGraph(petersen)
+        for graph in graphs:
+            undirected = networkx.Graph(graph.to_undirected())
+            for given, vertices in ((graph, ()), (graph.edges(), graph)):
+                row = rostulanda.layout(given, vertices)
+                self.assertEqual(set(row.order), set(graph))
+                self.assertEqual((row.vertices, row.edges), (len(graph), undirected.number_of_edges()))
+                self.assertEqual(row.before, len(crossing_pairs(list(graph), undirected.edges())))
+                self.assertEqual(row.after, len(crossing_pairs(row.order, undirected.edges())))
+                self.assertTrue(row.converged)
+        self.assertEqual(rostulanda.layout(networkx.Graph()).order, [])
+
+    @unittest.skipIf(networkx is None, "networkx is not installed")
+    def test_numbers_are_those_of_the_graph6(self):
+        petersen = networkx.petersen_graph()
+        due = Layout.from_graph6(networkx.to_graph6_bytes(petersen)).row()
+        self.assertEqual(rostulanda.layout(petersen), due)
+        self.assertEqual((due.before, rostulanda.layout(petersen.edges()).before), (25, 33))
+
+    @unittest.skipIf(networkx is None, "networkx is not installed")
+    def test_a_graph6_file_of_networkx(self):
+        petersen = networkx.petersen_graph()
+        with tempfile.NamedTemporaryFile() as file:
+            networkx.write_graph6(petersen, file.name)
+            written = file.read()
+        self.assertTrue(written.startswith(b">>graph6<<") and written.endswith(b"\n"))
+        self.assertEqual(Layout.from_graph6(written).edges(), sorted(petersen.edges()))
 
     @unittest.skipIf(networkx is None, "networkx is not installed")
     def test_a_graph6_is_that_of_networkx(self):
@@ -378,6 +434,63 @@ class GraphTest(unittest.TestCase):
             self.assertEqual(exported, graph6)
             again = networkx.from_graph6_bytes(exported)
             self.assertTrue(networkx.utils.graphs_equal(again, graph))
+
+
+class CheckRowTest(unittest.TestCase):
+    def test_the_first_chart(self):
+        edges = [(0, 2), (1, 3)]
+        better = rostulanda.Move(vertex=0, after=1, reduction=1)
+        self.assertEqual(rostulanda.check_row(edges, [0, 1, 2, 3], 1), (1, True, better))
+        self.assertEqual(rostulanda.check_row(edges, [0, 1, 2, 3], 0), (1, False, better))
+        self.assertEqual(rostulanda.check_row(edges, [1, 0, 2, 3], 0), (0, True, None))
+        self.assertEqual(rostulanda.check_row([], [], 0), (0, True, None))
+
+    def test_any_hashable_vertex(self):
+        edges = [("a", "c"), ("b", "d"), ("c", "a")]
+        checked = rostulanda.check_row(edges, "dabce", 1)
+        self.assertEqual(checked, (1, True, ("d", "a", 1)))
+        self.assertEqual(rostulanda.check_row(edges, "adbce", 0), (0, True, None))
+
+    def test_random_orders(self):
+        chance = random.Random(7)
+        for n in (2, 5, 9, 14):
+            edges = [pair for pair in itertools.combinations(range(n), 2) if chance.random() < 0.5]
+            order = chance.sample(range(n), n)
+            crossings = len(crossing_pairs(order, edges))
+            # Every move of one vertex, in the order's sequence.
+            fewest = {}
+            for u, other in itertools.permutations(order, 2):
+                moved = [v for v in order if v != u]
+                moved.insert(moved.index(other) + 1, u)
+                reached = len(crossing_pairs(moved, edges))
+                fewest[u] = min(fewest.get(u, crossings), reached)
+            first = next((u for u in order if fewest[u] < crossings), None)
+            checked = rostulanda.check_row(edges, order, crossings)
+            self.assertEqual(checked[:2], (crossings, True))
+            if first is None:
+                self.assertIsNone(checked.better)
+            else:
+                u, after, reduction = checked.better
+                self.assertEqual((u, reduction), (first, crossings - fewest[first]))
+                moved = [v for v in order if v != u]
+                moved.insert(moved.index(after) + 1, u)
+                self.assertEqual(len(crossing_pairs(moved, edges)), fewest[first])
+
+    def test_a_row_of_layout_is_right(self):
+        edges = list(itertools.combinations(range(7), 2))[::2]
+        row = rostulanda.layout(edges)
+        self.assertEqual(rostulanda.check_row(edges, row.order, row.after), (row.after, True, None))
+
+    def test_what_is_no_row(self):
+        for edges, order, words in (
+            ([(0, 1)], [0, 1, 0], "a vertex twice"),
+            ([(0, 1)], [0], "does not hold 1"),
+            ([(1, 1)], [0, 1], "joined to itself"),
+            ([], range(65), "64 vertices already"),
+        ):
+            with self.assertRaises(ValueError) as caught:
+                rostulanda.check_row(edges, order, 0)
+            self.assertIn(words, str(caught.exception))
 
 
 class ChartAndListTest(unittest.TestCase):
@@ -413,6 +526,24 @@ class ChartAndListTest(unittest.TestCase):
         self.assertEqual(played.layout, layout)
         self.assertEqual(len(played.answers), len(calls))
 
+    def test_calls_that_are_none(self):
+        for call, words in (
+            (("sift",), "('sift',) names 0 numbers: the call is ('sift', u)"),
+            (("sift", 0, 1), "names 2 numbers"),
+            (("add_vertex", 0), "the call is ('add_vertex',)"),
+            (("add_edge", 0), "the call is ('add_edge', a, b)"),
+            (["converge"], "the call is ('converge', limit)"),
+            (("shift", 0), "there is no call 'shift': the calls are add_vertex, add_edge,"),
+            (("count",), "there is no call 'count'"),
+            ("add_vertex", "not 'add_vertex'"),
+            ((), "not ()"),
+        ):
+            with self.assertRaises(ValueError) as caught:
+                rostulanda.play([("add_vertex",), call])
+            self.assertIn(words, str(caught.exception))
+        with self.assertRaises(TypeError):
+            rostulanda.play([("sift", "0")])
+
     def test_starts_of_lists(self):
         self.assertEqual(rostulanda.play([]), (Layout(), []))
         self.assertEqual(rostulanda.play([], CHART).layout, Layout.from_chart(CHART))
@@ -423,6 +554,20 @@ class ChartAndListTest(unittest.TestCase):
             self.assertEqual(caught.exception.code, refusal)
         with self.assertRaises(ValueError):
             rostulanda.play([], CHART, GRAPH6)
+
+
+class WheelTest(unittest.TestCase):
+    def test_the_wheel_has_module_type_hints_and_library(self):
+        with tempfile.TemporaryDirectory() as folder:
+            name = wheel_of_library.build_wheel(folder)
+            with zipfile.ZipFile(pathlib.Path(folder, name)) as wheel:
+                held = {path: wheel.read(path) for path in wheel.namelist()}
+        self.assertEqual(held["rostulanda/__init__.py"], pathlib.Path(rostulanda.__file__).read_bytes())
+        self.assertEqual(held["rostulanda/py.typed"], b"")
+        self.assertTrue(held["rostulanda/librostulanda.so"].startswith(b"\x7fELF"))
+        (record,) = [path for path in held if path.endswith("/RECORD")]
+        listed = [line.split(",")[0] for line in held[record].decode().splitlines()]
+        self.assertEqual(listed, list(held))
 
 
 if __name__ == "__main__":

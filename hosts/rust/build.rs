@@ -1,4 +1,4 @@
-//! Links the static library of the proved calls, which `rt staticlib in_place`
+//! Links the static library of the proved calls, which `./build library`
 //! writes. RL_LIBRARY_DIR names the folder that it is in.
 
 use std::env;
@@ -14,7 +14,7 @@ fn main() {
     let archive = folder.join("libin_place.a");
     if !archive.exists() {
         println!(
-            "cargo:warning={} is not there: `rt staticlib in_place` writes it, or RL_LIBRARY_DIR names its folder",
+            "cargo:warning={} is not there: `./build library` writes it, or RL_LIBRARY_DIR names its folder",
             archive.display()
         );
     }

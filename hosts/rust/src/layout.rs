@@ -92,9 +92,16 @@ impl Layout {
         accepted(refusal, layout)
     }
 
-    /// The layout of a graph in graph6, one without header or line end: the
-    /// order 0, 1, 2 and so on, and its true crossings (document 02, Note 4).
+    /// The layout of a graph in graph6: the order 0, 1, 2 and so on, and its
+    /// true crossings (document 02, Note 4). A header `>>graph6<<` and a line
+    /// end, as files have them, are passed over; [`Layout::import_graph6`], the
+    /// library's own call, refuses them.
     pub fn from_graph6(graph6: &[u8]) -> Result<Layout, Refusal> {
+        Layout::imported(bare_graph6(graph6))
+    }
+
+    /// The layout of a graph6 without header or line end.
+    fn imported(graph6: &[u8]) -> Result<Layout, Refusal> {
         let mut layout = Layout::empty();
         let refusal = ffi::import_graph6(&mut layout.fields, graph6);
         accepted(refusal, layout)
@@ -112,6 +119,23 @@ impl Layout {
         Ok(layout)
     }
 
+    /// The vertices in this order, which holds each once, with these edges, each
+    /// given once. What is refused is refused as in a chart: 4, 6, 7 or 8, and 1
+    /// for more than a chart can hold.
+    pub fn from_order(edges: &[(usize, usize)], order: &[usize]) -> Result<Layout, Refusal> {
+        let ends: Vec<usize> = edges.iter().flat_map(|&(a, b)| [a, b]).collect();
+        let bodies = [(0x44, &[order.len()][..]), (0x4C, &ends), (0x52, order)];
+        let mut chart = Vec::new();
+        for (tag, body) in bodies {
+            // A body whose length needs more than two bytes makes the chart too long.
+            let [.., high, low] = body.len().to_be_bytes();
+            chart.extend([tag, high, low]);
+            // No vertex has the number 255.
+            chart.extend(body.iter().map(|&v| u8::try_from(v).unwrap_or(u8::MAX)));
+        }
+        Layout::from_chart(&chart)
+    }
+
     /// A layout of any fields, valid or not.
     pub fn from_fields(fields: Fields) -> Layout {
         Layout { fields }
@@ -124,10 +148,10 @@ impl Layout {
         Ok(())
     }
 
-    /// Imports a graph6 and takes its layout over. A refused one leaves this
-    /// layout as it was.
+    /// Imports a graph6, one without header or line end, and takes its layout
+    /// over. A refused one leaves this layout as it was.
     pub fn import_graph6(&mut self, graph6: &[u8]) -> Result<(), Refusal> {
-        *self = Layout::from_graph6(graph6)?;
+        *self = Layout::imported(graph6)?;
         Ok(())
     }
 
@@ -309,6 +333,13 @@ impl Layout {
     pub fn fields_mut(&mut self) -> &mut Fields {
         &mut self.fields
     }
+}
+
+/// A graph6 without the header and the line end that a file has.
+fn bare_graph6(graph6: &[u8]) -> &[u8] {
+    let bare = graph6.strip_prefix(b">>graph6<<").unwrap_or(graph6);
+    let bare = bare.strip_suffix(b"\n").unwrap_or(bare);
+    bare.strip_suffix(b"\r").unwrap_or(bare)
 }
 
 /// What is written to a buffer of the most elements that it can have.
@@ -559,6 +590,61 @@ mod tests {
             let again = Layout::from_graph6(graph6).and_then(|layout| layout.graph6());
             assert_eq!(again.as_deref(), Ok(graph6));
         }
+    }
+
+    #[test]
+    fn a_graph6_as_a_file_has_it() {
+        for graph6 in [b"?".as_slice(), FIRST_GRAPH6] {
+            for header in [b"".as_slice(), b">>graph6<<"] {
+                for line_end in [b"".as_slice(), b"\n", b"\r\n"] {
+                    let file = [header, graph6, line_end].concat();
+                    assert_eq!(Layout::from_graph6(&file), Layout::from_graph6(graph6));
+                }
+            }
+        }
+        for (graph6, refusal) in [
+            (b"".as_slice(), Refusal::Graph6Size),
+            (b"\n", Refusal::Graph6Size),
+            (b">>graph6<<>>graph6<<CQ", Refusal::Graph6Size),
+            (b">>sparse6<<CQ", Refusal::Graph6Size),
+            (b"C\n", Refusal::Graph6Data),
+            (b"CQ\n\n", Refusal::Graph6Data),
+            (b"CQ\nCQ\n", Refusal::Graph6Data),
+            (b">>graph6<<B@\n", Refusal::Graph6Padding),
+        ] {
+            assert_eq!(Layout::from_graph6(graph6), Err(refusal));
+        }
+    }
+
+    #[test]
+    fn a_layout_of_edges_and_an_order() {
+        let mut layout = first();
+        layout.move_after(3, 0).unwrap();
+        let edges = [(0, 2), (3, 1)];
+        assert_eq!(Layout::from_order(&edges, &[0, 3, 1, 2]), Ok(layout));
+        assert_eq!(Layout::from_order(&[], &[]), Ok(Layout::empty()));
+        let all: Vec<_> = complete(PLACES).edges();
+        let all: Vec<_> = all.iter().map(|edge| (edge.low, edge.high)).collect();
+        let rising: Vec<_> = (0..PLACES).collect();
+        assert_eq!(Layout::from_order(&all, &rising), Ok(complete(PLACES)));
+    }
+
+    #[test]
+    fn what_is_no_order_is_refused() {
+        let many: Vec<_> = (0..PLACES + 1).collect();
+        for (edges, order, refusal) in [
+            ([(0, 2), (1, 3)], many.as_slice(), Refusal::ChartVertices),
+            ([(0, 2), (1, 4)], &[0, 1, 2, 3], Refusal::ChartEdgeEnds),
+            ([(0, 2), (1, 256)], &[0, 1, 2, 3], Refusal::ChartEdgeEnds),
+            ([(0, 2), (1, 1)], &[0, 1, 2, 3], Refusal::ChartEdgeEnds),
+            ([(0, 2), (2, 0)], &[0, 1, 2, 3], Refusal::ChartEdgeTwice),
+            ([(0, 2), (1, 3)], &[0, 1, 2, 2], Refusal::ChartOrder),
+            ([(0, 2), (1, 3)], &[0, 1, 2, 259], Refusal::ChartOrder),
+        ] {
+            assert_eq!(Layout::from_order(&edges, order), Err(refusal));
+        }
+        let long = Layout::from_order(&[(0, 1); 1 << 15], &[0, 1]);
+        assert_eq!(long, Err(Refusal::ChartTooLong));
     }
 
     #[test]

@@ -20,6 +20,7 @@
 
 #[doc(hidden)]
 pub mod boundary;
+mod check;
 #[doc(hidden)]
 pub mod ffi;
 mod layout;
@@ -27,6 +28,7 @@ mod list;
 mod refusal;
 mod row;
 
+pub use check::{check_row, Checked, Move};
 pub use ffi::{GRAPH6_BYTES, MOST_EDGES, PLACES, WRITTEN_CHART_BYTES};
 pub use layout::{Convergence, Edge, Fields, Layout, Round, Sifted};
 pub use list::{play, Answer, Call, Played, Start};

@@ -11,7 +11,7 @@ pub enum Start<'a> {
     Empty,
     /// The layout that [`Layout::from_chart`] gives.
     Chart(&'a [u8]),
-    /// The layout that [`Layout::from_graph6`] gives.
+    /// The layout that [`Layout::import_graph6`] gives: no header, no line end.
     Graph6(&'a [u8]),
 }
 

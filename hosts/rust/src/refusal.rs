@@ -60,7 +60,7 @@ refusals! {
     SameVertex 13 "do the two vertices differ?"
     EdgeIsThere 14 "is there no edge between the two vertices yet?"
     NoSuchEdge 15 "is there an edge between the two vertices?"
-    NoRoom 16 "is n below 64?"
+    NoRoom 16 "is there room for another (there are 64 vertices already)?"
     LimitOutOfRange 17 "is the limit from 1 to 1000?"
     BufferTooShort 18 "is the lent buffer long enough?"
     WriteBufferTooShort 19 "has the buffer as many bytes as are written?"
