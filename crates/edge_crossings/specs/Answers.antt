@@ -7,7 +7,7 @@ use lib.Dec.{T}
 use Rattle.model.specs.declared.Layout.{Layout}
 use Rattle.model.specs.Crossings.{edges}
 use Rattle.model.specs.Layouts.{vertexOrder, weight, valid}
-use Rattle.model.specs.EdgeCrossings.{edgeCrossings, tableShort, countAnswer, edgeCrossingsOf, crossingTable}
+use Rattle.model.specs.EdgeCrossings.{edgeCrossings, tableFormat, countAnswer, edgeCrossingsOf, crossingTable}
 use Rattle.laws.specs.Layouts.Validity.{sound}
 use Rattle.laws.specs.Layouts.Recount.{Drawn, drawn}
 use Rattle.laws.specs.Buffers.Writing.{Written, written-whole}
@@ -20,7 +20,7 @@ use Rattle.edge_crossings.specs.Numbers.{numbersOf}
 pub counted-is : (l : Layout) → T (valid l) → {count : ℕ} → count ≡ length (listedEdges (l .n) (l .adjacency)) → count ≡ length (edgeCrossings l)
 counted-is l t e = e ∙ ap length (listed-few (l .n) (l .adjacency) (sound l t .small)) ∙ sym (numbers-length l)
 
-module _ {l : Layout} {table : List ℕ} {count code : ℕ} (a : Asked tableShort edgeCrossings l table count code) where
+module _ {l : Layout} {table : List ℕ} {count code : ℕ} (a : Asked tableFormat l table 0 count code) where
   pub refused : (code ≡ 0 → ⊥) → (record { refusal = code; edges = 0 } ≡ edgeCrossingsOf l table) × (table ≡ crossingTable l table)
   unfolding edgeCrossingsOf crossingTable
   refused d = fill-refused a countAnswer d

@@ -25,7 +25,7 @@ pub fn edge_crossings(l: Layout, table: &mut [u32]) -> EdgesCounted
     let n = l.n;
     let adjacency = l.adjacency;
     let edges = edge_count(n, &adjacency) as usize;
-    let refusal = write_refusal(is_valid(l), edges, table.len(), 23);
+    let refusal = write_refusal(is_valid(l), 0, edges, table.len(), 23);
     if refusal != 0 {
         return EdgesCounted { refusal, edges: 0 };
     }

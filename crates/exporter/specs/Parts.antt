@@ -9,8 +9,8 @@ use lib.ListN.{length, take, length-append}
 use lib.Dec.{T}
 use Rattle.model.specs.declared.Layout.{Layout}
 use Rattle.model.specs.Layouts.{valid}
-use Rattle.model.specs.Writing.{bufferShort, writeOf, writtenBytes}
-use Rattle.model.specs.Graph6.{bytesFor, packed, sizePart, pairsByHigher, pairBits, graph6Of}
+use Rattle.model.specs.Writing.{writeOf, writtenBytes}
+use Rattle.model.specs.Graph6.{bytesFor, packed, sizePart, pairsByHigher, pairBits, graph6Of, graph6Format}
 use Rattle.laws.specs.Layouts.Validity.{sound}
 use Rattle.laws.specs.Buffers.Writing.{Written, written-whole}
 use Rattle.laws.specs.Graph6.Packing.{packedIn, packedIn-length, packed-is, packed-length, packedIn-take}
@@ -97,11 +97,11 @@ module _ (n : ℕ) {size bits : ℕ} (p : size ≡ length (sizePart n)) (q : bit
   parts-few = omega (arith, p, q, data-most n, size-most n)
 
 -- where all checks have passed
-module _ {l : Layout} {buffer : List ℕ} {long code : ℕ} (a : Asked bufferShort graph6Of l buffer long code) (z : code ≡ 0) where
+module _ {l : Layout} {buffer : List ℕ} {own long code : ℕ} (a : Asked graph6Format l buffer own long code) (z : code ≡ 0) where
   pub fits : long ≡ counted (l .n) → (l .n ≤ 64) × (counted (l .n) ≤ length buffer)
   fits e = (sound l (is-valid a z) .small, rw e at (room a z))
 
   pub graph-written : {after : List ℕ} {end : ℕ} → Written buffer 0 (graph6With (l .n) (l .adjacency)) after end
-      → (record { refusal = 0; length = long } ≡ writeOf graph6Of l buffer) × (after ≡ writtenBytes graph6Of l buffer)
+      → (record { refusal = 0; length = long } ≡ writeOf graph6Format l buffer) × (after ≡ writtenBytes graph6Format l buffer)
   unfolding graph6With graph6Of
   graph-written w = written a z (written-whole w .0)

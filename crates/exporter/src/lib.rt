@@ -3,7 +3,7 @@ ghost use mathlib.Core.Path.{_≡_};
 ghost use Prim.Native.Nat.{_≤_};
 ghost use lib.ListN.{length};
 ghost use Rattle.model.specs.Writing.{writeOf, writtenBytes};
-ghost use Rattle.model.specs.Graph6.{sizePart, graph6Of};
+ghost use Rattle.model.specs.Graph6.{sizePart, graph6Format};
 ghost use Rattle.laws.specs.Buffers.Writing.{Written};
 ghost use Rattle.text.specs.Room.{Put};
 ghost use Rattle.exporter.specs.Parts.{graph6With, counted};
@@ -19,13 +19,13 @@ use writing::write_refusal;
 // Writes the graph to the start of the buffer, and answers how many bytes it has. The bytes beyond it
 // keep their contents.
 pub fn export(l: Layout, buffer: &mut [u8]) -> LayoutWritten
-    ensures { λ r. ⌜ r ≡ writeOf graph6Of l (now (buffer .entry)) ⌝ }
-    ensures { λ r. ⌜ now (buffer .exit) ≡ writtenBytes graph6Of l (now (buffer .entry)) ⌝ }
+    ensures { λ r. ⌜ r ≡ writeOf graph6Format l (now (buffer .entry)) ⌝ }
+    ensures { λ r. ⌜ now (buffer .exit) ≡ writtenBytes graph6Format l (now (buffer .entry)) ⌝ }
 {
     let n = l.n;
     let adjacency = l.adjacency;
     let length = size_length(n) + data_length(n);
-    let refusal = write_refusal(is_valid(l), length, buffer.len(), 19);
+    let refusal = write_refusal(is_valid(l), 0, length, buffer.len(), 19);
     if refusal != 0 {
         return LayoutWritten { refusal, length: 0 };
     }

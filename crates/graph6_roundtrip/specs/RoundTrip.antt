@@ -15,11 +15,12 @@ use Rattle.model.specs.Layouts.{weight, valid}
 use Rattle.model.specs.Charts.{layoutWith}
 use Rattle.model.specs.Writing.{writeOf, writtenBytes}
 use Rattle.model.specs.Graph6.{bytesFor, packed, unpacked, sizePart, pairsByHigher, pairBits, graph6Of, startsWithSize, graph6Size, graph6Data}
-use Rattle.model.specs.Graph6.{graph6Edges, graph6Layout, importOf, inRisingOrder}
-use Rattle.laws.specs.Sums.Lists.{All}
+use Rattle.model.specs.Graph6.{graph6Format, graph6Edges, graph6Layout, importOf, inRisingOrder}
+use Rattle.laws.specs.Sums.Lists.{All, none}
 use Rattle.laws.specs.Layouts.Sizes.{Sized}
 use Rattle.laws.specs.Layouts.Validity.{sound, words-symmetric}
-use Rattle.laws.specs.Buffers.Formats.{write-accepted, write-accepts, written-front}
+use Rattle.laws.specs.Layouts.Refusals.{all-passed}
+use Rattle.laws.specs.Buffers.Formats.{graph6-coded, Fits, write-accepted, write-accepts, written-front}
 use Rattle.laws.specs.Graph6.Packing.{packedIn, packedIn-same, unpacked-length, unpacked-bits}
 use Rattle.laws.specs.Graph6.Pairs.{chosen-ext, pairBits-bits, pairBits-length}
 use Rattle.laws.specs.Graph6.Sizes.{size-starts, starts-with, size-found}
@@ -113,10 +114,10 @@ links-kept l s t =
     (ap (λ (r : LayoutRead). r .layout .n) same, λ u v. ap (λ (r : LayoutRead). linked (r .layout .adjacency) u v) same)
 
 -- so with the call itself: where it is accepted, as many bytes of the buffer as it answers are imported so
-pub export-then-import : (l : Layout) (buffer : List ℕ) → Sized l → writeOf graph6Of l buffer .refusal ≡ 0
-    → importOf (take (writeOf graph6Of l buffer .length) (writtenBytes graph6Of l buffer)) ≡ record { refusal = 0; layout = inRisingOrder l }
+pub export-then-import : (l : Layout) (buffer : List ℕ) → Sized l → writeOf graph6Format l buffer .refusal ≡ 0
+    → importOf (take (writeOf graph6Format l buffer .length) (writtenBytes graph6Format l buffer)) ≡ record { refusal = 0; layout = inRisingOrder l }
 export-then-import l buffer s e =
-    ap importOf (written-front graph6Of l buffer e) ∙ exported-imported l s (write-accepted graph6Of l buffer e .0)
+    ap importOf (written-front graph6-coded l buffer e) ∙ exported-imported l s (write-accepted graph6-coded l buffer e .is-valid)
 
 -- ---- imported and exported
 
@@ -150,11 +151,13 @@ imported-exported s e = ap (λ (r : LayoutRead). graph6Of (r .layout)) (import-i
 
 -- so with the call itself, into a buffer that is long enough: "it answers its length and keeps buffer bytes beyond it"
 pub import-then-export : (s buffer : List ℕ) → importOf s .refusal ≡ 0 → length s ≤ length buffer
-    → (writeOf graph6Of (importOf s .layout) buffer ≡ record { refusal = 0; length = length s })
-    × (writtenBytes graph6Of (importOf s .layout) buffer ≡ s ++ drop (length s) buffer)
+    → (writeOf graph6Format (importOf s .layout) buffer ≡ record { refusal = 0; length = length s })
+    × (writtenBytes graph6Format (importOf s .layout) buffer ≡ s ++ drop (length s) buffer)
 import-then-export s buffer e room =
     let same = imported-exported s e in
-    let call = write-accepts graph6Of (importOf s .layout) buffer (imported-valid s e .0) (omega (arith, ap length same)) in (
+    let fits : Fits graph6Format (importOf s .layout) buffer =
+    record { is-valid = imported-valid s e .0; own = all-passed none; room = omega (arith, ap length same) } in
+    let call = write-accepts graph6-coded (importOf s .layout) buffer fits in (
       call .0 ∙ ap (λ (x : List ℕ). record { refusal = 0; length = length x }) same,
       call .1 ∙ ap (λ (x : List ℕ). x ++ drop (length x) buffer) same,
     )

@@ -5,7 +5,7 @@ ghost use Rattle.model.specs.Reading.{countOf, orderRefusal, orderBytes};
 ghost use Rattle.model.specs.Charts.{readOf};
 ghost use Rattle.model.specs.Reports.{crossingReportOf};
 ghost use Rattle.model.specs.Writing.{writeOf, writtenBytes};
-ghost use Rattle.model.specs.WrittenCharts.{chartOf};
+ghost use Rattle.model.specs.WrittenCharts.{chartFormat};
 ghost use Rattle.model.specs.EdgeCrossings.{edgeCrossingsOf, crossingTable};
 use model::Counted;
 use model::CrossingReport;
@@ -57,8 +57,8 @@ pub extern "C" fn rl_order(l: &Layout, buffer: &mut [u8]) -> u8
 // Writes the layout's chart to the start of the buffer, and answers its length.
 #[no_mangle]
 pub extern "C" fn rl_write_chart(l: &Layout, buffer: &mut [u8]) -> LayoutWritten
-    ensures { λ r. ⌜ (r ≡ writeOf chartOf (now (l .entry)) (now (buffer .entry)))
-        × (now (buffer .exit) ≡ writtenBytes chartOf (now (l .entry)) (now (buffer .entry))) ⌝ }
+    ensures { λ r. ⌜ (r ≡ writeOf chartFormat (now (l .entry)) (now (buffer .entry)))
+        × (now (buffer .exit) ≡ writtenBytes chartFormat (now (l .entry)) (now (buffer .entry))) ⌝ }
 {
     writer::write(*l, buffer)
 }

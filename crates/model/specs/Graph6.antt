@@ -12,6 +12,7 @@ use Rattle.model.specs.Crossings.{bit, linked, crossings}
 use Rattle.model.specs.Layouts.{weight, capacity}
 use Rattle.model.specs.Checks.{Check}
 use Rattle.model.specs.Charts.{sameList, padded, layoutWith, readAs, Answer, answer}
+use Rattle.model.specs.Writing.{Format}
 
 -- ---- six bits a byte
 
@@ -62,6 +63,10 @@ chosen (b ∷ bs) (e ∷ es) = cond (eqb b 1) (e ∷ chosen bs es) (chosen bs es
 
 unfoldable pub graph6Of : Layout → List ℕ
 graph6Of l = sizePart (l .n) ++ packed (pairBits (l .n) (l .adjacency))
+
+-- "Export to a short buffer gives 19."
+abbrev pub graph6Format : Format
+graph6Format = record { entries = graph6Of; checks = λ l. []; short = 19 }
 
 -- ---- import
 

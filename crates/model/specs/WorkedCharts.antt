@@ -12,7 +12,7 @@ use Rattle.model.specs.Checks.{refusal, byRefusal, checked, isValid, roo
 use Rattle.model.specs.Charts.{fieldsIn, fieldsOf, bodyOf, bodyLength, startsWithField, firstField, chartSize, edgesIn, chartEdges, chartOrder}
 use Rattle.model.specs.Charts.{sameList, sameEdge, joins, wordIn, chartLayout}
 use Rattle.model.specs.Writing.{writeOf, writtenBytes}
-use Rattle.model.specs.WrittenCharts.{fieldBytes, edgeBytes, chartOf}
+use Rattle.model.specs.WrittenCharts.{fieldBytes, edgeBytes, chartOf, chartFormat}
 
 unfoldable pub chartWithLinks : List ℕ → List ℕ
 chartWithLinks links = 0x44 ∷ 0 ∷ 1 ∷ 4 ∷ 0x4C ∷ 0 ∷ 4 ∷ (links ++ (0x52 ∷ 0 ∷ 4 ∷ 0 ∷ 1 ∷ 2 ∷ 3 ∷ []))
@@ -24,10 +24,10 @@ writesLinks given links = sameList (chartOf (chartLayout (chartWithLinks given))
 -- does the call on a buffer of size bytes, each of them 7, answer this code, and leave these bytes?
 unfoldable pub writesInto : Layout → ℕ → ℕ → List ℕ → Bool
 writesInto l size code chart =
-    let answer = writeOf chartOf l (replicate size 7) in
+    let answer = writeOf chartFormat l (replicate size 7) in
     eqb (answer .refusal) code
     && eqb (answer .length) (length chart)
-    && sameList (writtenBytes chartOf l (replicate size 7)) (chart ++ replicate (size - length chart) 7)
+    && sameList (writtenBytes chartFormat l (replicate size 7)) (chart ++ replicate (size - length chart) 7)
 
 -- by computation
 pub worked-writes : let first : List ℕ = 0 ∷ 2 ∷ 1 ∷ 3 ∷ [] in

@@ -1,4 +1,4 @@
--- Charts written out again (document 02, Note 1): the bytes of a layout's chart. Writing has the call.
+-- Charts written out again (document 02, Note 1): the bytes of a layout's chart, as a format. Writing has the call.
 use Prim.Native.Nat.{ℕ, _/_, _%_}
 use mathlib.Core.List.{List, [], _∷_, _++_, flatMap}
 use lib.ListN.{length}
@@ -6,6 +6,7 @@ use Rattle.model.specs.declared.Edge.{Edge}
 use Rattle.model.specs.declared.Layout.{Layout}
 use Rattle.model.specs.Crossings.{edges}
 use Rattle.model.specs.Layouts.{vertexOrder, crossingsOf}
+use Rattle.model.specs.Writing.{Format}
 
 -- ---- the bytes of a chart
 
@@ -23,6 +24,10 @@ chartOf l =
     fieldBytes 0x44 (l .n ∷ [])
     ++ fieldBytes 0x4C (edgeBytes (edges (l .n) (l .adjacency)))
     ++ fieldBytes 0x52 (vertexOrder l)
+
+-- "Refused: 19 when the lent buffer is shorter than the chart, asked after 11."
+abbrev pub chartFormat : Format
+chartFormat = record { entries = chartOf; checks = λ l. []; short = 19 }
 
 -- ---- read back
 

@@ -16,12 +16,12 @@ use Rattle.model.specs.Layouts.{vertexOrder, weight, crossingsOf, valid}
 use Rattle.model.specs.Checks.{refusal}
 use Rattle.model.specs.Charts.{bodyOf, chartSize, chartEdges, chartOrder, sameEdge, chartChecks, readOf}
 use Rattle.model.specs.Writing.{writeOf, writtenBytes}
-use Rattle.model.specs.WrittenCharts.{chartOf, withTrueCount}
+use Rattle.model.specs.WrittenCharts.{chartOf, chartFormat, withTrueCount}
 use Rattle.laws.specs.Sums.Lists.{All}
 use Rattle.laws.specs.Crossings.Bound.{edges-few}
 use Rattle.laws.specs.Buffers.Charts.{chart-edges}
 pub use Rattle.laws.specs.Buffers.Charts.{chart-size}
-use Rattle.laws.specs.Buffers.Formats.{write-accepted, written-front}
+use Rattle.laws.specs.Buffers.Formats.{chart-coded, write-accepted, written-front}
 use Rattle.laws.specs.Layouts.Sizes.{Sized}
 use Rattle.laws.specs.Layouts.Validity.{sound, words-symmetric}
 use Rattle.laws.specs.Charts.Padded.{padded, padded-length, padded-at}
@@ -81,10 +81,10 @@ written-read l s t =
     read-as o adj = record { refusal = 0; layout = record { n = l .n; order = o; adjacency = adj; count = crossings (l .n) (vertexOrder l) (unitWeight adj) } }
 
 -- so with the call itself: where it is accepted, as many bytes of the buffer as it answers are read as the layout with its true count
-pub write-then-read : (l : Layout) (buffer : List ℕ) → Sized l → writeOf chartOf l buffer .refusal ≡ 0
-    → readOf (take (writeOf chartOf l buffer .length) (writtenBytes chartOf l buffer)) ≡ record { refusal = 0; layout = withTrueCount l }
+pub write-then-read : (l : Layout) (buffer : List ℕ) → Sized l → writeOf chartFormat l buffer .refusal ≡ 0
+    → readOf (take (writeOf chartFormat l buffer .length) (writtenBytes chartFormat l buffer)) ≡ record { refusal = 0; layout = withTrueCount l }
 write-then-read l buffer s e =
-    ap readOf (written-front chartOf l buffer e) ∙ written-read l s (write-accepted chartOf l buffer e .0)
+    ap readOf (written-front chart-coded l buffer e) ∙ written-read l s (write-accepted chart-coded l buffer e .is-valid)
 
 -- a count that is true already stays
 count-kept : (l : Layout) → l .count ≡ crossingsOf l → withTrueCount l ≡ l

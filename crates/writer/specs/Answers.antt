@@ -11,8 +11,8 @@ use borrow.Author.Tests.{le-leb}
 use Rattle.model.specs.declared.Layout.{Layout}
 use Rattle.model.specs.Crossings.{edges}
 use Rattle.model.specs.Layouts.{vertexOrder, valid}
-use Rattle.model.specs.Writing.{bufferShort, writeOf, writtenBytes}
-use Rattle.model.specs.WrittenCharts.{chartOf}
+use Rattle.model.specs.Writing.{writeOf, writtenBytes}
+use Rattle.model.specs.WrittenCharts.{chartOf, chartFormat}
 use Rattle.laws.specs.Layouts.Validity.{sound}
 use Rattle.laws.specs.Buffers.Writing.{Written, written-whole}
 use Rattle.laws.specs.Buffers.Charts.{chartWith, chart-edges, chart-size}
@@ -29,7 +29,7 @@ counted-is l t = rw (le-leb (l .n) 64 (sound l t .small)) (sym (chart-size l t))
 
 -- what the call has asked
 pub record ChartAsked (l : Layout) (buffer : List ℕ) (long code : ℕ) : Type 0 where
-  pub asked : Asked bufferShort chartOf l buffer long code
+  pub asked : Asked chartFormat l buffer 0 long code
   pub measured : long ≡ counted (l .n) (l .adjacency)
 
 -- where all checks have passed
@@ -49,6 +49,6 @@ module _ {l : Layout} {buffer : List ℕ} {long code : ℕ} (a : ChartAsked l bu
 
   pub chart-written : {after : List ℕ} {end : ℕ}
       → (let o = take (l .n) (l .order) in Written buffer 0 (chartWith (length o) (edges (length o) (l .adjacency)) o) after end)
-      → (record { refusal = 0; length = long } ≡ writeOf chartOf l buffer) × (after ≡ writtenBytes chartOf l buffer)
+      → (record { refusal = 0; length = long } ≡ writeOf chartFormat l buffer) × (after ≡ writtenBytes chartFormat l buffer)
   unfolding vertexOrder
   chart-written w = written (a .asked) z (written-whole (rw (order-size, ← (chart-edges l)) at w) .0)

@@ -5,7 +5,7 @@ ghost use Prim.Native.Nat.{_+_, _*_, _/_, _%_, _≤_, _<_};
 ghost use lib.ListN.{length};
 ghost use Rattle.model.specs.Crossings.{edges};
 ghost use Rattle.model.specs.Writing.{writeOf, writtenBytes};
-ghost use Rattle.model.specs.WrittenCharts.{fieldBytes, edgeBytes, chartOf};
+ghost use Rattle.model.specs.WrittenCharts.{fieldBytes, edgeBytes, chartFormat};
 ghost use Rattle.laws.specs.Buffers.Writing.{Written};
 ghost use Rattle.laws.specs.Buffers.Charts.{chartWith};
 ghost use Rattle.text.specs.Room.{Put};
@@ -22,13 +22,13 @@ use writing::write_refusal;
 // Writes the chart to the start of the buffer, and answers its length. The bytes beyond it keep
 // their contents.
 pub fn write(l: Layout, buffer: &mut [u8]) -> LayoutWritten
-    ensures { λ r. ⌜ r ≡ writeOf chartOf l (now (buffer .entry)) ⌝ }
-    ensures { λ r. ⌜ now (buffer .exit) ≡ writtenBytes chartOf l (now (buffer .entry)) ⌝ }
+    ensures { λ r. ⌜ r ≡ writeOf chartFormat l (now (buffer .entry)) ⌝ }
+    ensures { λ r. ⌜ now (buffer .exit) ≡ writtenBytes chartFormat l (now (buffer .entry)) ⌝ }
 {
     let n = l.n;
     let adjacency = l.adjacency;
     let length = chart_length(n, &adjacency);
-    let refusal = write_refusal(is_valid(l), length, buffer.len(), 19);
+    let refusal = write_refusal(is_valid(l), 0, length, buffer.len(), 19);
     if refusal != 0 {
         return LayoutWritten { refusal, length: 0 };
     }

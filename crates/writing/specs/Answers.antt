@@ -1,72 +1,91 @@
 -- What a call that fills a lent buffer answers, and leaves in it, by its checks; whatever the format. A layout written out is an instance.
-use Prim.Native.Nat.{ℕ, _≤_, _<_}
+use Prim.Native.Nat.{ℕ, zero, suc, _≤_}
+use native.Mathlib.Omega.{arith}
 use mathlib.Core.Path.{_≡_, refl, sym, ap, _∙_, subst}
-use mathlib.Core.Bool.{Bool, true, false}
+use mathlib.Core.Bool.{Bool, true, false, cond}
 use mathlib.Core.List.{List, [], _∷_, _++_}
 use lib.ListN.{length, drop}
-use lib.Dec.{T, leb}
+use lib.Dec.{T, eqb, leb}
+use borrow.Author.Tests.{ne-eqb}
 use Rattle.model.specs.declared.Layout.{Layout}
 use Rattle.model.specs.Layouts.{valid}
 use Rattle.model.specs.Checks.{Check, refusal, isValid, roomFor}
-use Rattle.model.specs.Writing.{fillChecks, fillAnswer, filled, bufferShort, writeAnswer, writeOf, writtenBytes}
+use Rattle.model.specs.Writing.{Format, fillChecks, fillAnswer, filled, writeAnswer, writeOf, writtenBytes}
 use Rattle.laws.specs.Layouts.Refusals.{when-refused}
-use Rattle.laws.specs.Buffers.Formats.{fill-accepted, fill-answered, filled-whole}
+use Rattle.laws.specs.Buffers.Formats.{Coded, Fits, room-tells, own-tells, fill-accepted, fill-answered, filled-whole}
 
 -- the checks, from what the call asks
-abbrev pub asks : ℕ → Bool → ℕ → ℕ → List Check
-asks short passed long size = record { passes = passed; code = 11 } ∷ record { passes = leb long size; code = short } ∷ []
+abbrev pub asks : ℕ → Bool → ℕ → ℕ → ℕ → List Check
+asks short passed own long size =
+    record { passes = passed; code = 11 } ∷ record { passes = eqb own 0; code = own } ∷ record { passes = leb long size; code = short } ∷ []
 
--- what the call has asked: a valid layout takes long entries, and code is the first check that fails, or 0
-pub record Asked (short : ℕ) (format : Layout → List ℕ) (l : Layout) (buffer : List ℕ) (long code : ℕ) : Type 0 where
-  pub numbered : 0 < short
-  pub measured : T (valid l) → long ≡ length (format l)
-  pub told : code ≡ refusal (asks short (valid l) long (length buffer))
+-- what the call has asked: of a valid layout own is the code of the format's own checks, and long how many entries it takes; code is that of the first
+-- check that fails, or 0
+pub record Asked (f : Format) (l : Layout) (buffer : List ℕ) (own long code : ℕ) : Type 0 where
+  pub coded : Coded f
+  pub own-is : T (valid l) → own ≡ refusal (f .checks l)
+  pub measured : T (valid l) → long ≡ length (f .entries l)
+  pub told : code ≡ refusal (asks (f .short) (valid l) own long (length buffer))
 
-module _ {short : ℕ} {format : Layout → List ℕ} {l : Layout} {buffer : List ℕ} {long code : ℕ} (a : Asked short format l buffer long code) where
-  -- the code is that of the checks: the length counts only where the layout is valid
-  number : code ≡ refusal (fillChecks short format l buffer)
-  unfolding isValid roomFor refusal
+module _ {f : Format} {l : Layout} {buffer : List ℕ} {own long code : ℕ} (a : Asked f l buffer own long code) where
+  -- of a valid layout
+  behind-eleven : T (valid l)
+      → cond (eqb own 0) (cond (leb long (length buffer)) 0 (f .short)) own
+      ≡ refusal (f .checks l ++ (roomFor (f .short) (f .entries l) buffer ∷ []))
+  behind-eleven t = rw (a .measured t) (by-code own (a .own-is t))
+    where
+      by-code : (k : ℕ) → k ≡ refusal (f .checks l)
+          → cond (eqb k 0) (cond (leb (length (f .entries l)) (length buffer)) 0 (f .short)) k
+          ≡ refusal (f .checks l ++ (roomFor (f .short) (f .entries l) buffer ∷ []))
+      by-code zero e = sym (room-tells (a .coded) l buffer (sym e))
+      by-code (suc k) e = rw (ne-eqb (suc k) 0 (λ z. omega arith)) (e ∙ sym (own-tells (a .coded) l buffer (λ z. omega arith)))
+
+  -- the code is that of the checks
+  number : code ≡ refusal (fillChecks f l buffer)
+  unfolding isValid refusal
   number = a .told ∙ by-test (valid l) refl
     where
-      by-test : (b : Bool) → valid l ≡ b → refusal (asks short b long (length buffer)) ≡ refusal (asks short b (length (format l)) (length buffer))
-      by-test true e = ap (λ (k : ℕ). refusal (asks short true k (length buffer))) (a .measured (subst T (sym e) tt))
+      by-test : (b : Bool) → valid l ≡ b
+          → refusal (asks (f .short) b own long (length buffer))
+          ≡ cond b (refusal (f .checks l ++ (roomFor (f .short) (f .entries l) buffer ∷ []))) 11
+      by-test true e = behind-eleven (subst T (sym e) tt)
       by-test false e = refl
 
   pub fill-refused : {A : Type 0} (answer : ℕ → ℕ → A) → (code ≡ 0 → ⊥)
-      → (answer code 0 ≡ fillAnswer short format l buffer answer) × (buffer ≡ filled short format l buffer)
+      → (answer code 0 ≡ fillAnswer f l buffer answer) × (buffer ≡ filled f l buffer)
   fill-refused answer d = (
-    sym (when-refused (fillChecks short format l buffer) _ (λ r. answer r 0) number d),
-    sym (when-refused (fillChecks short format l buffer) _ (λ r. buffer) number d),
+    sym (when-refused (fillChecks f l buffer) _ (λ r. answer r 0) number d),
+    sym (when-refused (fillChecks f l buffer) _ (λ r. buffer) number d),
   )
 
   module _ (z : code ≡ 0) where
-    -- both checks pass
-    both-pass : T (valid l) × (length (format l) ≤ length buffer)
-    both-pass = fill-accepted short format l buffer (a .numbered) (sym number ∙ z)
+    -- all checks pass
+    fits : Fits f l buffer
+    fits = fill-accepted (a .coded) l buffer (sym number ∙ z)
 
     pub is-valid : T (valid l)
-    is-valid = both-pass .0
+    is-valid = fits .is-valid
 
     -- there is room for what was measured
     pub room : long ≤ length buffer
-    room = rw (a .measured is-valid) (both-pass .1)
+    room = rw (a .measured is-valid) (fits .room)
 
-    pub fill-done : {A : Type 0} (answer : ℕ → ℕ → A) {after : List ℕ} → after ≡ format l ++ drop (length (format l)) buffer
-        → (answer 0 long ≡ fillAnswer short format l buffer answer) × (after ≡ filled short format l buffer)
+    pub fill-done : {A : Type 0} (answer : ℕ → ℕ → A) {after : List ℕ} → after ≡ f .entries l ++ drop (length (f .entries l)) buffer
+        → (answer 0 long ≡ fillAnswer f l buffer answer) × (after ≡ filled f l buffer)
     fill-done answer e =
         let passed = sym number ∙ z in (
-          ap (answer 0) (a .measured is-valid) ∙ sym (fill-answered short format l buffer passed answer),
-          e ∙ sym (filled-whole short format l buffer passed),
+          ap (answer 0) (a .measured is-valid) ∙ sym (fill-answered f l buffer passed answer),
+          e ∙ sym (filled-whole f l buffer passed),
         )
 
 -- ---- a layout written out
 
-module _ {format : Layout → List ℕ} {l : Layout} {buffer : List ℕ} {long code : ℕ} (a : Asked bufferShort format l buffer long code) where
-  pub refused : (code ≡ 0 → ⊥) → (record { refusal = code; length = 0 } ≡ writeOf format l buffer) × (buffer ≡ writtenBytes format l buffer)
+module _ {f : Format} {l : Layout} {buffer : List ℕ} {own long code : ℕ} (a : Asked f l buffer own long code) where
+  pub refused : (code ≡ 0 → ⊥) → (record { refusal = code; length = 0 } ≡ writeOf f l buffer) × (buffer ≡ writtenBytes f l buffer)
   unfolding writeOf writtenBytes
   refused d = fill-refused a writeAnswer d
 
-  pub written : code ≡ 0 → {after : List ℕ} → after ≡ format l ++ drop (length (format l)) buffer
-      → (record { refusal = 0; length = long } ≡ writeOf format l buffer) × (after ≡ writtenBytes format l buffer)
+  pub written : code ≡ 0 → {after : List ℕ} → after ≡ f .entries l ++ drop (length (f .entries l)) buffer
+      → (record { refusal = 0; length = long } ≡ writeOf f l buffer) × (after ≡ writtenBytes f l buffer)
   unfolding writeOf writtenBytes
   written z e = fill-done a z writeAnswer e

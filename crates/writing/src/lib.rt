@@ -3,13 +3,17 @@ ghost use mathlib.Core.Path.{_≡_};
 ghost use Rattle.model.specs.Checks.{refusal};
 ghost use Rattle.writing.specs.Answers.{asks};
 
-// Is the layout valid, and has a buffer of size entries room for length of them? short is the code of
-// one that has not.
-pub fn write_refusal(valid: bool, length: usize, size: usize, short: u8) -> u8
-    ensures { λ r. ⌜ r ≡ refusal (asks short valid length size) ⌝ }
+// Is the layout valid, do the format's own checks pass, and has a buffer of size entries room for length
+// of them? own is the code of the first of its own checks that fails, or 0, and short that of too little
+// room.
+pub fn write_refusal(valid: bool, own: u8, length: usize, size: usize, short: u8) -> u8
+    ensures { λ r. ⌜ r ≡ refusal (asks short valid own length size) ⌝ }
 {
     if !valid {
         return 11;
+    }
+    if own != 0 {
+        return own;
     }
     if size < length {
         return short;

@@ -1,10 +1,10 @@
 use borrow.Author.Needs.{needs}
-use mathlib.Core.Path.{ap, _∙_}
+use mathlib.Core.Path.{refl, ap, _∙_}
 use mathlib.Core.Bool.{Bool}
 use lib.ListN.{length}
-use lib.Dec.{lit<}
 use Rattle.model.specs.Checks.{refusal}
-use Rattle.model.specs.EdgeCrossings.{edgeCrossings, tableShort}
+use Rattle.model.specs.EdgeCrossings.{tableFormat}
+use Rattle.laws.specs.Buffers.Formats.{table-coded}
 use Rattle.writing.specs.Answers.{asks, Asked}
 use Rattle.edge_crossings.specs.Answers.{counted-is, refused, fits, numbers-put}
 use Rattle.edge_crossings.proofs.edge_crossings.Statement.{statement}
@@ -20,14 +20,16 @@ start c = let lent = c .before in lent .before .before .before
 -- what the call has asked
 asked : (c : tie.After-write-refusal)
     → let number = counted c .edge-count .result in let s = start (counted c) .args in
-    Asked tableShort edgeCrossings (s .l) (s .table .now) number (c .write-refusal .result)
+    Asked tableFormat (s .l) (s .table .now) 0 number (c .write-refusal .result)
+unfolding refusal
 asked c =
     let edges = counted c .edge-count in
     let size = length (start (counted c) .args .table .now) in
     record {
-      numbered = lit< tt;
+      coded = table-coded;
+      own-is = λ t. refl;
       measured = λ t. counted-is _ t (edges .ensures);
-      told = c .write-refusal .ensures ∙ ap (λ (b : Bool). refusal (asks tableShort b (edges .result) size)) (c .before .is-valid .ensures);
+      told = c .write-refusal .ensures ∙ ap (λ (b : Bool). refusal (asks 23 b 0 (edges .result) size)) (c .before .is-valid .ensures);
     }
 
 -- from where the table is lent to where the checks have passed

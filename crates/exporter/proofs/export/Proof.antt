@@ -1,13 +1,12 @@
 use borrow.Author.Needs.{needs}
 use Prim.Native.Nat.{_+_}
 use native.Mathlib.Omega.{arith}
-use mathlib.Core.Path.{_≡_, ap, _∙_}
+use mathlib.Core.Path.{_≡_, refl, ap, _∙_}
 use mathlib.Core.Bool.{Bool}
 use lib.ListN.{length as len}
-use lib.Dec.{lit<}
 use Rattle.model.specs.Checks.{refusal}
-use Rattle.model.specs.Writing.{bufferShort}
-use Rattle.model.specs.Graph6.{graph6Of}
+use Rattle.model.specs.Graph6.{graph6Format}
+use Rattle.laws.specs.Buffers.Formats.{graph6-coded}
 use Rattle.writing.specs.Answers.{asks, Asked, refused}
 use Rattle.exporter.specs.Parts.{counted, counted-is, parts-long, parts-few, fits, graph-written}
 use Rattle.exporter.proofs.export.Statement.{statement}
@@ -38,15 +37,17 @@ parts c = let known = c .before .before in parts-long _ (known .before .size-len
 
 asked : (c : tie.After-write-refusal)
     → let known = c .before .before in let s = start known .args in
-    Asked bufferShort graph6Of (s .l) (s .buffer .now) (known .before .size-length .result + known .data-length .result) (c .write-refusal .result)
+    Asked graph6Format (s .l) (s .buffer .now) 0 (known .before .size-length .result + known .data-length .result) (c .write-refusal .result)
+unfolding refusal
 asked c =
     let known = c .before .before in
     let s = start known .args in
     let long = known .before .size-length .result + known .data-length .result in
     record {
-      numbered = lit< tt;
+      coded = graph6-coded;
+      own-is = λ t. refl;
       measured = λ t. parts c ∙ counted-is (s .l) t;
-      told = c .write-refusal .ensures ∙ ap (λ (b : Bool). refusal (asks bufferShort b long (len (s .buffer .now)))) (c .before .is-valid .ensures);
+      told = c .write-refusal .ensures ∙ ap (λ (b : Bool). refusal (asks 19 b 0 long (len (s .buffer .now)))) (c .before .is-valid .ensures);
     }
 
 returns : tie.Need-returns

@@ -65,8 +65,8 @@ failed-before (d ∷ cs) c n = by-test (d .passes) n (failed-before cs c)
     by-test false m r = refl
 
 -- where no check fails, none of the first ones does
-shared : (cs : List Check) (c : Check) → refusal (cs ++ (c ∷ [])) ≡ 0 → refusal cs ≡ 0
-shared cs c e = elim (ℕ-discrete (refusal cs) 0) [ yes z ↦ z | no n ↦ sym (failed-before cs c n) ∙ e ]
+pub passed-before : (cs : List Check) (c : Check) → refusal (cs ++ (c ∷ [])) ≡ 0 → refusal cs ≡ 0
+passed-before cs c e = elim (ℕ-discrete (refusal cs) 0) [ yes z ↦ z | no n ↦ sym (failed-before cs c n) ∙ e ]
 
 -- ---- what a call answers
 
@@ -182,11 +182,11 @@ module _ (l : Layout) (a b : ℕ) where
   -- an accepted link or unlink has passed the shared checks
   pub link-pair : refusal (linkChecks l a b) ≡ 0 → Pair l a b
   unfolding linkChecks moveChecks
-  link-pair e = pair-passed l a b (shared (moveChecks l a b) (isUnlinked l a b) e)
+  link-pair e = pair-passed l a b (passed-before (moveChecks l a b) (isUnlinked l a b) e)
 
   pub unlink-pair : refusal (unlinkChecks l a b) ≡ 0 → Pair l a b
   unfolding unlinkChecks moveChecks
-  unlink-pair e = pair-passed l a b (shared (moveChecks l a b) (isLinked l a b) e)
+  unlink-pair e = pair-passed l a b (passed-before (moveChecks l a b) (isLinked l a b) e)
 
 -- the named vertices are places of the arrays
 pub within-capacity : {l : Layout} {a b : ℕ} → Pair l a b → (a < 64) × (b < 64)

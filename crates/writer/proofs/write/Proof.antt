@@ -1,12 +1,11 @@
 use borrow.Author.Needs.{needs}
 use Prim.Native.Nat.{_≤_}
-use mathlib.Core.Path.{_≡_, sym, ap, _∙_}
+use mathlib.Core.Path.{_≡_, refl, sym, ap, _∙_}
 use mathlib.Core.Bool.{Bool}
 use lib.ListN.{length as len}
 use lib.Seq.{length-take-le}
-use lib.Dec.{lit<}
 use Rattle.model.specs.Checks.{refusal}
-use Rattle.model.specs.Writing.{bufferShort}
+use Rattle.laws.specs.Buffers.Formats.{chart-coded}
 use Rattle.writing.specs.Answers.{asks, refused}
 use Rattle.writer.specs.Answers.{ChartAsked, counted-is, inside, fits, chart-written}
 use Rattle.writer.proofs.write.Statement.{statement}
@@ -31,15 +30,17 @@ start c = let lent = c .before in lent .before .before .before
 -- what the call has asked
 asked : (c : tie.After-write-refusal)
     → let length = counted c in let s = start length .args in ChartAsked (s .l) (s .buffer .now) (length .chart-length .result) (c .write-refusal .result)
+unfolding refusal
 asked c =
     let length = counted c .chart-length in
     let size = len (start (counted c) .args .buffer .now) in
     record {
       asked =
           record {
-            numbered = lit< tt;
+            coded = chart-coded;
+            own-is = λ t. refl;
             measured = λ t. length .ensures ∙ counted-is _ t;
-            told = c .write-refusal .ensures ∙ ap (λ (b : Bool). refusal (asks bufferShort b (length .result) size)) (c .before .is-valid .ensures);
+            told = c .write-refusal .ensures ∙ ap (λ (b : Bool). refusal (asks 19 b 0 (length .result) size)) (c .before .is-valid .ensures);
           };
       measured = length .ensures;
     }

@@ -2,7 +2,7 @@
 use mathlib.Core.Path.{refl}
 use mir.Syntax.{w8}
 use Rattle.model.specs.Writing.{writeOf, writtenBytes}
-use Rattle.model.specs.Graph6.{graph6Of}
+use Rattle.model.specs.Graph6.{graph6Format}
 use Rattle.model.proofs.LayoutWritten as LayoutWritten
 use Rattle.exporter.proofs.export as g
 use Rattle.in_place.proofs.Answers.{struct}
@@ -13,5 +13,5 @@ pub rl-export-graph6-spec : {M : Type 1} → f.Statement.statement M
 unfolding f.Code.routine
 rl-export-graph6-spec 𝓤 H 𝓜 𝓖 𝓡 =
     calling 𝓤 H 𝓜 𝓖 𝓡 f.Code.env f.Key.name
-    (walks w8 (struct LayoutWritten.the-type LayoutWritten.Laws.the-laws) (writeOf graph6Of) (writtenBytes graph6Of) g.Symbol.name 𝓤 H (𝓖 .A))
+    (walks w8 (struct LayoutWritten.the-type LayoutWritten.Laws.the-laws) (writeOf graph6Format) (writtenBytes graph6Format) g.Symbol.name 𝓤 H (𝓖 .A))
     (f.spec 𝓤 H) refl (f.Code.unfolded 𝓤 H 𝓜 𝓡) (g.spec 𝓤 H) refl f.Code.calls-exporter·export (g.Met.met 𝓤 H 𝓜 𝓖 𝓡)

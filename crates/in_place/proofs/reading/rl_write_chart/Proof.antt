@@ -2,7 +2,7 @@
 use mathlib.Core.Path.{refl}
 use mir.Syntax.{w8}
 use Rattle.model.specs.Writing.{writeOf, writtenBytes}
-use Rattle.model.specs.WrittenCharts.{chartOf}
+use Rattle.model.specs.WrittenCharts.{chartFormat}
 use Rattle.model.proofs.LayoutWritten as LayoutWritten
 use Rattle.writer.proofs.write as g
 use Rattle.in_place.proofs.Answers.{struct}
@@ -13,5 +13,5 @@ pub rl-write-chart-spec : {M : Type 1} → f.Statement.statement M
 unfolding f.Code.routine
 rl-write-chart-spec 𝓤 H 𝓜 𝓖 𝓡 =
     calling 𝓤 H 𝓜 𝓖 𝓡 f.Code.env f.Key.name
-    (walks w8 (struct LayoutWritten.the-type LayoutWritten.Laws.the-laws) (writeOf chartOf) (writtenBytes chartOf) g.Symbol.name 𝓤 H (𝓖 .A))
+    (walks w8 (struct LayoutWritten.the-type LayoutWritten.Laws.the-laws) (writeOf chartFormat) (writtenBytes chartFormat) g.Symbol.name 𝓤 H (𝓖 .A))
     (f.spec 𝓤 H) refl (f.Code.unfolded 𝓤 H 𝓜 𝓡) (g.spec 𝓤 H) refl f.Code.calls-writer·write (g.Met.met 𝓤 H 𝓜 𝓖 𝓡)
