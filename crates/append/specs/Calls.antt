@@ -18,9 +18,9 @@ use Rattle.laws.specs.Layouts.Recount.{carriedTo, carried-changed}
 use Rattle.laws.specs.Layouts.Weights.{unit-within-words}
 use Rattle.laws.specs.Append.Isolated.{isolated-at-back}
 use Rattle.laws.specs.Append.Calls.{lay-permutation, lay-met}
-use Rattle.line.specs.declared.Line.{Line}
+use Rattle.append_line.specs.declared.Line.{Line}
 use Rattle.append.specs.declared.steps.Partial.{Partial}
-use Rattle.line.specs.Lines.{entries, entries-length, restOf, writtenOver, over-start}
+use Rattle.append_line.specs.Lines.{entries, entries-length, restOf, writtenOver, over-start}
 use Rattle.append.specs.Masks.{Words}
 use Rattle.append.specs.Rest.{Extended, rest-put}
 use Rattle.append.specs.Steps.{placingOf, LinkedPlaced}

@@ -20,9 +20,9 @@ use Rattle.laws.specs.Orders.Permutations.{occurrences-nil, occurrences-cons, o
 use Rattle.laws.specs.Sums.Bits.{bit-beyond, bit-complement, maskedOnes, set-same, set-other}
 use Rattle.laws.specs.Crossings.Masks.{Holds, masked-sum, weight-bit}
 use Rattle.laws.specs.Append.Order.{Placed, sumOver-unplaced}
-use Rattle.choice.specs.Choices.{complement}
-use Rattle.line.specs.declared.Line.{Line}
-use Rattle.line.specs.Lines.{entries, Centred}
+use Rattle.append_choice.specs.Choices.{complement}
+use Rattle.append_line.specs.declared.Line.{Line}
+use Rattle.append_line.specs.Lines.{entries, Centred}
 
 -- ---- a set of vertices as a word
 

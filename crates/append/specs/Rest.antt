@@ -12,8 +12,8 @@ use Rattle.model.specs.Crossings.{bit}
 use Rattle.model.specs.GreedyAppend.{unplaced}
 use Rattle.laws.specs.Sums.Ranges.{sum, sum-cut}
 use Rattle.laws.specs.Append.Order.{unplaced-length, unplaced-next, placed-count}
-use Rattle.line.specs.declared.Line.{Line}
-use Rattle.line.specs.Lines.{entries, Centred, entries-length, atBack, back-centred, back-entries, restOf}
+use Rattle.append_line.specs.declared.Line.{Line}
+use Rattle.append_line.specs.Lines.{entries, Centred, entries-length, atBack, back-centred, back-entries, restOf}
 use Rattle.append.specs.Masks.{Partly, placed-test}
 
 -- the unplaced vertices below k, with k if it is one, are at most all

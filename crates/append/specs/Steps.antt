@@ -21,15 +21,15 @@ use Rattle.laws.specs.Crossings.Masks.{weight-bit}
 use Rattle.laws.specs.Append.Order.{Placed, placed-start, placed-front, placed-back, placed-count, unplaced-front}
 use Rattle.laws.specs.Append.Order.{Waiting, next-waiting}
 use Rattle.laws.specs.Append.Calls.{step-waiting}
-use Rattle.line.specs.declared.Line.{Line}
+use Rattle.append_line.specs.declared.Line.{Line}
 use Rattle.append.specs.declared.ends.Ends.{Ends}
 use Rattle.append.specs.declared.steps.Partial.{Partial}
-use Rattle.line.specs.Lines.{entries, Centred, entries-length, aloneAt, alone-centred, alone-entries, atFront, front-centred, front-entries, atBack}
-use Rattle.line.specs.Lines.{back-centred, back-entries}
+use Rattle.append_line.specs.Lines.{entries, Centred, entries-length, aloneAt, alone-centred, alone-entries, atFront, front-centred, front-entries, atBack}
+use Rattle.append_line.specs.Lines.{back-centred, back-entries}
 use Rattle.append.specs.Masks.{Held, held-none, held-front, held-back, Partly, Words, outside-count}
 use Rattle.append.specs.Ends.{openFrom, endsOf, ends-small}
 use Rattle.append.specs.Choices.{next-found, next-none}
-use Rattle.choice.specs.Choices.{complement, bestBelow}
+use Rattle.append_choice.specs.Choices.{complement, bestBelow}
 
 -- ---- what a step is
 

@@ -2,9 +2,9 @@
 ghost use mathlib.Core.Path.{_≡_};
 ghost use Prim.Native.Nat.{_≤_, _<_};
 ghost use Rattle.laws.specs.Sums.Lists.{All};
-ghost use Rattle.line.specs.Lines.{entries, Centred};
+ghost use Rattle.append_line.specs.Lines.{entries, Centred};
 ghost use Rattle.append.specs.Ends.{passedOf, endsOf, Small};
-use line::Line;
+use append_line::Line;
 
 // The crossings of a closing edge with an open one: at the front, where the open one starts before
 // the other, and at the back; and how many closing and open edges were met.

@@ -5,11 +5,11 @@ ghost use Rattle.append.specs.Masks.{Words};
 ghost use Rattle.append.specs.Steps.{Fitting, Few, putOf, placedOf, LinkedPlaced};
 use super::ends::Ends;
 use super::ends::end_crossings;
-use choice::next_vertex;
-use line::Line;
-use line::alone;
-use line::put_back;
-use line::put_front;
+use append_choice::next_vertex;
+use append_line::Line;
+use append_line::alone;
+use append_line::put_back;
+use append_line::put_front;
 
 // The vertices placed so far, as a list and as bits, and the tally.
 pub struct Partial {

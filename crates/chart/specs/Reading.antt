@@ -22,8 +22,8 @@ use Rattle.laws.specs.Sums.Indicators.{both-left, both-right}
 use Rattle.laws.specs.Layouts.Refusals.{Numbered, all-pass}
 use Rattle.laws.specs.Charts.Ends.{within-mono}
 use Rattle.laws.specs.Charts.Words.{adjacencyOf}
-use Rattle.bodies.specs.Words.{wrapped, wrapped-checks, wordsOver, words-once}
-use Rattle.bodies.specs.Order.{orderQuestion, question-eight}
+use Rattle.chart_bodies.specs.Words.{wrapped, wrapped-checks, wordsOver, words-once}
+use Rattle.chart_bodies.specs.Order.{orderQuestion, question-eight}
 use Rattle.laws.specs.Charts.Padded.{padded, padded-copy}
 use Rattle.laws.specs.Charts.Layouts.{Accepted, count-read}
 use Rattle.laws.specs.Charts.Passes.{refusedRead, acceptedRead, countedLayout, answer-accepted, pass-accepted, pass-refused, asked-passed, asked-on, asked-back}

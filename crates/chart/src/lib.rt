@@ -1,13 +1,14 @@
 // Reading charts: the questions of document 01, each asked of the whole input before the next, and the
-// layout (ring) that an accepted chart gives. passes has questions 1 to 4, pairs 5 and 6, bodies 7 and 8.
+// layout (ring) that an accepted chart gives. chart_questions has 1 to 4, chart_ends 5
+// and 6, chart_bodies 7 and 8.
+use chart_questions::body_of;
 use model::Asked;
 use model::LayoutRead;
 use model::SizeFound;
-use passes::body_of;
-use readers::accepted;
-use readers::asked_code;
-use readers::refused;
-use readers::size_code;
+use read_layout::accepted;
+use read_layout::asked_code;
+use read_layout::refused;
+use read_layout::size_code;
 ghost use mathlib.Core.Path.{_≡_};
 ghost use Prim.Native.Nat.{_≤_};
 ghost use mathlib.Core.Bool.{true};
@@ -19,7 +20,7 @@ ghost use Rattle.chart.specs.Reading.{readDivided, readFields, readBodie
 pub fn read(bytes: &[u8]) -> LayoutRead
     ensures { λ r. ⌜ r ≡ readOf (now (bytes .entry)) ⌝ }
 {
-    let divided = passes::ask_fields(bytes);
+    let divided = chart_questions::ask_fields(bytes);
     let Asked::Passed = divided else {
         return refused(asked_code(divided));
     };
@@ -30,7 +31,7 @@ pub fn read(bytes: &[u8]) -> LayoutRead
 fn read_divided(bytes: &[u8]) -> LayoutRead
     ensures { λ r. ⌜ r ≡ readDivided (now (bytes .entry)) ⌝ }
 {
-    let tagged = passes::ask_tags(bytes);
+    let tagged = chart_questions::ask_tags(bytes);
     let Asked::Passed = tagged else {
         return refused(asked_code(tagged));
     };
@@ -41,7 +42,7 @@ fn read_divided(bytes: &[u8]) -> LayoutRead
 fn read_fields(bytes: &[u8]) -> LayoutRead
     ensures { λ r. ⌜ r ≡ readFields (now (bytes .entry)) ⌝ }
 {
-    let found = passes::find_size(body_of(bytes, 0));
+    let found = chart_questions::find_size(body_of(bytes, 0));
     let SizeFound::Found(n) = found else {
         return refused(size_code(found));
     };
@@ -54,7 +55,7 @@ fn read_bodies(n: usize, links: &[u8], body: &[u8]) -> LayoutRead
     requires { ⌜ n ≤ 64 ⌝ }
     ensures { λ r. ⌜ r ≡ readBodies n (now (links .entry)) (now (body .entry)) ⌝ }
 {
-    let within = pairs::ask_ends(n, links);
+    let within = chart_ends::ask_ends(n, links);
     let Asked::Passed = within else {
         return refused(asked_code(within));
     };
@@ -67,7 +68,7 @@ fn read_edges(n: usize, links: &[u8], body: &[u8]) -> LayoutRead
     ensures { λ r. ⌜ r ≡ readEdges n (now (links .entry)) (now (body .entry)) ⌝ }
 {
     let mut adjacency = [0u64; 64];
-    let different = bodies::join_edges(links, &mut adjacency);
+    let different = chart_bodies::join_edges(links, &mut adjacency);
     let Asked::Passed = different else {
         return refused(asked_code(different));
     };
@@ -79,7 +80,7 @@ fn read_order(n: usize, body: &[u8], adjacency: [u64; 64]) -> LayoutRead
     requires { ⌜ n ≤ 64 ⌝ }
     ensures { λ r. ⌜ r ≡ readOrder n adjacency (now (body .entry)) ⌝ }
 {
-    let once = bodies::ask_order(n, body);
+    let once = chart_bodies::ask_order(n, body);
     let Asked::Passed = once else {
         return refused(asked_code(once));
     };

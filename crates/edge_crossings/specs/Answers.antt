@@ -12,7 +12,7 @@ use Rattle.laws.specs.Layouts.Validity.{sound}
 use Rattle.laws.specs.Layouts.Recount.{Drawn, drawn}
 use Rattle.laws.specs.Buffers.Writing.{Written, written-whole}
 use Rattle.laws.specs.Buffers.EdgeTables.{numbers-length}
-use Rattle.writing.specs.Answers.{Asked, fill-refused, is-valid, room, fill-done}
+use Rattle.buffer_checks.specs.Answers.{Asked, fill-refused, is-valid, room, fill-done}
 use Rattle.edge_list.specs.Rows.{listedEdges, listed-few}
 use Rattle.edge_crossings.specs.Numbers.{numbersOf}
 

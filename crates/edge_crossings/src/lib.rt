@@ -7,6 +7,7 @@ ghost use Rattle.model.specs.EdgeCrossings.{edgeCrossingsOf, crossingTable};
 ghost use Rattle.laws.specs.Buffers.Writing.{Written};
 ghost use Rattle.laws.specs.Layouts.Recount.{Drawn};
 ghost use Rattle.edge_crossings.specs.Numbers.{placeAt, numberOf, numbersOf, numbered};
+use buffer_checks::write_refusal;
 use chords::chord_crossings;
 use edge_list::edge_count;
 use edge_list::put_edges;
@@ -14,7 +15,6 @@ use model::EdgesCounted;
 use model::Layout;
 use places::places_of;
 use validity::is_valid;
-use writing::write_refusal;
 
 // Fills the start of the table with a number for each edge, in the sequence of a written chart, and
 // answers how many edges there are. The entries beyond them keep their contents.

@@ -3,10 +3,10 @@
 use model::Asked;
 use model::LayoutRead;
 use model::SizeFound;
-use readers::accepted;
-use readers::asked_code;
-use readers::refused;
-use readers::size_code;
+use read_layout::accepted;
+use read_layout::asked_code;
+use read_layout::refused;
+use read_layout::size_code;
 ghost use mathlib.Core.Path.{_≡_};
 ghost use Prim.Native.Nat.{_≤_};
 ghost use Rattle.model.specs.Lists.{upto};
@@ -18,11 +18,11 @@ ghost use Rattle.graph6.specs.Importing.{importBits};
 pub fn import(bytes: &[u8]) -> LayoutRead
     ensures { λ r. ⌜ r ≡ importOf (now (bytes .entry)) ⌝ }
 {
-    let found = graph_size::find_size(bytes);
+    let found = graph6_size::find_size(bytes);
     let SizeFound::Found(n) = found else {
         return refused(size_code(found));
     };
-    let start = graph_size::size_length(n);
+    let start = graph6_size::size_length(n);
     import_bits(n, &bytes[start..])
 }
 
@@ -31,11 +31,11 @@ fn import_bits(n: usize, bytes: &[u8]) -> LayoutRead
     requires { ⌜ n ≤ 64 ⌝ }
     ensures { λ r. ⌜ r ≡ importBits n (now (bytes .entry)) ⌝ }
 {
-    let right = pair_bits::ask_bits(n, bytes);
+    let right = graph6_pairs::ask_bits(n, bytes);
     let Asked::Passed = right else {
         return refused(asked_code(right));
     };
-    let adjacency = pair_bits::join_pairs(n, bytes);
+    let adjacency = graph6_pairs::join_pairs(n, bytes);
     accepted(n, rising_order(n), adjacency)
 }
 

@@ -21,5 +21,5 @@ pub extern "C" fn rl_export_graph6(l: &Layout, buffer: &mut [u8]) -> LayoutWritt
     ensures { λ r. ⌜ (r ≡ writeOf graph6Format (now (l .entry)) (now (buffer .entry)))
         × (now (buffer .exit) ≡ writtenBytes graph6Format (now (l .entry)) (now (buffer .entry))) ⌝ }
 {
-    exporter::export(*l, buffer)
+    graph6_export::export(*l, buffer)
 }

@@ -32,5 +32,5 @@ pub extern "C" fn rl_play(origin: u8, bytes: &[u8], calls: &[u64], answers: &mut
     ensures claim { λ r. ⌜ Demand3 (startOf (originOf origin) (now (bytes .entry)) .layout)
         (playedCalls (originOf origin) (now (bytes .entry)) (now (calls .entry)) (length (now (answers .entry)))) ⌝ }
 {
-    playing::play_from(origin, bytes, calls, answers)
+    calls_play::play_from(origin, bytes, calls, answers)
 }

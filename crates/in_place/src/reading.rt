@@ -7,12 +7,12 @@ ghost use Rattle.model.specs.Reports.{crossingReportOf};
 ghost use Rattle.model.specs.Writing.{writeOf, writtenBytes};
 ghost use Rattle.model.specs.WrittenCharts.{chartFormat};
 ghost use Rattle.model.specs.EdgeCrossings.{edgeCrossingsOf, crossingTable};
+use crossing_report::crossing_report;
 use model::Counted;
 use model::CrossingReport;
 use model::EdgesCounted;
 use model::Layout;
 use model::LayoutWritten;
-use reports::crossing_report;
 
 // A refused chart leaves the empty layout.
 #[no_mangle]
@@ -28,7 +28,7 @@ pub extern "C" fn rl_read_chart(l: &mut Layout, chart: &[u8]) -> u8
 pub extern "C" fn rl_count(l: &Layout) -> Counted
     ensures { λ r. ⌜ r ≡ countOf (now (l .entry)) ⌝ }
 {
-    reads::count(*l)
+    queries::count(*l)
 }
 
 #[no_mangle]
@@ -51,7 +51,7 @@ pub extern "C" fn rl_order(l: &Layout, buffer: &mut [u8]) -> u8
     ensures { λ r. ⌜ (r ≡ orderRefusal (now (l .entry)) (now (buffer .entry)))
         × (now (buffer .exit) ≡ orderBytes (now (l .entry)) (now (buffer .entry))) ⌝ }
 {
-    reads::order(*l, buffer)
+    queries::order(*l, buffer)
 }
 
 // Writes the layout's chart to the start of the buffer, and answers its length.
@@ -60,7 +60,7 @@ pub extern "C" fn rl_write_chart(l: &Layout, buffer: &mut [u8]) -> LayoutWritten
     ensures { λ r. ⌜ (r ≡ writeOf chartFormat (now (l .entry)) (now (buffer .entry)))
         × (now (buffer .exit) ≡ writtenBytes chartFormat (now (l .entry)) (now (buffer .entry))) ⌝ }
 {
-    writer::write(*l, buffer)
+    chart_writer::write(*l, buffer)
 }
 
 // Fills the start of the table with the crossings of every edge, and answers how many edges there are.

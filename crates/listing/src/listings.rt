@@ -9,10 +9,10 @@ ghost use Rattle.model.specs.Layouts.{valid};
 ghost use Rattle.model.specs.Listing.{listing, listedLength, listedBytes};
 ghost use Rattle.laws.specs.Layouts.Reordering.{CountRight};
 use decimals::put_line;
-use lines::Numbers;
-use lines::put_numbers;
-use lines::put_order_line;
-use lines::put_settled;
+use listing_lines::Numbers;
+use listing_lines::put_numbers;
+use listing_lines::put_order_line;
+use listing_lines::put_settled;
 use model::Layout;
 use sifting::converge;
 

@@ -6,7 +6,7 @@ ghost use lib.ListN.{length};
 use libc::STDIN_FILENO;
 use libc::STDOUT_FILENO;
 use model::Layout;
-use player::Played;
+use play_calls::Played;
 
 fn main() {
     let mut l = layout::empty();
@@ -34,11 +34,11 @@ fn play_next(l: Layout) -> Played {
             ended: true,
         };
     }
-    if player::starts_from_bytes(&record[..got]) {
+    if play_calls::starts_from_bytes(&record[..got]) {
         return play_start(l, &record[..got]);
     }
     let mut line = io::large_buffer();
-    let played = player::play(l, &record[..got], &mut line);
+    let played = play_calls::play(l, &record[..got], &mut line);
     let written = played.written;
     io::write_all(STDOUT_FILENO, &line[..written]);
     played
@@ -46,14 +46,14 @@ fn play_next(l: Layout) -> Played {
 
 fn play_start(l: Layout, record: &[u8]) -> Played {
     let mut bytes = start_buffer();
-    let kept = player::bytes_kept(player::number(record, 8));
+    let kept = play_calls::bytes_kept(play_calls::number(record, 8));
     play_kept(l, record, &mut bytes[..kept])
 }
 
 fn play_kept(l: Layout, record: &[u8], bytes: &mut [u8]) -> Played {
-    let is_whole = read_bytes(player::number(record, 8), bytes);
+    let is_whole = read_bytes(play_calls::number(record, 8), bytes);
     let mut line = io::large_buffer();
-    let played = player::play_start(l, record, bytes, is_whole, &mut line);
+    let played = play_calls::play_start(l, record, bytes, is_whole, &mut line);
     let written = played.written;
     io::write_all(STDOUT_FILENO, &line[..written]);
     played
@@ -66,7 +66,7 @@ fn read_bytes(length: u64, bytes: &mut [u8]) -> bool {
     if got < bytes.len() {
         return false;
     }
-    pass_over(player::bytes_rest(length))
+    pass_over(play_calls::bytes_rest(length))
 }
 
 fn pass_over(count: u64) -> bool {

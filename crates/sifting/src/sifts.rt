@@ -8,8 +8,8 @@ use carrying::carried;
 use counting::crossings_of;
 use model::Layout;
 use model::Sifted;
+use sift_walk::best_order;
 use validity::vertex_refusal;
-use walk::best_order;
 
 pub fn sift(l: Layout, u: usize) -> Sifted
     ensures { λ r. ⌜ r ≡ siftOf l u ⌝ }

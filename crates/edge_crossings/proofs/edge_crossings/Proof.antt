@@ -5,7 +5,7 @@ use lib.ListN.{length}
 use Rattle.model.specs.Checks.{refusal}
 use Rattle.model.specs.EdgeCrossings.{tableFormat}
 use Rattle.laws.specs.Buffers.Formats.{table-coded}
-use Rattle.writing.specs.Answers.{asks, Asked}
+use Rattle.buffer_checks.specs.Answers.{asks, Asked}
 use Rattle.edge_crossings.specs.Answers.{counted-is, refused, fits, numbers-put}
 use Rattle.edge_crossings.proofs.edge_crossings.Statement.{statement}
 use Rattle.edge_crossings.proofs.edge_crossings.Tie as tie

@@ -5,7 +5,7 @@ use lib.ListN.{length, getD}
 use Rattle.model.specs.Crossings.{bit}
 use Rattle.laws.specs.Sums.Lists.{all-at}
 use Rattle.laws.specs.Sums.Bits.{maskedOnes-le}
-use Rattle.line.specs.Lines.{entries, entries-length, entry-at}
+use Rattle.append_line.specs.Lines.{entries, entries-length, entry-at}
 use Rattle.append.specs.Ends.{openFrom, EndsUpTo, ends-start, so-far-small, ends-next, ends-end}
 use Rattle.append.proofs.ends.end_crossings.Statement.{statement}
 use Rattle.append.proofs.ends.end_crossings.Tie as tie

@@ -2,7 +2,7 @@ use borrow.Author.Needs.{needs}
 use mathlib.Core.Path.{_≡_}
 use Rattle.model.specs.Edits.{withBit}
 use Rattle.laws.specs.Sums.Bits.{set-within}
-use Rattle.choice.specs.Choices.{complement}
+use Rattle.append_choice.specs.Choices.{complement}
 use Rattle.append.specs.Steps.{ends-few, placedOf}
 use Rattle.append.proofs.steps.place.Statement.{statement}
 use Rattle.append.proofs.steps.place.Tie as tie

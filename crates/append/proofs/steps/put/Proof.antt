@@ -3,7 +3,7 @@ use native.Mathlib.Omega.{arith}
 use mathlib.Core.Path.{ap}
 use borrow.Author.Tests.{lt-ltb, le-ltb}
 use Prim.Native.Nat.{_+_}
-use Rattle.line.specs.declared.Line.{Line}
+use Rattle.append_line.specs.declared.Line.{Line}
 use Rattle.append.specs.Steps.{putOf}
 use Rattle.append.proofs.steps.put.Statement.{statement}
 use Rattle.append.proofs.steps.put.Tie as tie

@@ -4,7 +4,7 @@ use mir.Syntax.{w8}
 use Rattle.model.specs.Writing.{writeOf, writtenBytes}
 use Rattle.model.specs.Graph6.{graph6Format}
 use Rattle.model.proofs.LayoutWritten as LayoutWritten
-use Rattle.exporter.proofs.export as g
+use Rattle.graph6_export.proofs.export as g
 use Rattle.in_place.proofs.Answers.{struct}
 use Rattle.in_place.proofs.LookedSlice.{calling, walks}
 use Rattle.in_place.proofs.graphs.rl_export_graph6 as f

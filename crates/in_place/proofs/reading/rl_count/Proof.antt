@@ -3,7 +3,7 @@ use mathlib.Core.Path.{refl}
 use mathlib.Core.List.{[]}
 use Rattle.model.specs.Reading.{countOf}
 use Rattle.model.proofs.Counted as Counted
-use Rattle.reads.proofs.count as g
+use Rattle.queries.proofs.count as g
 use Rattle.in_place.proofs.Answers.{struct}
 use Rattle.in_place.proofs.Looked.{numbers, calling, walks}
 use Rattle.in_place.proofs.reading.rl_count as f

@@ -3,7 +3,7 @@ use mathlib.Core.Path.{refl}
 use mathlib.Core.List.{[]}
 use Rattle.model.specs.Reports.{crossingReportOf}
 use Rattle.model.proofs.CrossingReport as CrossingReport
-use Rattle.reports.proofs.crossing_report as g
+use Rattle.crossing_report.proofs.crossing_report as g
 use Rattle.in_place.proofs.Answers.{struct}
 use Rattle.in_place.proofs.Looked.{numbers, calling, walks}
 use Rattle.in_place.proofs.reading.rl_first_crossing as f

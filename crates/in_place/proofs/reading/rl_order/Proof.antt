@@ -2,7 +2,7 @@
 use mathlib.Core.Path.{refl}
 use mir.Syntax.{w8}
 use Rattle.model.specs.Reading.{orderRefusal, orderBytes}
-use Rattle.reads.proofs.order as g
+use Rattle.queries.proofs.order as g
 use Rattle.in_place.proofs.Answers.{code}
 use Rattle.in_place.proofs.LookedSlice.{calling, walks}
 use Rattle.in_place.proofs.reading.rl_order as f

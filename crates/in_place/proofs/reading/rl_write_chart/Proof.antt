@@ -4,7 +4,7 @@ use mir.Syntax.{w8}
 use Rattle.model.specs.Writing.{writeOf, writtenBytes}
 use Rattle.model.specs.WrittenCharts.{chartFormat}
 use Rattle.model.proofs.LayoutWritten as LayoutWritten
-use Rattle.writer.proofs.write as g
+use Rattle.chart_writer.proofs.write as g
 use Rattle.in_place.proofs.Answers.{struct}
 use Rattle.in_place.proofs.LookedSlice.{calling, walks}
 use Rattle.in_place.proofs.reading.rl_write_chart as f

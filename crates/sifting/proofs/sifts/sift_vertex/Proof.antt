@@ -6,7 +6,7 @@ use Rattle.model.specs.Layouts.{vertexOrder, weight, crossingsOf, modulus}
 use Rattle.model.specs.Sifting.{sifted, reduction}
 use Rattle.laws.specs.Layouts.Recount.{drawn}
 use Rattle.laws.specs.Sifting.Candidates.{sifted-optima}
-use Rattle.walk.specs.Finding.{Found}
+use Rattle.sift_walk.specs.Finding.{Found}
 use Rattle.sifting.specs.Loops.{sifted-carried, sifted-saves, sift-answered}
 use Rattle.sifting.proofs.sifts.sift_vertex.Statement.{statement}
 use Rattle.sifting.proofs.sifts.sift_vertex.Tie as tie

@@ -1,0 +1,58 @@
+use borrow.Author.Needs.{needs}
+use native.Mathlib.Omega.{arith}
+use Rattle.chart_writer.specs.Fields.{links-room, order-room, chart-put}
+use Rattle.chart_writer.proofs.put_chart.Statement.{statement}
+use Rattle.chart_writer.proofs.put_chart.Tie as tie
+
+cast-t8 : tie.Need-cast-t8
+cast-t8 c = search needs
+
+slice-aggregate-put-field : tie.Need-slice-aggregate-put-field
+slice-aggregate-put-field c = search needs
+
+put-field-requires : tie.Need-put-field-requires
+put-field-requires c κs = search needs
+
+-- from the links to the first field, and from there to the start
+abbrev first : tie.After-put-links-arg → tie.After-put-field
+first c = c .before .before .before
+
+abbrev start : tie.After-put-field → tie.Start
+start c = let size = c .before in size .before .before .before .before
+
+put-links-requires : tie.Need-put-links-requires
+put-links-requires c κs =
+    let given = start (first c) .pre in
+    (given .few, links-room given (first c .put-field .ensures))
+
+-- from the order to the links
+abbrev links : tie.After-put-field-arg2 → tie.After-put-links
+links c = c .before .before .before
+
+put-field-requires-2 : tie.Need-put-field-requires-2
+put-field-requires-2 c κs =
+    let size = first (links c .before) in
+    let given = start size .pre in
+    (omega (arith, given .few), order-room given (size .put-field .ensures) (links c .put-links .ensures))
+
+same-length : tie.Need-same-length
+same-length c = search needs
+
+returns : tie.Need-returns
+returns c =
+    let order = c .before .before in
+    let middle = links (order .before) in
+    let size = first (middle .before) in
+    chart-put (start size .pre) (size .put-field .ensures) (middle .put-links .ensures) _ (order .put-field2 .ensures)
+
+pub put-chart-spec : {M : Type 1} → statement M
+put-chart-spec =
+    tie.close
+    (tie.spec
+    cast-t8
+    slice-aggregate-put-field
+    put-field-requires
+    put-links-requires
+    put-field-requires-2
+    same-length
+    returns)

@@ -1,0 +1,95 @@
+use borrow.Author.Needs.{needs}
+use Prim.Native.Nat.{_≤_}
+use mathlib.Core.Path.{_≡_, refl, sym, ap, _∙_}
+use mathlib.Core.Bool.{Bool}
+use lib.ListN.{length as len}
+use lib.Seq.{length-take-le}
+use Rattle.model.specs.Checks.{refusal}
+use Rattle.laws.specs.Buffers.Formats.{chart-coded}
+use Rattle.buffer_checks.specs.Answers.{asks, refused}
+use Rattle.chart_writer.specs.Answers.{ChartAsked, counted-is, inside, fits, chart-written}
+use Rattle.chart_writer.proofs.write.Statement.{statement}
+use Rattle.chart_writer.proofs.write.Tie as tie
+
+chart-length-requires : tie.Need-chart-length-requires
+chart-length-requires c κs = search needs
+
+is-valid-requires : tie.Need-is-valid-requires
+is-valid-requires c κs = search needs
+
+write-refusal-requires : tie.Need-write-refusal-requires
+write-refusal-requires c κs = search needs
+
+-- from the checks to where the length is counted, and from there to the start
+abbrev counted : tie.After-write-refusal → tie.After-chart-length
+counted c = c .before .before
+
+abbrev start : tie.After-chart-length → tie.Start
+start c = let lent = c .before in lent .before .before .before
+
+-- what the call has asked
+asked : (c : tie.After-write-refusal)
+    → let length = counted c in let s = start length .args in ChartAsked (s .l) (s .buffer .now) (length .chart-length .result) (c .write-refusal .result)
+unfolding refusal
+asked c =
+    let length = counted c .chart-length in
+    let size = len (start (counted c) .args .buffer .now) in
+    record {
+      asked =
+          record {
+            coded = chart-coded;
+            own-is = λ t. refl;
+            measured = λ t. length .ensures ∙ counted-is _ t;
+            told = c .write-refusal .ensures ∙ ap (λ (b : Bool). refusal (asks 19 b 0 (length .result) size)) (c .before .is-valid .ensures);
+          };
+      measured = length .ensures;
+    }
+
+returns : tie.Need-returns
+returns c = refused (asked (c .before) .asked) (c .if1 .taken)
+
+-- the order has 64 places
+places : (c : tie.Start) → len (c .args .l .order) ≡ 64
+places c = search needs
+
+-- from where the order is lent to where the checks have passed
+abbrev passed : tie.After-adjacency3 → tie.Else1
+passed c = c .before .before .before
+
+-- the vertices have places in the order
+there : (c : tie.Else1) → let s = start (counted (c .before)) .args in s .l .n ≤ len (s .l .order)
+there c = inside (asked (c .before)) (c .if1 .left) (places (start (counted (c .before))))
+
+array-share-prefix-order : tie.Need-array-share-prefix-order
+array-share-prefix-order c = there (passed c)
+
+slice-aggregate-put-chart : tie.Need-slice-aggregate-put-chart
+slice-aggregate-put-chart c = sym (length-take-le _ _ (there (passed (c .before))))
+
+put-chart-requires : tie.Need-put-chart-requires
+put-chart-requires c κs =
+    let at = passed (c .before) in
+    fits (asked (at .before)) (at .if1 .left) (places (start (counted (at .before))))
+
+same-length : tie.Need-same-length
+same-length c = search needs
+
+returns-2 : tie.Need-returns-2
+returns-2 c =
+    let put = c .before .before in
+    let at = passed (put .before .before) in
+    chart-written (asked (at .before)) (at .if1 .left) (places (start (counted (at .before)))) (put .put-chart .ensures)
+
+pub write-spec : {M : Type 1} → statement M
+write-spec =
+    tie.close
+    (tie.spec
+    chart-length-requires
+    is-valid-requires
+    write-refusal-requires
+    returns
+    array-share-prefix-order
+    slice-aggregate-put-chart
+    put-chart-requires
+    same-length
+    returns-2)

@@ -1,0 +1,53 @@
+use borrow.Author.Needs.{needs}
+use Prim.Native.Nat.{_-_}
+use native.Mathlib.Omega.{arith}
+use Rattle.model.specs.Graph6.{pairBits}
+use Rattle.laws.specs.Sums.Loops.{MadeUpTo, made-start, made-next, made-end}
+use Rattle.laws.specs.Graph6.Packing.{packedIn}
+use Rattle.graph6_packing.specs.Bits.{none-packed}
+use Rattle.graph6_packing.proofs.pack_pairs.Statement.{statement}
+use Rattle.graph6_packing.proofs.pack_pairs.Tie as tie
+
+abbrev Inv-loop : tie.InvT-loop
+Inv-loop n adjacency few bytes₀ b₀ bytes b = MadeUpTo (λ k. packedIn 336 (pairBits k adjacency)) few bytes b
+
+abbrev μ-loop : tie.MeasureT-loop
+μ-loop n adjacency few bytes₀ b₀ bytes b = few - b
+
+at-most-64-requires : tie.Need-at-most-64-requires Inv-loop μ-loop
+at-most-64-requires c κs = search needs
+
+loop-holds : tie.Need-loop-holds Inv-loop μ-loop
+loop-holds c = made-start _ (none-packed _)
+
+pack-lower-requires : tie.Need-pack-lower-requires Inv-loop μ-loop
+pack-lower-requires c κs =
+    let at = c .before in
+    let few = at .before .before .at-most-64 .ensures in
+    (omega arith, at .before .loop .inv .made)
+
+add-b : tie.Need-add-b Inv-loop μ-loop
+add-b c = omega arith
+
+loop-less : tie.Need-loop-less Inv-loop μ-loop
+loop-less c = omega arith
+
+loop-again : tie.Need-loop-again Inv-loop μ-loop
+loop-again c = let at = c .before .before in made-next (at .before .loop .inv) (at .loop-test .taken) (c .pack-lower .ensures)
+
+returns : tie.Need-returns Inv-loop μ-loop
+returns c = made-end (c .before .loop .inv) (c .loop-test .left) (c .before .before .at-most-64 .ensures)
+
+pub pack-pairs-spec : {M : Type 1} → statement M
+pack-pairs-spec =
+    tie.close
+    (tie.spec
+    Inv-loop
+    μ-loop
+    at-most-64-requires
+    loop-holds
+    pack-lower-requires
+    add-b
+    loop-less
+    loop-again
+    returns)

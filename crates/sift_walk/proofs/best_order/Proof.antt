@@ -1,0 +1,65 @@
+use borrow.Author.Needs.{needs}
+use Prim.Native.Nat.{_≤_}
+use native.Mathlib.Omega.{arith}
+use mathlib.Core.Path.{_≡_, sym}
+use lib.ListN.{length, take}
+use lib.Seq.{length-take-le}
+use Rattle.sift_walk.specs.Words.{place-most, seated}
+use Rattle.sift_walk.specs.Finding.{walk-found}
+use Rattle.sift_walk.proofs.best_order.Statement.{statement}
+use Rattle.sift_walk.proofs.best_order.Tie as tie
+
+size : (c : tie.Start) → length (c .args .t2) ≡ 64
+size c = search needs
+
+-- the first n places are in the array
+inside : (c : tie.Else1) → c .before .args .n ≤ length (c .before .args .t2)
+inside c = omega (arith, size (c .before), c .if1 .left)
+
+abbrev few : tie.After-place-of → tie.Else1
+few c = c .before .before
+
+-- more vertices than places are no layout
+returns : tie.Need-returns
+returns c walker e = absurd (omega (arith, walker .drawn .small, c .if1 .taken))
+
+array-share-prefix-order : tie.Need-array-share-prefix-order
+array-share-prefix-order c = inside c
+
+slice-aggregate-place-of : tie.Need-slice-aggregate-place-of
+slice-aggregate-place-of c = sym (length-take-le _ _ (inside (c .before)))
+
+place-of-requires : tie.Need-place-of-requires
+place-of-requires c κs = tt
+
+-- u stands in one of them, or behind the last
+low : (c : tie.After-place-of) → c .place-of .result ≤ few c .before .args .n
+low c =
+    let s = few c .before .args in
+    omega (arith, c .place-of .ensures, place-most (take (s .n) (s .t2)) (s .u), length-take-le (s .n) (s .t2) (inside (few c)))
+
+pass-all-requires : tie.Need-pass-all-requires
+pass-all-requires c κs = (few (c .before) .if1 .left, low (c .before))
+
+chosen-requires : tie.Need-chosen-requires
+chosen-requires c κs =
+    let found = c .before .before in
+    (omega (arith, low found, few found .if1 .left), c .pass-all .ensures .0)
+
+returns-2 : tie.Need-returns-2
+returns-2 c walker e =
+    let walked = c .before in
+    let seat = seated walker (walked .before .before .place-of .ensures) in
+    walk-found seat e (walked .pass-all .ensures .1 seat e) (c .chosen .ensures)
+
+pub best-order-spec : {M : Type 1} → statement M
+best-order-spec =
+    tie.close
+    (tie.spec
+    returns
+    array-share-prefix-order
+    slice-aggregate-place-of
+    place-of-requires
+    pass-all-requires
+    chosen-requires
+    returns-2)
