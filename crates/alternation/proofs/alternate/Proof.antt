@@ -12,12 +12,6 @@ differ-xor true false = refl
 differ-xor false true = refl
 differ-xor false false = refl
 
-between-requires : tie.Need-between-requires
-between-requires c κs = search needs
-
-between-requires-2 : tie.Need-between-requires-2
-between-requires-2 c κs = search needs
-
 returns : tie.Need-returns
 unfolding alternate xor
 returns c =
@@ -26,4 +20,4 @@ returns c =
     ∙ differ-xor (between (v .p) (v .q) (v .r)) (between (v .p) (v .q) (v .s))
 
 pub alternate-spec : {M : Type 1} → statement M
-alternate-spec = tie.close (tie.spec between-requires between-requires-2 returns)
+alternate-spec = tie.close (tie.spec (λ c κs. search needs) (λ c κs. search needs) returns)

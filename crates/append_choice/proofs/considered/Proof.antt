@@ -11,23 +11,11 @@ returns : tie.Need-returns
 unfolding consideredOf
 returns c = rw (eq-eqb (c .before .args .word) 0 (omega (arith, c .if1 .taken)))
 
-is-set-requires : tie.Need-is-set-requires
-is-set-requires c κs = search needs
-
 returns-2 : tie.Need-returns-2
 unfolding consideredOf
 returns-2 c =
     let linked = c .before .before in
     rw (ne-eqb (linked .before .args .word) 0 (linked .if1 .left), sym (c .before .is-set .ensures) ∙ c .if2 .taken)
-
-count-requires : tie.Need-count-requires
-count-requires c κs = search needs
-
-count-requires-2 : tie.Need-count-requires-2
-count-requires-2 c κs = search needs
-
-preferred-requires : tie.Need-preferred-requires
-preferred-requires c κs = search needs
 
 returns-3 : tie.Need-returns-3
 unfolding consideredOf candidate complement
@@ -44,4 +32,11 @@ returns-3 c =
 pub considered-spec : {M : Type 1} → statement M
 considered-spec =
     tie.close
-    (tie.spec returns is-set-requires returns-2 count-requires count-requires-2 preferred-requires returns-3)
+    (tie.spec
+    returns
+    (λ c κs. search needs)
+    returns-2
+    (λ c κs. search needs)
+    (λ c κs. search needs)
+    (λ c κs. search needs)
+    returns-3)

@@ -19,21 +19,6 @@ returns c = rw (lt-leb _ 64 (c .if1 .taken))
 loop-holds : tie.Need-loop-holds Inv-loop μ-loop
 loop-holds c = best-start
 
-mul-considered : tie.Need-mul-considered Inv-loop μ-loop
-mul-considered c = omega arith
-
-element-copy-out-considered : tie.Need-element-copy-out-considered Inv-loop μ-loop
-element-copy-out-considered c = omega arith
-
-considered-requires : tie.Need-considered-requires Inv-loop μ-loop
-considered-requires c κs = tt
-
-add-v : tie.Need-add-v Inv-loop μ-loop
-add-v c = omega arith
-
-loop-less : tie.Need-loop-less Inv-loop μ-loop
-loop-less c = omega arith
-
 loop-again : tie.Need-loop-again Inv-loop μ-loop
 loop-again c =
     let turn = c .before .before in
@@ -51,10 +36,10 @@ next-vertex-spec =
     μ-loop
     returns
     loop-holds
-    mul-considered
-    element-copy-out-considered
-    considered-requires
-    add-v
-    loop-less
+    (λ c. omega arith)
+    (λ c. omega arith)
+    (λ c κs. tt)
+    (λ c. omega arith)
+    (λ c. omega arith)
     loop-again
     returns-2)

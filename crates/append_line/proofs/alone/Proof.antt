@@ -4,15 +4,9 @@ use Rattle.append_line.specs.Lines.{aloneAt}
 use Rattle.append_line.proofs.alone.Statement.{statement}
 use Rattle.append_line.proofs.alone.Tie as tie
 
-cast-places : tie.Need-cast-places
-cast-places c = search needs
-
-array-write-places : tie.Need-array-write-places
-array-write-places c = search needs
-
 returns : tie.Need-returns
 unfolding aloneAt
 returns c = refl
 
 pub alone-spec : {M : Type 1} → statement M
-alone-spec = tie.close (tie.spec cast-places array-write-places returns)
+alone-spec = tie.close (tie.spec (λ c. search needs) (λ c. search needs) returns)

@@ -13,15 +13,6 @@ abbrev μ-loop : tie.MeasureT-loop
 loop-holds : tie.Need-loop-holds Inv-loop μ-loop
 loop-holds c = rest-start
 
-put-unplaced-requires : tie.Need-put-unplaced-requires Inv-loop μ-loop
-put-unplaced-requires c κs = tt
-
-add-v : tie.Need-add-v Inv-loop μ-loop
-add-v c = omega arith
-
-loop-less : tie.Need-loop-less Inv-loop μ-loop
-loop-less c = omega arith
-
 loop-again : tie.Need-loop-again Inv-loop μ-loop
 loop-again c = rest-next (c .before .before .loop .inv) (c .before .loop-test .taken) (c .put-unplaced .ensures)
 
@@ -31,4 +22,4 @@ returns c = rest-end (c .before .loop .inv) (c .loop-test .left)
 pub put-rest-spec : {M : Type 1} → statement M
 put-rest-spec =
     tie.close
-    (tie.spec Inv-loop μ-loop loop-holds put-unplaced-requires add-v loop-less loop-again returns)
+    (tie.spec Inv-loop μ-loop loop-holds (λ c κs. tt) (λ c. omega arith) (λ c. omega arith) loop-again returns)

@@ -13,23 +13,8 @@ room c = search needs
 abbrev start : tie.After-places2 → tie.Start
 start c = c .before .before .before .before
 
-add-end : tie.Need-add-end
-add-end c = search needs
-
-sub-copy : tie.Need-sub-copy
-sub-copy c = search needs
-
-part-copy-start : tie.Need-part-copy-start
-part-copy-start c = search needs
-
 part-copy-end : tie.Need-part-copy-end
 part-copy-end c = omega (arith, room (start c))
-
-slice-aggregate-copy : tie.Need-slice-aggregate-copy
-slice-aggregate-copy c = search needs
-
-copy-requires : tie.Need-copy-requires
-copy-requires c κs = search needs
 
 returns : tie.Need-returns
 returns c =
@@ -41,10 +26,10 @@ pub written-spec : {M : Type 1} → statement M
 written-spec =
     tie.close
     (tie.spec
-    add-end
-    sub-copy
-    part-copy-start
+    (λ c. search needs)
+    (λ c. search needs)
+    (λ c. search needs)
     part-copy-end
-    slice-aggregate-copy
-    copy-requires
+    (λ c. search needs)
+    (λ c κs. search needs)
     returns)

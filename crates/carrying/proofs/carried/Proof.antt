@@ -4,12 +4,6 @@ use Rattle.laws.specs.Layouts.Recount.{carried-wrapping}
 use Rattle.carrying.proofs.carried.Statement.{statement}
 use Rattle.carrying.proofs.carried.Tie as tie
 
-wrapping-add-u32-requires : tie.Need-wrapping-add-u32-requires
-wrapping-add-u32-requires c κs = search needs
-
-wrapping-sub-u32-requires : tie.Need-wrapping-sub-u32-requires
-wrapping-sub-u32-requires c κs = search needs
-
 returns : tie.Need-returns
 returns c =
     let s = c .before .before .args in
@@ -17,4 +11,4 @@ returns c =
     (c .before .wrapping-add-u32 .ensures) (c .wrapping-sub-u32 .ensures)
 
 pub carried-spec : {M : Type 1} → statement M
-carried-spec = tie.close (tie.spec wrapping-add-u32-requires wrapping-sub-u32-requires returns)
+carried-spec = tie.close (tie.spec (λ c κs. search needs) (λ c κs. search needs) returns)

@@ -6,12 +6,6 @@ use Rattle.laws.specs.Layouts.Recount.{carriedTo}
 use Rattle.carrying.proofs.carried_to.Statement.{statement}
 use Rattle.carrying.proofs.carried_to.Tie as tie
 
-crossings-of-requires : tie.Need-crossings-of-requires
-crossings-of-requires c κs = search needs
-
-carried-requires : tie.Need-carried-requires
-carried-requires c κs = search needs
-
 returns : tie.Need-returns
 unfolding carriedTo
 returns c =
@@ -21,4 +15,4 @@ returns c =
     (c .carried .ensures ∙ ap (λ (x : ℕ). carried (s .l .count) x (s .after)) (counted .crossings-of .ensures))
 
 pub carried-to-spec : {M : Type 1} → statement M
-carried-to-spec = tie.close (tie.spec crossings-of-requires carried-requires returns)
+carried-to-spec = tie.close (tie.spec (λ c κs. search needs) (λ c κs. search needs) returns)

@@ -5,21 +5,6 @@ use Rattle.chart.specs.Reading.{ends-below, read-within, read-outside}
 use Rattle.chart.proofs.read_bodies.Statement.{statement}
 use Rattle.chart.proofs.read_bodies.Tie as tie
 
-ask-ends-requires : tie.Need-ask-ends-requires
-ask-ends-requires c κs = search needs
-
-enum-told : tie.Need-enum-told
-enum-told c = search needs
-
-enum-told-2 : tie.Need-enum-told-2
-enum-told-2 c = search needs
-
-asked-code-requires : tie.Need-asked-code-requires
-asked-code-requires c κs = search needs
-
-refused-requires : tie.Need-refused-requires
-refused-requires c κs = search needs
-
 returns : tie.Need-returns
 returns c =
     let told = c .before .before in
@@ -36,11 +21,11 @@ pub read-bodies-spec : {M : Type 1} → statement M
 read-bodies-spec =
     tie.close
     (tie.spec
-    ask-ends-requires
-    enum-told
-    enum-told-2
-    asked-code-requires
-    refused-requires
+    (λ c κs. search needs)
+    (λ c. search needs)
+    (λ c. search needs)
+    (λ c κs. search needs)
+    (λ c κs. search needs)
     returns
     read-edges-requires
     returns-2)

@@ -5,29 +5,11 @@ use Rattle.chart.specs.Reading.{read-tagged, read-untagged}
 use Rattle.chart.proofs.read_divided.Statement.{statement}
 use Rattle.chart.proofs.read_divided.Tie as tie
 
-ask-tags-requires : tie.Need-ask-tags-requires
-ask-tags-requires c κs = search needs
-
-enum-told : tie.Need-enum-told
-enum-told c = search needs
-
-enum-told-2 : tie.Need-enum-told-2
-enum-told-2 c = search needs
-
-asked-code-requires : tie.Need-asked-code-requires
-asked-code-requires c κs = search needs
-
-refused-requires : tie.Need-refused-requires
-refused-requires c κs = search needs
-
 returns : tie.Need-returns
 returns c =
     let told = c .before .before in
     let e = told .enum-told2 .given .1 in
     c .refused .ensures ∙ asked-number e (c .before .asked-code .ensures) ∙ read-untagged _ e (told .before .before .ask-tags .ensures)
-
-read-fields-requires : tie.Need-read-fields-requires
-read-fields-requires c κs = search needs
 
 returns-2 : tie.Need-returns-2
 returns-2 c = c .read-fields .ensures ∙ read-tagged _ (c .before .enum-told .given .1) (c .before .before .before .ask-tags .ensures)
@@ -36,11 +18,11 @@ pub read-divided-spec : {M : Type 1} → statement M
 read-divided-spec =
     tie.close
     (tie.spec
-    ask-tags-requires
-    enum-told
-    enum-told-2
-    asked-code-requires
-    refused-requires
+    (λ c κs. search needs)
+    (λ c. search needs)
+    (λ c. search needs)
+    (λ c κs. search needs)
+    (λ c κs. search needs)
     returns
-    read-fields-requires
+    (λ c κs. search needs)
     returns-2)

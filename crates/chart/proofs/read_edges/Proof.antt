@@ -8,21 +8,6 @@ use Rattle.chart.proofs.read_edges.Tie as tie
 abbrev start : tie.After-join-edges → tie.Start
 start c = c .before .before .before .before
 
-join-edges-requires : tie.Need-join-edges-requires
-join-edges-requires c κs = search needs
-
-enum-told : tie.Need-enum-told
-enum-told c = search needs
-
-enum-told-2 : tie.Need-enum-told-2
-enum-told-2 c = search needs
-
-asked-code-requires : tie.Need-asked-code-requires
-asked-code-requires c κs = search needs
-
-refused-requires : tie.Need-refused-requires
-refused-requires c κs = search needs
-
 returns : tie.Need-returns
 returns c =
     let told = c .before .before in
@@ -30,9 +15,6 @@ returns c =
     let pre = start joined .pre in
     let e = told .enum-told2 .given .1 in
     c .refused .ensures ∙ asked-number e (c .before .asked-code .ensures) ∙ read-repeated _ _ _ (pre .0) (pre .1) e (joined .join-edges .ensures .0)
-
-read-order-requires : tie.Need-read-order-requires
-read-order-requires c κs = search needs
 
 returns-2 : tie.Need-returns-2
 returns-2 c =
@@ -46,11 +28,11 @@ pub read-edges-spec : {M : Type 1} → statement M
 read-edges-spec =
     tie.close
     (tie.spec
-    join-edges-requires
-    enum-told
-    enum-told-2
-    asked-code-requires
-    refused-requires
+    (λ c κs. search needs)
+    (λ c. search needs)
+    (λ c. search needs)
+    (λ c κs. search needs)
+    (λ c κs. search needs)
     returns
-    read-order-requires
+    (λ c κs. search needs)
     returns-2)

@@ -16,35 +16,11 @@ size-said c = c .find-size .ensures ∙ ap sizeAnswer (c .before .body-of .ensur
 read-size : (c : tie.After-known-told) → SizeRead (start (c .before .before .before) .args .bytes .now) (c .before .found .given .0 .0)
 read-size c = size-read (c .before .found .given .1) (size-said (c .before .before .before))
 
-body-of-requires : tie.Need-body-of-requires
-body-of-requires c κs = search needs
-
-find-size-requires : tie.Need-find-size-requires
-find-size-requires c κs = search needs
-
-enum-known-found : tie.Need-enum-known-found
-enum-known-found c = search needs
-
-enum-told : tie.Need-enum-told
-enum-told c = search needs
-
-size-code-requires : tie.Need-size-code-requires
-size-code-requires c κs = search needs
-
-refused-requires : tie.Need-refused-requires
-refused-requires c κs = search needs
-
 returns : tie.Need-returns
 returns c =
     let told = c .before .before in
     let e = told .enum-told .given .1 in
     c .refused .ensures ∙ size-number e (c .before .size-code .ensures) ∙ read-missized _ e (size-said (told .before .before))
-
-body-of-requires-2 : tie.Need-body-of-requires-2
-body-of-requires-2 c κs = search needs
-
-body-of-requires-3 : tie.Need-body-of-requires-3
-body-of-requires-3 c κs = search needs
 
 read-bodies-requires : tie.Need-read-bodies-requires
 read-bodies-requires c κs = read-size (c .before .before) .small
@@ -59,14 +35,14 @@ pub read-fields-spec : {M : Type 1} → statement M
 read-fields-spec =
     tie.close
     (tie.spec
-    body-of-requires
-    find-size-requires
-    enum-known-found
-    enum-told
-    size-code-requires
-    refused-requires
+    (λ c κs. search needs)
+    (λ c κs. search needs)
+    (λ c. search needs)
+    (λ c. search needs)
+    (λ c κs. search needs)
+    (λ c κs. search needs)
     returns
-    body-of-requires-2
-    body-of-requires-3
+    (λ c κs. search needs)
+    (λ c κs. search needs)
     read-bodies-requires
     returns-2)

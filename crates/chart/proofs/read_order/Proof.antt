@@ -8,21 +8,6 @@ use Rattle.chart.proofs.read_order.Tie as tie
 abbrev start : tie.After-ask-order → tie.Start
 start c = c .before .before
 
-ask-order-requires : tie.Need-ask-order-requires
-ask-order-requires c κs = search needs
-
-enum-told : tie.Need-enum-told
-enum-told c = search needs
-
-enum-told-2 : tie.Need-enum-told-2
-enum-told-2 c = search needs
-
-asked-code-requires : tie.Need-asked-code-requires
-asked-code-requires c κs = search needs
-
-refused-requires : tie.Need-refused-requires
-refused-requires c κs = search needs
-
 returns : tie.Need-returns
 returns c =
     let told = c .before .before in
@@ -30,17 +15,11 @@ returns c =
     let e = told .enum-told2 .given .1 in
     c .refused .ensures ∙ asked-number e (c .before .asked-code .ensures) ∙ read-misplaced _ _ (start once .pre) _ e (once .ask-order .ensures)
 
-slice-aggregate-copy : tie.Need-slice-aggregate-copy
-slice-aggregate-copy c = search needs
-
 copy-requires : tie.Need-copy-requires
 copy-requires c κs =
     let passed = c .before in
     let once = passed .before .before in
     order-long _ _ (start once .pre) (passed .enum-told .given .1) (once .ask-order .ensures)
-
-accepted-requires : tie.Need-accepted-requires
-accepted-requires c κs = search needs
 
 returns-2 : tie.Need-returns-2
 returns-2 c =
@@ -53,13 +32,13 @@ pub read-order-spec : {M : Type 1} → statement M
 read-order-spec =
     tie.close
     (tie.spec
-    ask-order-requires
-    enum-told
-    enum-told-2
-    asked-code-requires
-    refused-requires
+    (λ c κs. search needs)
+    (λ c. search needs)
+    (λ c. search needs)
+    (λ c κs. search needs)
+    (λ c κs. search needs)
     returns
-    slice-aggregate-copy
+    (λ c. search needs)
     copy-requires
-    accepted-requires
+    (λ c κs. search needs)
     returns-2)

@@ -19,29 +19,11 @@ loop-holds c = joined-start refl
 add-loop : tie.Need-add-loop Inv-loop μ-loop
 add-loop c = omega (arith, c .loop .inv .inside)
 
-shared-slice-read-a : tie.Need-shared-slice-read-a Inv-loop μ-loop
-shared-slice-read-a c = omega arith
-
 cast-a : tie.Need-cast-a Inv-loop μ-loop
 cast-a c = omega (arith, c .shared-slice-known2 .given (c .before .before .loop .i))
 
-add-b : tie.Need-add-b Inv-loop μ-loop
-add-b c = omega arith
-
-shared-slice-read-b : tie.Need-shared-slice-read-b Inv-loop μ-loop
-shared-slice-read-b c = omega arith
-
 cast-b : tie.Need-cast-b Inv-loop μ-loop
 cast-b c = omega (arith, c .shared-slice-known3 .given (c .before .before .before .loop .i + 1))
-
-mul-is-set : tie.Need-mul-is-set Inv-loop μ-loop
-mul-is-set c = omega arith
-
-array-read-is-set : tie.Need-array-read-is-set Inv-loop μ-loop
-array-read-is-set c = omega arith
-
-is-set-requires : tie.Need-is-set-requires Inv-loop μ-loop
-is-set-requires c κs = search needs
 
 -- the turn of the loop that a bit is asked in
 abbrev turn : tie.After-is-set Inv-loop μ-loop → tie.In-loop Inv-loop μ-loop
@@ -51,15 +33,6 @@ returns : tie.Need-returns Inv-loop μ-loop
 returns c =
     let at = turn (c .before) in
     joined-again (at .before .loop .inv) (at .loop-test .taken) (sym (c .before .is-set .ensures) ∙ c .if1 .taken) _
-
-join-requires : tie.Need-join-requires Inv-loop μ-loop
-join-requires c κs = search needs
-
-add-i : tie.Need-add-i Inv-loop μ-loop
-add-i c = omega arith
-
-loop-less : tie.Need-loop-less Inv-loop μ-loop
-loop-less c = omega arith
 
 loop-again : tie.Need-loop-again Inv-loop μ-loop
 loop-again c =
@@ -78,17 +51,17 @@ join-edges-spec =
     μ-loop
     loop-holds
     add-loop
-    shared-slice-read-a
+    (λ c. omega arith)
     cast-a
-    add-b
-    shared-slice-read-b
+    (λ c. omega arith)
+    (λ c. omega arith)
     cast-b
-    mul-is-set
-    array-read-is-set
-    is-set-requires
+    (λ c. omega arith)
+    (λ c. omega arith)
+    (λ c κs. search needs)
     returns
-    join-requires
-    add-i
-    loop-less
+    (λ c κs. search needs)
+    (λ c. omega arith)
+    (λ c. omega arith)
     loop-again
     returns-2)

@@ -20,26 +20,11 @@ returns c = answer-odd _ _ (c .if1 .taken)
 loop-holds : tie.Need-loop-holds Inv-loop μ-loop
 loop-holds c = ends-start
 
-add-loop : tie.Need-add-loop Inv-loop μ-loop
-add-loop c = omega arith
-
-shared-slice-read-is-edge : tie.Need-shared-slice-read-is-edge Inv-loop μ-loop
-shared-slice-read-is-edge c = omega arith
-
 cast-is-edge : tie.Need-cast-is-edge Inv-loop μ-loop
 cast-is-edge c = omega (arith, c .shared-slice-known2 .given (c .before .before .loop .i))
 
-add-is-edge : tie.Need-add-is-edge Inv-loop μ-loop
-add-is-edge c = omega arith
-
-shared-slice-read-is-edge-2 : tie.Need-shared-slice-read-is-edge-2 Inv-loop μ-loop
-shared-slice-read-is-edge-2 c = omega arith
-
 cast-is-edge-2 : tie.Need-cast-is-edge-2 Inv-loop μ-loop
 cast-is-edge-2 c = omega (arith, c .shared-slice-known3 .given (c .before .before .before .loop .i + 1))
-
-is-edge-requires : tie.Need-is-edge-requires Inv-loop μ-loop
-is-edge-requires c κs = search needs
 
 -- the turn of the loop that an edge is asked in
 abbrev turn : tie.After-is-edge Inv-loop μ-loop → tie.In-loop Inv-loop μ-loop
@@ -50,12 +35,6 @@ returns-2 c =
     let at = turn (c .before) in
     answer-outside _ _ (at .before .before .if1 .left)
     (ends-bad (at .before .loop .inv) (at .loop-test .taken) (sym (c .before .is-edge .ensures) ∙ not-true (c .before .is-edge .result) (c .if2 .taken)))
-
-add-i : tie.Need-add-i Inv-loop μ-loop
-add-i c = omega arith
-
-loop-less : tie.Need-loop-less Inv-loop μ-loop
-loop-less c = omega arith
 
 loop-again : tie.Need-loop-again Inv-loop μ-loop
 loop-again c =
@@ -73,15 +52,15 @@ ask-ends-spec =
     μ-loop
     returns
     loop-holds
-    add-loop
-    shared-slice-read-is-edge
+    (λ c. omega arith)
+    (λ c. omega arith)
     cast-is-edge
-    add-is-edge
-    shared-slice-read-is-edge-2
+    (λ c. omega arith)
+    (λ c. omega arith)
     cast-is-edge-2
-    is-edge-requires
+    (λ c κs. search needs)
     returns-2
-    add-i
-    loop-less
+    (λ c. omega arith)
+    (λ c. omega arith)
     loop-again
     returns-3)

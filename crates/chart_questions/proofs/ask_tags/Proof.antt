@@ -4,12 +4,6 @@ use Rattle.chart_questions.specs.Fields.{tags-right, tags-wrong}
 use Rattle.chart_questions.proofs.ask_tags.Statement.{statement}
 use Rattle.chart_questions.proofs.ask_tags.Tie as tie
 
-slice-aggregate-has-tags : tie.Need-slice-aggregate-has-tags
-slice-aggregate-has-tags c = search needs
-
-has-tags-requires : tie.Need-has-tags-requires
-has-tags-requires c κs = search needs
-
 returns : tie.Need-returns
 returns c = tags-right _ (sym (c .before .has-tags .ensures) ∙ c .if1 .taken)
 
@@ -17,4 +11,4 @@ returns-2 : tie.Need-returns-2
 returns-2 c = tags-wrong _ (sym (c .before .has-tags .ensures) ∙ c .if1 .left)
 
 pub ask-tags-spec : {M : Type 1} → statement M
-ask-tags-spec = tie.close (tie.spec slice-aggregate-has-tags has-tags-requires returns returns-2)
+ask-tags-spec = tie.close (tie.spec (λ c. search needs) (λ c κs. search needs) returns returns-2)

@@ -15,15 +15,6 @@ abbrev μ-loop : tie.MeasureT-loop
 loop-holds : tie.Need-loop-holds Inv-loop μ-loop
 loop-holds c = body-start
 
-field-at-requires : tie.Need-field-at-requires Inv-loop μ-loop
-field-at-requires c κs = omega arith
-
-enum-known-length : tie.Need-enum-known-length Inv-loop μ-loop
-enum-known-length c = search needs
-
-enum-told : tie.Need-enum-told Inv-loop μ-loop
-enum-told c = search needs
-
 -- from where a field is found to where the turn starts, and from there to the start
 abbrev turn : tie.After-known-told Inv-loop μ-loop → tie.At-loop Inv-loop μ-loop
 turn c = c .before .before .before .before
@@ -39,9 +30,6 @@ inside : (c : tie.After-known-told Inv-loop μ-loop)
     → turn c .loop .at + 3 + c .before .length .given .0 .1 .0 ≤ length (start (turn c) .args .bytes .now)
 inside c = field-inside _ (turn c .loop .inv .inside) (there c)
 
-slice-aggregate-result : tie.Need-slice-aggregate-result Inv-loop μ-loop
-slice-aggregate-result c = search needs
-
 returns : tie.Need-returns Inv-loop μ-loop
 returns c =
     let none = c .before in
@@ -54,20 +42,11 @@ add-start c = omega (arith, inside c)
 add-end : tie.Need-add-end Inv-loop μ-loop
 add-end c = omega (arith, inside c)
 
-sub-result : tie.Need-sub-result Inv-loop μ-loop
-sub-result c = search needs
-
-part-result-start : tie.Need-part-result-start Inv-loop μ-loop
-part-result-start c = search needs
-
 part-result-end : tie.Need-part-result-end Inv-loop μ-loop
 part-result-end c = omega (arith, inside (c .before))
 
 returns-2 : tie.Need-returns-2 Inv-loop μ-loop
 returns-2 c = let first = c .before in body-here (turn (first .before) .loop .inv) (there (first .before)) (first .if1 .taken)
-
-sub-left : tie.Need-sub-left Inv-loop μ-loop
-sub-left c = search needs
 
 loop-less : tie.Need-loop-less Inv-loop μ-loop
 loop-less c = omega (arith, inside (c .before))
@@ -82,17 +61,17 @@ body-of-spec =
     Inv-loop
     μ-loop
     loop-holds
-    field-at-requires
-    enum-known-length
-    enum-told
-    slice-aggregate-result
+    (λ c κs. omega arith)
+    (λ c. search needs)
+    (λ c. search needs)
+    (λ c. search needs)
     returns
     add-start
     add-end
-    sub-result
-    part-result-start
+    (λ c. search needs)
+    (λ c. search needs)
     part-result-end
     returns-2
-    sub-left
+    (λ c. search needs)
     loop-less
     loop-again)

@@ -15,15 +15,6 @@ abbrev μ-loop : tie.MeasureT-loop
 loop-holds : tie.Need-loop-holds Inv-loop μ-loop
 loop-holds c = divided-start
 
-field-at-requires : tie.Need-field-at-requires Inv-loop μ-loop
-field-at-requires c κs = omega arith
-
-enum-known-length : tie.Need-enum-known-length Inv-loop μ-loop
-enum-known-length c = search needs
-
-enum-told : tie.Need-enum-told Inv-loop μ-loop
-enum-told c = search needs
-
 abbrev at-loop : tie.After-known-told Inv-loop μ-loop → tie.At-loop Inv-loop μ-loop
 at-loop c = c .before .before .before .before
 
@@ -53,9 +44,9 @@ divides-spec =
     Inv-loop
     μ-loop
     loop-holds
-    field-at-requires
-    enum-known-length
-    enum-told
+    (λ c κs. omega arith)
+    (λ c. search needs)
+    (λ c. search needs)
     returns
     add-at
     add-at-2

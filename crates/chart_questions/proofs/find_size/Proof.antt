@@ -7,9 +7,6 @@ use Rattle.chart_questions.proofs.find_size.Tie as tie
 returns : tie.Need-returns
 returns c = size-long _ (c .if1 .taken)
 
-shared-slice-read-n : tie.Need-shared-slice-read-n
-shared-slice-read-n c = search needs
-
 cast-n : tie.Need-cast-n
 cast-n c = omega (arith, c .shared-slice-known .given 0)
 
@@ -20,4 +17,4 @@ returns-3 : tie.Need-returns-3
 returns-3 c = size-right _ (c .before .before .if1 .left) (c .if2 .left)
 
 pub find-size-spec : {M : Type 1} → statement M
-find-size-spec = tie.close (tie.spec returns shared-slice-read-n cast-n returns-2 returns-3)
+find-size-spec = tie.close (tie.spec returns (λ c. search needs) cast-n returns-2 returns-3)

@@ -8,9 +8,6 @@ use Rattle.chart_questions.proofs.first_field.Tie as tie
 returns : tie.Need-returns
 returns c = answer-short _ (c .if1 .taken)
 
-shared-slice-read-length : tie.Need-shared-slice-read-length
-shared-slice-read-length c = search needs
-
 -- of both bytes, whichever is read first
 cast-length : tie.Need-cast-length
 cast-length c = omega (arith, c .shared-slice-known .given 1, c .shared-slice-known .given 2)
@@ -18,20 +15,11 @@ cast-length c = omega (arith, c .shared-slice-known .given 1, c .shared-slice-kn
 mul-length : tie.Need-mul-length
 mul-length c = omega (arith, c .shared-slice-known .given 1, c .shared-slice-known .given 2)
 
-shared-slice-read-length-2 : tie.Need-shared-slice-read-length-2
-shared-slice-read-length-2 c = search needs
-
 cast-length-2 : tie.Need-cast-length-2
 cast-length-2 c = omega (arith, c .shared-slice-known2 .given 1, c .shared-slice-known2 .given 2)
 
 add-length : tie.Need-add-length
 add-length c = omega (arith, c .shared-slice-known2 .given 1, c .shared-slice-known2 .given 2)
-
-sub-if2 : tie.Need-sub-if2
-sub-if2 c = search needs
-
-shared-slice-read-t13 : tie.Need-shared-slice-read-t13
-shared-slice-read-t13 c = search needs
 
 returns-2 : tie.Need-returns-2
 unfolding bodyLength
@@ -46,13 +34,13 @@ first-field-spec =
     tie.close
     (tie.spec
     returns
-    shared-slice-read-length
+    (λ c. search needs)
     cast-length
     mul-length
-    shared-slice-read-length-2
+    (λ c. search needs)
     cast-length-2
     add-length
-    sub-if2
-    shared-slice-read-t13
+    (λ c. search needs)
+    (λ c. search needs)
     returns-2
     returns-3)

@@ -15,15 +15,6 @@ abbrev μ-loop : tie.MeasureT-loop
 loop-holds : tie.Need-loop-holds Inv-loop μ-loop
 loop-holds c = tags-start
 
-field-at-requires : tie.Need-field-at-requires Inv-loop μ-loop
-field-at-requires c κs = omega arith
-
-enum-known-tag : tie.Need-enum-known-tag Inv-loop μ-loop
-enum-known-tag c = search needs
-
-enum-told : tie.Need-enum-told Inv-loop μ-loop
-enum-told c = search needs
-
 -- from where a field is found to its turn, and from there to the start
 abbrev turn : tie.After-known-told Inv-loop μ-loop → tie.In-loop Inv-loop μ-loop
 turn c = c .before .before .before .before
@@ -47,9 +38,6 @@ returns c =
     let tested = asked .before in
     tag-missing (tested .before .loop .inv) (field-none _ (c .enum-told .given .1) (asked .field-at .ensures)) (tested .loop-test .taken)
 
-shared-slice-read-if1 : tie.Need-shared-slice-read-if1 Inv-loop μ-loop
-shared-slice-read-if1 c = search needs
-
 returns-2 : tie.Need-returns-2 Inv-loop μ-loop
 returns-2 c = let found = c .before .before in tag-wrong (turn found .before .loop .inv) (there found) (turn found .loop-test .taken) (c .if1 .taken)
 
@@ -59,23 +47,8 @@ add-at c = omega (arith, next c .inside)
 add-at-2 : tie.Need-add-at-2 Inv-loop μ-loop
 add-at-2 c = omega (arith, next c .inside)
 
-add-i : tie.Need-add-i Inv-loop μ-loop
-add-i c = search needs
-
-loop-less : tie.Need-loop-less Inv-loop μ-loop
-loop-less c = search needs
-
 loop-again : tie.Need-loop-again Inv-loop μ-loop
 loop-again c = next c
-
-field-at-requires-2 : tie.Need-field-at-requires-2 Inv-loop μ-loop
-field-at-requires-2 c κs = omega arith
-
-enum-told-2 : tie.Need-enum-told-2 Inv-loop μ-loop
-enum-told-2 c = search needs
-
-enum-told-3 : tie.Need-enum-told-3 Inv-loop μ-loop
-enum-told-3 c = search needs
 
 returns-3 : tie.Need-returns-3 Inv-loop μ-loop
 returns-3 c =
@@ -96,19 +69,19 @@ has-tags-spec =
     Inv-loop
     μ-loop
     loop-holds
-    field-at-requires
-    enum-known-tag
-    enum-told
+    (λ c κs. omega arith)
+    (λ c. search needs)
+    (λ c. search needs)
     returns
-    shared-slice-read-if1
+    (λ c. search needs)
     returns-2
     add-at
     add-at-2
-    add-i
-    loop-less
+    (λ c. search needs)
+    (λ c. search needs)
     loop-again
-    field-at-requires-2
-    enum-told-2
-    enum-told-3
+    (λ c κs. omega arith)
+    (λ c. search needs)
+    (λ c. search needs)
     returns-3
     returns-4)

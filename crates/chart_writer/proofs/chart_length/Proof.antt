@@ -10,21 +10,6 @@ use Rattle.chart_writer.proofs.chart_length.Tie as tie
 returns : tie.Need-returns
 returns c = rw (lt-leb _ 64 (c .if1 .taken))
 
-edge-count-requires : tie.Need-edge-count-requires
-edge-count-requires c κs = search needs
-
-cast-result : tie.Need-cast-result
-cast-result c = search needs
-
-mul-result : tie.Need-mul-result
-mul-result c = search needs
-
-add-result : tie.Need-add-result
-add-result c = search needs
-
-add-result-2 : tie.Need-add-result-2
-add-result-2 c = search needs
-
 returns-2 : tie.Need-returns-2
 returns-2 c =
     let tested = c .before in
@@ -35,4 +20,11 @@ returns-2 c =
 pub chart-length-spec : {M : Type 1} → statement M
 chart-length-spec =
     tie.close
-    (tie.spec returns edge-count-requires cast-result mul-result add-result add-result-2 returns-2)
+    (tie.spec
+    returns
+    (λ c κs. search needs)
+    (λ c. search needs)
+    (λ c. search needs)
+    (λ c. search needs)
+    (λ c. search needs)
+    returns-2)

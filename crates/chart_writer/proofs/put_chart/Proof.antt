@@ -4,15 +4,6 @@ use Rattle.chart_writer.specs.Fields.{links-room, order-room, chart-put}
 use Rattle.chart_writer.proofs.put_chart.Statement.{statement}
 use Rattle.chart_writer.proofs.put_chart.Tie as tie
 
-cast-t8 : tie.Need-cast-t8
-cast-t8 c = search needs
-
-slice-aggregate-put-field : tie.Need-slice-aggregate-put-field
-slice-aggregate-put-field c = search needs
-
-put-field-requires : tie.Need-put-field-requires
-put-field-requires c κs = search needs
-
 -- from the links to the first field, and from there to the start
 abbrev first : tie.After-put-links-arg → tie.After-put-field
 first c = c .before .before .before
@@ -35,9 +26,6 @@ put-field-requires-2 c κs =
     let given = start size .pre in
     (omega (arith, given .few), order-room given (size .put-field .ensures) (links c .put-links .ensures))
 
-same-length : tie.Need-same-length
-same-length c = search needs
-
 returns : tie.Need-returns
 returns c =
     let order = c .before .before in
@@ -49,10 +37,10 @@ pub put-chart-spec : {M : Type 1} → statement M
 put-chart-spec =
     tie.close
     (tie.spec
-    cast-t8
-    slice-aggregate-put-field
-    put-field-requires
+    (λ c. search needs)
+    (λ c. search needs)
+    (λ c κs. search needs)
     put-links-requires
     put-field-requires-2
-    same-length
+    (λ c. search needs)
     returns)

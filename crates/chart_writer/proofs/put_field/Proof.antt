@@ -4,15 +4,6 @@ use Rattle.chart_writer.specs.Fields.{field-put}
 use Rattle.chart_writer.proofs.put_field.Statement.{statement}
 use Rattle.chart_writer.proofs.put_field.Tie as tie
 
-put-header-requires : tie.Need-put-header-requires
-put-header-requires c κs = search needs
-
-put-text-requires : tie.Need-put-text-requires
-put-text-requires c κs = search needs
-
-same-length : tie.Need-same-length
-same-length c = search needs
-
 -- from the text to the header, and from there to the start
 abbrev headed : tie.After-put-text → tie.After-put-header
 headed c = c .before .before .before .before
@@ -28,4 +19,4 @@ returns c =
     field-put (header .put-header .ensures) refl (given .0) (given .1) (body .put-text .ensures)
 
 pub put-field-spec : {M : Type 1} → statement M
-put-field-spec = tie.close (tie.spec put-header-requires put-text-requires same-length returns)
+put-field-spec = tie.close (tie.spec (λ c κs. search needs) (λ c κs. search needs) (λ c. search needs) returns)

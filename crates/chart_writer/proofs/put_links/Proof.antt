@@ -4,24 +4,6 @@ use Rattle.chart_writer.specs.Fields.{links-put}
 use Rattle.chart_writer.proofs.put_links.Statement.{statement}
 use Rattle.chart_writer.proofs.put_links.Tie as tie
 
-edge-count-requires : tie.Need-edge-count-requires
-edge-count-requires c κs = search needs
-
-cast-count : tie.Need-cast-count
-cast-count c = search needs
-
-mul-put-header : tie.Need-mul-put-header
-mul-put-header c = search needs
-
-put-header-requires : tie.Need-put-header-requires
-put-header-requires c κs = search needs
-
-put-edges-requires : tie.Need-put-edges-requires
-put-edges-requires c κs = search needs
-
-same-length : tie.Need-same-length
-same-length c = search needs
-
 -- from the edges to the header, and from there to where they are counted
 abbrev headed : tie.After-put-edges → tie.After-put-header
 headed c = c .before .before .before .before
@@ -41,10 +23,10 @@ pub put-links-spec : {M : Type 1} → statement M
 put-links-spec =
     tie.close
     (tie.spec
-    edge-count-requires
-    cast-count
-    mul-put-header
-    put-header-requires
-    put-edges-requires
-    same-length
+    (λ c κs. search needs)
+    (λ c. search needs)
+    (λ c. search needs)
+    (λ c κs. search needs)
+    (λ c κs. search needs)
+    (λ c. search needs)
     returns)

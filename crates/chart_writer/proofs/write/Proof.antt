@@ -11,15 +11,6 @@ use Rattle.chart_writer.specs.Answers.{ChartAsked, counted-is, inside, f
 use Rattle.chart_writer.proofs.write.Statement.{statement}
 use Rattle.chart_writer.proofs.write.Tie as tie
 
-chart-length-requires : tie.Need-chart-length-requires
-chart-length-requires c κs = search needs
-
-is-valid-requires : tie.Need-is-valid-requires
-is-valid-requires c κs = search needs
-
-write-refusal-requires : tie.Need-write-refusal-requires
-write-refusal-requires c κs = search needs
-
 -- from the checks to where the length is counted, and from there to the start
 abbrev counted : tie.After-write-refusal → tie.After-chart-length
 counted c = c .before .before
@@ -71,9 +62,6 @@ put-chart-requires c κs =
     let at = passed (c .before) in
     fits (asked (at .before)) (at .if1 .left) (places (start (counted (at .before))))
 
-same-length : tie.Need-same-length
-same-length c = search needs
-
 returns-2 : tie.Need-returns-2
 returns-2 c =
     let put = c .before .before in
@@ -84,12 +72,12 @@ pub write-spec : {M : Type 1} → statement M
 write-spec =
     tie.close
     (tie.spec
-    chart-length-requires
-    is-valid-requires
-    write-refusal-requires
+    (λ c κs. search needs)
+    (λ c κs. search needs)
+    (λ c κs. search needs)
     returns
     array-share-prefix-order
     slice-aggregate-put-chart
     put-chart-requires
-    same-length
+    (λ c. search needs)
     returns-2)

@@ -26,12 +26,6 @@ chord-row-requires c κs =
     let so-far = turn .before .loop .inv in
     (so-far .few, turn .loop-test .taken, so-far .size)
 
-add-i : tie.Need-add-i Inv-loop μ-loop
-add-i c = omega arith
-
-loop-less : tie.Need-loop-less Inv-loop μ-loop
-loop-less c = omega arith
-
 loop-again : tie.Need-loop-again Inv-loop μ-loop
 loop-again c =
     let row = c .before in
@@ -51,7 +45,7 @@ chord-crossings-spec =
     loop-holds
     slice-aggregate-chord-row
     chord-row-requires
-    add-i
-    loop-less
+    (λ c. omega arith)
+    (λ c. omega arith)
     loop-again
     returns-2)

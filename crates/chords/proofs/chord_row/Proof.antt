@@ -17,59 +17,14 @@ abbrev μ-loop : tie.MeasureT-loop
 abbrev start : tie.After-clear Inv-loop μ-loop → tie.Start Inv-loop μ-loop
 start c = let first = c .before .before in first .before .before
 
-element-copy-out-first : tie.Need-element-copy-out-first Inv-loop μ-loop
-element-copy-out-first c = omega arith
-
-cast-first : tie.Need-cast-first Inv-loop μ-loop
-cast-first c = search needs
-
-low-bits-requires : tie.Need-low-bits-requires Inv-loop μ-loop
-low-bits-requires c κs = search needs
-
-clear-requires : tie.Need-clear-requires Inv-loop μ-loop
-clear-requires c κs = search needs
-
-add-k : tie.Need-add-k Inv-loop μ-loop
-add-k c = omega arith
-
 loop-holds : tie.Need-loop-holds Inv-loop μ-loop
 unfolding vertexAt
 loop-holds c =
     let given = start c .pre in
     row-start (given .0) (given .1) (given .2) (c .before .low-bits .ensures) refl (c .clear .ensures)
 
-element-copy-out-v : tie.Need-element-copy-out-v Inv-loop μ-loop
-element-copy-out-v c = omega arith
-
-cast-v : tie.Need-cast-v Inv-loop μ-loop
-cast-v c = search needs
-
-mul-next-chord : tie.Need-mul-next-chord Inv-loop μ-loop
-mul-next-chord c = omega arith
-
-element-copy-out-next-chord : tie.Need-element-copy-out-next-chord Inv-loop μ-loop
-element-copy-out-next-chord c = search needs
-
 next-chord-requires : tie.Need-next-chord-requires Inv-loop μ-loop
 next-chord-requires c κs = search needs
-
-mul-chords : tie.Need-mul-chords Inv-loop μ-loop
-mul-chords c = omega arith
-
-add-chords : tie.Need-add-chords Inv-loop μ-loop
-add-chords c = omega arith
-
-mul-chords-2 : tie.Need-mul-chords-2 Inv-loop μ-loop
-mul-chords-2 c = omega arith
-
-slice-write-chords : tie.Need-slice-write-chords Inv-loop μ-loop
-slice-write-chords c = omega arith
-
-add-k-2 : tie.Need-add-k-2 Inv-loop μ-loop
-add-k-2 c = omega arith
-
-loop-less : tie.Need-loop-less Inv-loop μ-loop
-loop-less c = omega arith
 
 loop-again : tie.Need-loop-again Inv-loop μ-loop
 unfolding vertexAt
@@ -89,23 +44,23 @@ chord-row-spec =
     (tie.spec
     Inv-loop
     μ-loop
-    element-copy-out-first
-    cast-first
-    low-bits-requires
-    clear-requires
-    add-k
+    (λ c. omega arith)
+    (λ c. search needs)
+    (λ c κs. search needs)
+    (λ c κs. search needs)
+    (λ c. omega arith)
     loop-holds
-    element-copy-out-v
-    cast-v
-    mul-next-chord
-    element-copy-out-next-chord
+    (λ c. omega arith)
+    (λ c. search needs)
+    (λ c. omega arith)
+    (λ c. search needs)
     next-chord-requires
-    mul-chords
-    add-chords
-    mul-chords-2
-    slice-write-chords
-    add-k-2
-    loop-less
+    (λ c. omega arith)
+    (λ c. omega arith)
+    (λ c. omega arith)
+    (λ c. omega arith)
+    (λ c. omega arith)
+    (λ c. omega arith)
     loop-again
     same-length
     returns)

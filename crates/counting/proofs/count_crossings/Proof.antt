@@ -21,17 +21,8 @@ returns : tie.Need-returns Inv-loop μ-loop
 unfolding counted
 returns c = rw (lt-leb _ _ (c .if1 .taken))
 
-low-bits-requires : tie.Need-low-bits-requires Inv-loop μ-loop
-low-bits-requires c κs = search needs
-
 loop-holds : tie.Need-loop-holds Inv-loop μ-loop
 loop-holds c = count-start (c .before .if1 .left) (c .low-bits .ensures)
-
-vertex-at-requires : tie.Need-vertex-at-requires Inv-loop μ-loop
-vertex-at-requires c κs = omega arith
-
-clear-requires : tie.Need-clear-requires Inv-loop μ-loop
-clear-requires c κs = search needs
 
 count-row-requires : tie.Need-count-row-requires Inv-loop μ-loop
 unfolding maskFrom
@@ -47,15 +38,6 @@ add-total : tie.Need-add-total Inv-loop μ-loop
 add-total c =
     let so-far = c .before .before .before .before .loop .inv in
     omega (arith, c .count-row .ensures .1, so-far .bounded, so-far .inside)
-
-set-requires : tie.Need-set-requires Inv-loop μ-loop
-set-requires c κs = search needs
-
-add-j : tie.Need-add-j Inv-loop μ-loop
-add-j c = omega arith
-
-loop-less : tie.Need-loop-less Inv-loop μ-loop
-loop-less c = omega arith
 
 loop-again : tie.Need-loop-again Inv-loop μ-loop
 loop-again c =
@@ -76,5 +58,18 @@ returns-2 c = rw (le-leb _ _ (c .before .before .before .if1 .left)) (count-end 
 pub count-crossings-spec : {M : Type 1} → statement M
 count-crossings-spec =
     tie.close
-    (tie.spec Inv-loop μ-loop returns low-bits-requires loop-holds vertex-at-requires clear-requires count-row-requires add-total
-    set-requires add-j loop-less loop-again returns-2)
+    (tie.spec
+    Inv-loop
+    μ-loop
+    returns
+    (λ c κs. search needs)
+    loop-holds
+    (λ c κs. omega arith)
+    (λ c κs. search needs)
+    count-row-requires
+    add-total
+    (λ c κs. search needs)
+    (λ c. omega arith)
+    (λ c. omega arith)
+    loop-again
+    returns-2)

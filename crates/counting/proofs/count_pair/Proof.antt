@@ -14,12 +14,6 @@ most c =
     (rw (c .before .count .ensures) (maskedOnes-le (c .before .before .args .later) (c .before .before .args .before)))
     (rw (c .count2 .ensures) (maskedOnes-le (c .before .before .args .earlier) (c .before .before .args .rest)))
 
-count-requires : tie.Need-count-requires
-count-requires c κs = search needs
-
-count-requires-2 : tie.Need-count-requires-2
-count-requires-2 c κs = search needs
-
 mul-result : tie.Need-mul-result
 mul-result c = record { fits = omega (arith, most c) }
 
@@ -27,4 +21,4 @@ returns : tie.Need-returns
 returns c = (ap₂ (λ (x y : ℕ). x * y) (c .before .count .ensures) (c .count2 .ensures), most c)
 
 pub count-pair-spec : {M : Type 1} → statement M
-count-pair-spec = tie.close (tie.spec count-requires count-requires-2 mul-result returns)
+count-pair-spec = tie.close (tie.spec (λ c κs. search needs) (λ c κs. search needs) mul-result returns)

@@ -19,37 +19,19 @@ abbrev μ-loop : tie.MeasureT-loop
 abbrev turn : tie.After-count-pair Inv-loop μ-loop → tie.At-loop Inv-loop μ-loop
 turn c = c .before .before .before .before .before
 
-word-at-requires : tie.Need-word-at-requires Inv-loop μ-loop
-word-at-requires c κs = omega arith
-
-add-k : tie.Need-add-k Inv-loop μ-loop
-add-k c = omega arith
-
 loop-holds : tie.Need-loop-holds Inv-loop μ-loop
 loop-holds c = (row-start (c .before .pre .1) (c .before .pre .3), c .word-at .ensures)
 
 vertex-at-requires : tie.Need-vertex-at-requires Inv-loop μ-loop
 vertex-at-requires c κs = omega (arith, c .before .loop .inv .0 .inside)
 
-clear-requires : tie.Need-clear-requires Inv-loop μ-loop
-clear-requires c κs = search needs
-
 word-at-requires-2 : tie.Need-word-at-requires-2 Inv-loop μ-loop
 word-at-requires-2 c κs = omega (arith, c .before .before .before .loop .inv .0 .inside)
-
-count-pair-requires : tie.Need-count-pair-requires Inv-loop μ-loop
-count-pair-requires c κs = search needs
 
 add-total : tie.Need-add-total Inv-loop μ-loop
 add-total c =
     let so-far = turn c .loop .inv .0 in
     omega (arith, c .count-pair .ensures .1, so-far .bounded, so-far .inside)
-
-add-k-2 : tie.Need-add-k-2 Inv-loop μ-loop
-add-k-2 c = omega arith
-
-loop-less : tie.Need-loop-less Inv-loop μ-loop
-loop-less c = omega arith
 
 loop-again : tie.Need-loop-again Inv-loop μ-loop
 loop-again c =
@@ -73,5 +55,18 @@ returns c =
 pub count-row-spec : {M : Type 1} → statement M
 count-row-spec =
     tie.close
-    (tie.spec Inv-loop μ-loop word-at-requires add-k loop-holds vertex-at-requires clear-requires word-at-requires-2 count-pair-requires
-    add-total add-k-2 loop-less loop-again returns)
+    (tie.spec
+    Inv-loop
+    μ-loop
+    (λ c κs. omega arith)
+    (λ c. omega arith)
+    loop-holds
+    vertex-at-requires
+    (λ c κs. search needs)
+    word-at-requires-2
+    (λ c κs. search needs)
+    add-total
+    (λ c. omega arith)
+    (λ c. omega arith)
+    loop-again
+    returns)

@@ -2,11 +2,8 @@ use borrow.Author.Needs.{needs}
 use Rattle.counting.proofs.crossings_of.Statement.{statement}
 use Rattle.counting.proofs.crossings_of.Tie as tie
 
-count-crossings-requires : tie.Need-count-crossings-requires
-count-crossings-requires c κs = search needs
-
 returns : tie.Need-returns
 returns c = c .count-crossings .ensures
 
 pub crossings-of-spec : {M : Type 1} → statement M
-crossings-of-spec = tie.close (tie.spec count-crossings-requires returns)
+crossings-of-spec = tie.close (tie.spec (λ c κs. search needs) returns)

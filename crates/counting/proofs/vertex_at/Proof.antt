@@ -6,15 +6,9 @@ use Rattle.laws.specs.Crossings.Masks.{vertexAt}
 use Rattle.counting.proofs.vertex_at.Statement.{statement}
 use Rattle.counting.proofs.vertex_at.Tie as tie
 
-element-copy-out-result : tie.Need-element-copy-out-result
-element-copy-out-result c = search needs
-
-cast-result : tie.Need-cast-result
-cast-result c = search needs
-
 returns : tie.Need-returns
 unfolding vertexAt
 returns c = (refl, mod-lt (getD (c .before .args .order .now) (c .before .args .k) 0) (zero-lt-suc 63))
 
 pub vertex-at-spec : {M : Type 1} → statement M
-vertex-at-spec = tie.close (tie.spec element-copy-out-result cast-result returns)
+vertex-at-spec = tie.close (tie.spec (λ c. search needs) (λ c. search needs) returns)

@@ -27,23 +27,11 @@ start c = c .before .before .before
 fits : (c : tie.At-loop Inv-loop μ-loop) → c .loop .to ≤ length (start c .args .out .now)
 fits c = omega (arith, start c .pre, c .loop .inv .0, c .loop .inv .1)
 
-shared-slice-read-put-small : tie.Need-shared-slice-read-put-small Inv-loop μ-loop
-shared-slice-read-put-small c = omega arith
-
-put-small-requires : tie.Need-put-small-requires Inv-loop μ-loop
-put-small-requires c κs = search needs
-
 -- and there is room for one more
 room : (c : tie.In-loop Inv-loop μ-loop) → c .before .loop .to + 4 ≤ length (c .before .loop .out)
 room c =
     let old = c .before in
     omega (arith, start old .pre, old .loop .inv .1, c .loop-test .taken, written-size (old .loop .inv .2) (fits old))
-
-add-i : tie.Need-add-i Inv-loop μ-loop
-add-i c = omega arith
-
-loop-less : tie.Need-loop-less Inv-loop μ-loop
-loop-less c = omega arith
 
 loop-again : tie.Need-loop-again Inv-loop μ-loop
 loop-again c =
@@ -72,10 +60,10 @@ each-byte-spec =
     Inv-loop
     μ-loop
     loop-holds
-    shared-slice-read-put-small
-    put-small-requires
-    add-i
-    loop-less
+    (λ c. omega arith)
+    (λ c κs. search needs)
+    (λ c. omega arith)
+    (λ c. omega arith)
     loop-again
     same-length
     returns)

@@ -9,21 +9,6 @@ use Rattle.decimals.proofs.named_line.Tie as tie
 abbrev start : tie.After-put-text → tie.Start
 start c = c .before .before .before .before
 
-put-text-requires : tie.Need-put-text-requires
-put-text-requires c κs = search needs
-
-put-number-requires : tie.Need-put-number-requires
-put-number-requires c κs = search needs
-
-slice-aggregate-put-text : tie.Need-slice-aggregate-put-text
-slice-aggregate-put-text c = search needs
-
-put-text-requires-2 : tie.Need-put-text-requires-2
-put-text-requires-2 c κs = search needs
-
-same-length : tie.Need-same-length
-same-length c = search needs
-
 returns : tie.Need-returns
 unfolding text upto
 returns c =
@@ -45,9 +30,9 @@ pub named-line-spec : {M : Type 1} → statement M
 named-line-spec =
     tie.close
     (tie.spec
-    put-text-requires
-    put-number-requires
-    slice-aggregate-put-text
-    put-text-requires-2
-    same-length
+    (λ c κs. search needs)
+    (λ c κs. search needs)
+    (λ c. search needs)
+    (λ c κs. search needs)
+    (λ c. search needs)
     returns)

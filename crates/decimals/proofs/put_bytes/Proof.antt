@@ -16,20 +16,11 @@ room c = has-room (c .before .lacks .ensures) (c .if2 .left)
 returns : tie.Need-returns
 returns c = put-full _ (omega arith)
 
-mul-lacks : tie.Need-mul-lacks
-mul-lacks c = search needs
-
-lacks-requires : tie.Need-lacks-requires
-lacks-requires c κs = search needs
-
 returns-2 : tie.Need-returns-2
 returns-2 c = put-full _ (no-room (c .before .lacks .ensures) (c .if2 .taken))
 
 each-byte-requires : tie.Need-each-byte-requires
 each-byte-requires c κs = room (c .before)
-
-same-length : tie.Need-same-length
-same-length c = search needs
 
 returns-3 : tie.Need-returns-3
 returns-3 c =
@@ -40,4 +31,11 @@ returns-3 c =
 pub put-bytes-spec : {M : Type 1} → statement M
 put-bytes-spec =
     tie.close
-    (tie.spec returns mul-lacks lacks-requires returns-2 each-byte-requires same-length returns-3)
+    (tie.spec
+    returns
+    (λ c. search needs)
+    (λ c κs. search needs)
+    returns-2
+    each-byte-requires
+    (λ c. search needs)
+    returns-3)

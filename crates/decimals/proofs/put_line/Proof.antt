@@ -13,20 +13,11 @@ start c = c .before .before .before
 room : (c : tie.Else1) → let s = start (c .before) .args in s .at + (length (s .name .now) + 22) ≤ length (s .out .now)
 room c = has-room (c .before .lacks .ensures) (c .if1 .left)
 
-add-lacks : tie.Need-add-lacks
-add-lacks c = search needs
-
-lacks-requires : tie.Need-lacks-requires
-lacks-requires c κs = search needs
-
 returns : tie.Need-returns
 returns c = put-full _ (no-room (c .before .lacks .ensures) (c .if1 .taken))
 
 named-line-requires : tie.Need-named-line-requires
 named-line-requires c κs = omega (arith, room (c .before))
-
-same-length : tie.Need-same-length
-same-length c = search needs
 
 returns-2 : tie.Need-returns-2
 returns-2 c =
@@ -36,4 +27,11 @@ returns-2 c =
 
 pub put-line-spec : {M : Type 1} → statement M
 put-line-spec =
-    tie.close (tie.spec add-lacks lacks-requires returns named-line-requires same-length returns-2)
+    tie.close
+    (tie.spec
+    (λ c. search needs)
+    (λ c κs. search needs)
+    returns
+    named-line-requires
+    (λ c. search needs)
+    returns-2)

@@ -21,17 +21,11 @@ room c = has-room (c .before .lacks .ensures) (c .if1 .left)
 few : (s : tie.Start) → length (spaced (s .args .x)) ≤ 4
 few s = spaced-length 2 (lt-trans (s .fits .x .fits) (lit< tt))
 
-lacks-requires : tie.Need-lacks-requires
-lacks-requires c κs = search needs
-
 returns : tie.Need-returns
 returns c = put-full _ (no-room (c .before .lacks .ensures) (c .if1 .taken))
 
 put-spaced-requires : tie.Need-put-spaced-requires
 put-spaced-requires c κs = let passed = c .before in omega (arith, room passed, few (start (passed .before)))
-
-same-length : tie.Need-same-length
-same-length c = search needs
 
 returns-2 : tie.Need-returns-2
 returns-2 c =
@@ -41,4 +35,4 @@ returns-2 c =
 
 pub put-small-spec : {M : Type 1} → statement M
 put-small-spec =
-    tie.close (tie.spec lacks-requires returns put-spaced-requires same-length returns-2)
+    tie.close (tie.spec (λ c κs. search needs) returns put-spaced-requires (λ c. search needs) returns-2)

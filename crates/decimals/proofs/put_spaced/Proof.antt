@@ -6,18 +6,9 @@ use Rattle.text.specs.Parts.{behind}
 use Rattle.decimals.proofs.put_spaced.Statement.{statement}
 use Rattle.decimals.proofs.put_spaced.Tie as tie
 
-slice-aggregate-put-text : tie.Need-slice-aggregate-put-text
-slice-aggregate-put-text c = search needs
-
-put-text-requires : tie.Need-put-text-requires
-put-text-requires c κs = search needs
-
 put-decimal-requires : tie.Need-put-decimal-requires
 unfolding spaced text upto
 put-decimal-requires c κs = omega arith
-
-same-length : tie.Need-same-length
-same-length c = search needs
 
 returns : tie.Need-returns
 unfolding spaced text upto
@@ -29,4 +20,4 @@ returns c =
 pub put-spaced-spec : {M : Type 1} → statement M
 put-spaced-spec =
     tie.close
-    (tie.spec slice-aggregate-put-text put-text-requires put-decimal-requires same-length returns)
+    (tie.spec (λ c. search needs) (λ c κs. search needs) put-decimal-requires (λ c. search needs) returns)

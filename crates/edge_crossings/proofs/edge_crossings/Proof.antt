@@ -36,26 +36,14 @@ asked c =
 abbrev passed : tie.After-adjacency3 → tie.Else1
 passed c = let lent = c .before .before in lent .before .before
 
-edge-count-requires : tie.Need-edge-count-requires
-edge-count-requires c κs = search needs
-
-cast-edges : tie.Need-cast-edges
-cast-edges c = search needs
-
 is-valid-requires : tie.Need-is-valid-requires
 is-valid-requires c κs = search needs
-
-write-refusal-requires : tie.Need-write-refusal-requires
-write-refusal-requires c κs = search needs
 
 returns : tie.Need-returns
 returns c = refused (asked (c .before)) (c .if1 .taken)
 
 put-numbers-requires : tie.Need-put-numbers-requires
 put-numbers-requires c κs = let at = passed c in fits (asked (at .before)) (at .if1 .left)
-
-same-length : tie.Need-same-length
-same-length c = search needs
 
 returns-2 : tie.Need-returns-2
 returns-2 c =
@@ -67,11 +55,11 @@ pub edge-crossings-spec : {M : Type 1} → statement M
 edge-crossings-spec =
     tie.close
     (tie.spec
-    edge-count-requires
-    cast-edges
+    (λ c κs. search needs)
+    (λ c. search needs)
     is-valid-requires
-    write-refusal-requires
+    (λ c κs. search needs)
     returns
     put-numbers-requires
-    same-length
+    (λ c. search needs)
     returns-2)

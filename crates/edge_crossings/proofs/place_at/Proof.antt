@@ -5,18 +5,9 @@ use Rattle.edge_crossings.specs.Numbers.{placeAt}
 use Rattle.edge_crossings.proofs.place_at.Statement.{statement}
 use Rattle.edge_crossings.proofs.place_at.Tie as tie
 
-cast-u : tie.Need-cast-u
-cast-u c = search needs
-
-element-copy-out-result : tie.Need-element-copy-out-result
-element-copy-out-result c = search needs
-
-cast-result : tie.Need-cast-result
-cast-result c = search needs
-
 returns : tie.Need-returns
 unfolding placeAt
 returns c = (refl, mod-lt _ (zero-lt-suc 63))
 
 pub place-at-spec : {M : Type 1} → statement M
-place-at-spec = tie.close (tie.spec cast-u element-copy-out-result cast-result returns)
+place-at-spec = tie.close (tie.spec (λ c. search needs) (λ c. search needs) (λ c. search needs) returns)

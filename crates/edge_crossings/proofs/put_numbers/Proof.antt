@@ -16,29 +16,11 @@ start c = c .before .before
 abbrev put : tie.After-ends3 → tie.After-put-edges
 put c = let taken = c .before .before .before in taken .before .before
 
-chord-crossings-requires : tie.Need-chord-crossings-requires
-chord-crossings-requires c κs = search needs
-
-places-of-requires : tie.Need-places-of-requires
-places-of-requires c κs = search needs
-
-slice-aggregate-put-edges : tie.Need-slice-aggregate-put-edges
-slice-aggregate-put-edges c = search needs
-
-put-edges-requires : tie.Need-put-edges-requires
-put-edges-requires c κs = search needs
-
-slice-aggregate-put-each : tie.Need-slice-aggregate-put-each
-slice-aggregate-put-each c = search needs
-
 put-each-requires : tie.Need-put-each-requires
 put-each-requires c κs =
     let given = start (chords (put c)) .pre in
     let listed = each-fits (given .0) refl (put c .put-edges .ensures) (given .1) in
     (omega (arith, listed .0), omega (arith, listed .1))
-
-same-length : tie.Need-same-length
-same-length c = search needs
 
 returns : tie.Need-returns
 returns c =
@@ -52,11 +34,11 @@ pub put-numbers-spec : {M : Type 1} → statement M
 put-numbers-spec =
     tie.close
     (tie.spec
-    chord-crossings-requires
-    places-of-requires
-    slice-aggregate-put-edges
-    put-edges-requires
-    slice-aggregate-put-each
+    (λ c κs. search needs)
+    (λ c κs. search needs)
+    (λ c. search needs)
+    (λ c κs. search needs)
+    (λ c. search needs)
     put-each-requires
-    same-length
+    (λ c. search needs)
     returns)

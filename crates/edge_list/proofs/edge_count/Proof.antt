@@ -18,12 +18,6 @@ returns c = sym (ap length (listed-many _ _ (c .if1 .taken)))
 loop-holds : tie.Need-loop-holds Inv-loop μ-loop
 loop-holds c = count-none (c .if1 .left)
 
-mul-row-count : tie.Need-mul-row-count Inv-loop μ-loop
-mul-row-count c = omega arith
-
-element-copy-out-row-count : tie.Need-element-copy-out-row-count Inv-loop μ-loop
-element-copy-out-row-count c = omega arith
-
 row-count-requires : tie.Need-row-count-requires Inv-loop μ-loop
 row-count-requires c κs = let turn = c .before in (turn .before .loop .inv .few, turn .loop-test .taken)
 
@@ -32,12 +26,6 @@ add-total c =
     let turn = c .before .before in
     let next = count-next (turn .before .loop .inv) (turn .loop-test .taken) (c .row-count .ensures) in
     omega (arith, next .few, next .inside, next .bounded)
-
-add-a : tie.Need-add-a Inv-loop μ-loop
-add-a c = omega arith
-
-loop-less : tie.Need-loop-less Inv-loop μ-loop
-loop-less c = omega arith
 
 loop-again : tie.Need-loop-again Inv-loop μ-loop
 loop-again c =
@@ -55,11 +43,11 @@ edge-count-spec =
     μ-loop
     returns
     loop-holds
-    mul-row-count
-    element-copy-out-row-count
+    (λ c. omega arith)
+    (λ c. omega arith)
     row-count-requires
     add-total
-    add-a
-    loop-less
+    (λ c. omega arith)
+    (λ c. omega arith)
     loop-again
     returns-2)

@@ -26,18 +26,6 @@ asked c =
 room : (c : tie.Else1) → let s = start (c .before) .args in s .at + 2 * length (listedEdges (s .n) (s .adjacency .now)) ≤ length (s .out .now)
 room c = has-room (asked (c .before)) (c .if1 .left)
 
-edge-count-requires : tie.Need-edge-count-requires
-edge-count-requires c κs = search needs
-
-cast-count : tie.Need-cast-count
-cast-count c = search needs
-
-mul-lacks : tie.Need-mul-lacks
-mul-lacks c = search needs
-
-lacks-requires : tie.Need-lacks-requires
-lacks-requires c κs = search needs
-
 returns : tie.Need-returns
 returns c = put-full _ (no-room (asked (c .before)) (c .if1 .taken))
 
@@ -49,9 +37,6 @@ put-rows-requires : tie.Need-put-rows-requires
 put-rows-requires c κs =
     let tested = c .before in
     (tested .if2 .left, rw (listed-few _ _ (tested .if2 .left)) at (room (tested .before)))
-
-same-length : tie.Need-same-length
-same-length c = search needs
 
 returns-3 : tie.Need-returns-3
 returns-3 c =
@@ -65,12 +50,12 @@ pub put-edges-spec : {M : Type 1} → statement M
 put-edges-spec =
     tie.close
     (tie.spec
-    edge-count-requires
-    cast-count
-    mul-lacks
-    lacks-requires
+    (λ c κs. search needs)
+    (λ c. search needs)
+    (λ c. search needs)
+    (λ c κs. search needs)
     returns
     returns-2
     put-rows-requires
-    same-length
+    (λ c. search needs)
     returns-3)

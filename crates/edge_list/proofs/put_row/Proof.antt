@@ -14,14 +14,8 @@ Inv-loop out₀ at n word a to₀ b₀ out to b = RowPut word a n out₀ at out 
 abbrev μ-loop : tie.MeasureT-loop
 μ-loop out₀ at n word a to₀ b₀ out to b = n - b
 
-add-b : tie.Need-add-b Inv-loop μ-loop
-add-b c = omega arith
-
 loop-holds : tie.Need-loop-holds Inv-loop μ-loop
 loop-holds c = let given = c .before .pre in row-start (given .0) (given .1) (given .2)
-
-is-set-requires : tie.Need-is-set-requires Inv-loop μ-loop
-is-set-requires c κs = search needs
 
 -- there is room for an edge
 room : (c : tie.Then1 Inv-loop μ-loop) → let s = c .before .before .before .loop in s .to + 2 ≤ length (s .out)
@@ -34,14 +28,8 @@ size : (c : tie.Then1 Inv-loop μ-loop)
     → let s = c .before .before .before in length (s .loop .out) ≡ length (s .before .before .args .out .now)
 size c = let turn = c .before .before in row-size (turn .before .loop .inv)
 
-cast-out : tie.Need-cast-out Inv-loop μ-loop
-cast-out c = omega arith
-
 slice-write-out : tie.Need-slice-write-out Inv-loop μ-loop
 slice-write-out c = omega (arith, room c)
-
-cast-out-2 : tie.Need-cast-out-2 Inv-loop μ-loop
-cast-out-2 c = omega arith
 
 add-out : tie.Need-add-out Inv-loop μ-loop
 add-out c = omega (arith, room c, size c)
@@ -51,12 +39,6 @@ slice-write-out-2 c = simp length-set (omega (arith, room c))
 
 add-to : tie.Need-add-to Inv-loop μ-loop
 add-to c = omega (arith, room c, size c)
-
-add-b-2 : tie.Need-add-b-2 Inv-loop μ-loop
-add-b-2 c = omega arith
-
-loop-less : tie.Need-loop-less Inv-loop μ-loop
-loop-less c = omega arith
 
 loop-again : tie.Need-loop-again Inv-loop μ-loop
 loop-again c =
@@ -82,17 +64,17 @@ put-row-spec =
     (tie.spec
     Inv-loop
     μ-loop
-    add-b
+    (λ c. omega arith)
     loop-holds
-    is-set-requires
-    cast-out
+    (λ c κs. search needs)
+    (λ c. omega arith)
     slice-write-out
-    cast-out-2
+    (λ c. omega arith)
     add-out
     slice-write-out-2
     add-to
-    add-b-2
-    loop-less
+    (λ c. omega arith)
+    (λ c. omega arith)
     loop-again
     same-length
     returns)

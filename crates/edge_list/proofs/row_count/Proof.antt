@@ -3,21 +3,6 @@ use Rattle.edge_list.specs.Rows.{RowCounted, row-counted}
 use Rattle.edge_list.proofs.row_count.Statement.{statement}
 use Rattle.edge_list.proofs.row_count.Tie as tie
 
-low-bits-requires : tie.Need-low-bits-requires
-low-bits-requires c κs = search needs
-
-count-requires : tie.Need-count-requires
-count-requires c κs = search needs
-
-add-low-bits : tie.Need-add-low-bits
-add-low-bits c = search needs
-
-low-bits-requires-2 : tie.Need-low-bits-requires-2
-low-bits-requires-2 c κs = search needs
-
-count-requires-2 : tie.Need-count-requires-2
-count-requires-2 c κs = search needs
-
 abbrev start : tie.After-count2 → tie.Start
 start c = c .before .before .before .before
 
@@ -37,10 +22,10 @@ pub row-count-spec : {M : Type 1} → statement M
 row-count-spec =
     tie.close
     (tie.spec
-    low-bits-requires
-    count-requires
-    add-low-bits
-    low-bits-requires-2
-    count-requires-2
+    (λ c κs. search needs)
+    (λ c κs. search needs)
+    (λ c. search needs)
+    (λ c κs. search needs)
+    (λ c κs. search needs)
     sub-result
     returns)

@@ -11,20 +11,11 @@ use Rattle.edges.proofs.add_edge.Tie as tie
 all-words : (s : tie.Start) → length (s .args .l .adjacency) ≡ 64
 all-words s = search needs
 
-add-refusal-requires : tie.Need-add-refusal-requires
-add-refusal-requires c κs = search needs
-
 returns : tie.Need-returns
 unfolding linkOf
 returns c =
     let s = c .before .before .args in
     edge-refused linking (s .l) (s .a) (s .b) (c .before .add-refusal .ensures) (c .if1 .taken)
-
-join-requires : tie.Need-join-requires
-join-requires c κs = search needs
-
-recounted-requires : tie.Need-recounted-requires
-recounted-requires c κs = search needs
 
 returns-2 : tie.Need-returns-2
 unfolding linkOf
@@ -38,4 +29,11 @@ returns-2 c =
     (ends-within withBit (s .l .adjacency) (ends .0) (ends .1) (edited .join .ensures), all-words (accepted .before .before)) (c .recounted .ensures)
 
 pub add-edge-spec : {M : Type 1} → statement M
-add-edge-spec = tie.close (tie.spec add-refusal-requires returns join-requires recounted-requires returns-2)
+add-edge-spec =
+    tie.close
+    (tie.spec
+    (λ c κs. search needs)
+    returns
+    (λ c κs. search needs)
+    (λ c κs. search needs)
+    returns-2)

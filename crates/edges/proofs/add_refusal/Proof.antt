@@ -13,9 +13,6 @@ inside c =
     let s = c .before .before .args in
     first-inside linking (s .l) (s .a) (s .b) (c .before .pair-refusal .ensures) (c .if1 .left)
 
-pair-refusal-requires : tie.Need-pair-refusal-requires
-pair-refusal-requires c κs = search needs
-
 returns : tie.Need-returns
 returns c =
     let s = c .before .before .args in
@@ -26,9 +23,6 @@ mul-is-set c = omega (arith, inside (c .before))
 
 array-read-is-set : tie.Need-array-read-is-set
 array-read-is-set c = inside (c .before)
-
-is-set-requires : tie.Need-is-set-requires
-is-set-requires c κs = search needs
 
 returns-2 : tie.Need-returns-2
 unfolding linked
@@ -45,4 +39,13 @@ returns-3 c =
     last-refusal linking (s .l) (s .a) (s .b) (passed .before .pair-refusal .ensures) (passed .if1 .left) (c .before .is-set .ensures) (c .if2 .left)
 
 pub add-refusal-spec : {M : Type 1} → statement M
-add-refusal-spec = tie.close (tie.spec pair-refusal-requires returns mul-is-set array-read-is-set is-set-requires returns-2 returns-3)
+add-refusal-spec =
+    tie.close
+    (tie.spec
+    (λ c κs. search needs)
+    returns
+    mul-is-set
+    array-read-is-set
+    (λ c κs. search needs)
+    returns-2
+    returns-3)

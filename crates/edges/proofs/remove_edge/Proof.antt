@@ -11,20 +11,11 @@ use Rattle.edges.proofs.remove_edge.Tie as tie
 all-words : (s : tie.Start) → length (s .args .l .adjacency) ≡ 64
 all-words s = search needs
 
-remove-refusal-requires : tie.Need-remove-refusal-requires
-remove-refusal-requires c κs = search needs
-
 returns : tie.Need-returns
 unfolding unlinkOf
 returns c =
     let s = c .before .before .args in
     edge-refused unlinking (s .l) (s .a) (s .b) (c .before .remove-refusal .ensures) (c .if1 .taken)
-
-part-requires : tie.Need-part-requires
-part-requires c κs = search needs
-
-recounted-requires : tie.Need-recounted-requires
-recounted-requires c κs = search needs
 
 returns-2 : tie.Need-returns-2
 unfolding unlinkOf
@@ -38,4 +29,11 @@ returns-2 c =
     (ends-within withoutBit (s .l .adjacency) (ends .0) (ends .1) (edited .part .ensures), all-words (accepted .before .before)) (c .recounted .ensures)
 
 pub remove-edge-spec : {M : Type 1} → statement M
-remove-edge-spec = tie.close (tie.spec remove-refusal-requires returns part-requires recounted-requires returns-2)
+remove-edge-spec =
+    tie.close
+    (tie.spec
+    (λ c κs. search needs)
+    returns
+    (λ c κs. search needs)
+    (λ c κs. search needs)
+    returns-2)

@@ -8,36 +8,6 @@ use Rattle.laws.specs.Sums.Bits.{set-within}
 use Rattle.ends.proofs.join.Statement.{statement}
 use Rattle.ends.proofs.join.Tie as tie
 
-mul-set : tie.Need-mul-set
-mul-set c = search needs
-
-element-copy-out-set : tie.Need-element-copy-out-set
-element-copy-out-set c = search needs
-
-set-requires : tie.Need-set-requires
-set-requires c κs = search needs
-
-mul-set-2 : tie.Need-mul-set-2
-mul-set-2 c = search needs
-
-element-copy-out-set-2 : tie.Need-element-copy-out-set-2
-element-copy-out-set-2 c = search needs
-
-set-requires-2 : tie.Need-set-requires-2
-set-requires-2 c κs = search needs
-
-mul-adjacency : tie.Need-mul-adjacency
-mul-adjacency c = search needs
-
-element-write-adjacency : tie.Need-element-write-adjacency
-element-write-adjacency c = search needs
-
-mul-adjacency-2 : tie.Need-mul-adjacency-2
-mul-adjacency-2 c = search needs
-
-element-write-adjacency-2 : tie.Need-element-write-adjacency-2
-element-write-adjacency-2 c = search needs
-
 returns : tie.Need-returns
 unfolding atBothEnds
 returns c =
@@ -50,14 +20,14 @@ pub join-spec : {M : Type 1} → statement M
 join-spec =
     tie.close
     (tie.spec
-    mul-set
-    element-copy-out-set
-    set-requires
-    mul-set-2
-    element-copy-out-set-2
-    set-requires-2
-    mul-adjacency
-    element-write-adjacency
-    mul-adjacency-2
-    element-write-adjacency-2
+    (λ c. search needs)
+    (λ c. search needs)
+    (λ c κs. search needs)
+    (λ c. search needs)
+    (λ c. search needs)
+    (λ c κs. search needs)
+    (λ c. search needs)
+    (λ c. search needs)
+    (λ c. search needs)
+    (λ c. search needs)
     returns)

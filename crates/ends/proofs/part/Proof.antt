@@ -6,36 +6,6 @@ use Rattle.model.specs.Edits.{atBothEnds}
 use Rattle.ends.proofs.part.Statement.{statement}
 use Rattle.ends.proofs.part.Tie as tie
 
-mul-clear : tie.Need-mul-clear
-mul-clear c = search needs
-
-element-copy-out-clear : tie.Need-element-copy-out-clear
-element-copy-out-clear c = search needs
-
-clear-requires : tie.Need-clear-requires
-clear-requires c κs = search needs
-
-mul-clear-2 : tie.Need-mul-clear-2
-mul-clear-2 c = search needs
-
-element-copy-out-clear-2 : tie.Need-element-copy-out-clear-2
-element-copy-out-clear-2 c = search needs
-
-clear-requires-2 : tie.Need-clear-requires-2
-clear-requires-2 c κs = search needs
-
-mul-adjacency : tie.Need-mul-adjacency
-mul-adjacency c = search needs
-
-element-write-adjacency : tie.Need-element-write-adjacency
-element-write-adjacency c = search needs
-
-mul-adjacency-2 : tie.Need-mul-adjacency-2
-mul-adjacency-2 c = search needs
-
-element-write-adjacency-2 : tie.Need-element-write-adjacency-2
-element-write-adjacency-2 c = search needs
-
 returns : tie.Need-returns
 unfolding atBothEnds
 returns c =
@@ -48,14 +18,14 @@ pub part-spec : {M : Type 1} → statement M
 part-spec =
     tie.close
     (tie.spec
-    mul-clear
-    element-copy-out-clear
-    clear-requires
-    mul-clear-2
-    element-copy-out-clear-2
-    clear-requires-2
-    mul-adjacency
-    element-write-adjacency
-    mul-adjacency-2
-    element-write-adjacency-2
+    (λ c. search needs)
+    (λ c. search needs)
+    (λ c κs. search needs)
+    (λ c. search needs)
+    (λ c. search needs)
+    (λ c κs. search needs)
+    (λ c. search needs)
+    (λ c. search needs)
+    (λ c. search needs)
+    (λ c. search needs)
     returns)

@@ -16,21 +16,6 @@ found c = c .before .before .before .before
 abbrev input : tie.After-size-length → List ℕ
 input c = found c .before .before .args .bytes .now
 
-find-size-requires : tie.Need-find-size-requires
-find-size-requires c κs = search needs
-
-enum-known-found : tie.Need-enum-known-found
-enum-known-found c = search needs
-
-enum-told : tie.Need-enum-told
-enum-told c = search needs
-
-size-code-requires : tie.Need-size-code-requires
-size-code-requires c κs = search needs
-
-refused-requires : tie.Need-refused-requires
-refused-requires c κs = search needs
-
 returns : tie.Need-returns
 returns c =
     let told = c .before .before in
@@ -45,17 +30,11 @@ sized c = size-read (c .before .before .found .given .1) (found c .find-size .en
 there : (c : tie.After-size-length) → c .size-length .result ≤ length (input c)
 there c = omega (arith, c .size-length .ensures, sized c .inside)
 
-size-length-requires : tie.Need-size-length-requires
-size-length-requires c κs = search needs
-
 sub-import-bits : tie.Need-sub-import-bits
 sub-import-bits c = there c
 
 part-import-bits-start : tie.Need-part-import-bits-start
 part-import-bits-start c = let fits = there c in search needs
-
-part-import-bits-end : tie.Need-part-import-bits-end
-part-import-bits-end c = search needs
 
 import-bits-requires : tie.Need-import-bits-requires
 import-bits-requires c κs = omega (arith, sized (c .before) .small)
@@ -69,15 +48,15 @@ pub import-spec : {M : Type 1} → statement M
 import-spec =
     tie.close
     (tie.spec
-    find-size-requires
-    enum-known-found
-    enum-told
-    size-code-requires
-    refused-requires
+    (λ c κs. search needs)
+    (λ c. search needs)
+    (λ c. search needs)
+    (λ c κs. search needs)
+    (λ c κs. search needs)
     returns
-    size-length-requires
+    (λ c κs. search needs)
     sub-import-bits
     part-import-bits-start
-    part-import-bits-end
+    (λ c. search needs)
     import-bits-requires
     returns-2)

@@ -26,12 +26,6 @@ cast-order c = omega (arith, few c)
 array-write-order : tie.Need-array-write-order Inv-loop μ-loop
 array-write-order c = omega (arith, few c)
 
-add-v : tie.Need-add-v Inv-loop μ-loop
-add-v c = omega arith
-
-loop-less : tie.Need-loop-less Inv-loop μ-loop
-loop-less c = omega arith
-
 loop-again : tie.Need-loop-again Inv-loop μ-loop
 loop-again c = let inv = c .before .loop .inv in made-next inv (c .loop-test .taken) (one-placed (omega (arith, few c)) (inv .made))
 
@@ -47,7 +41,7 @@ rising-order-spec =
     loop-holds
     cast-order
     array-write-order
-    add-v
-    loop-less
+    (λ c. omega arith)
+    (λ c. omega arith)
     loop-again
     returns)

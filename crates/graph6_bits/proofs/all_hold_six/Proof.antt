@@ -18,12 +18,6 @@ abbrev μ-loop : tie.MeasureT-loop
 loop-holds : tie.Need-loop-holds Inv-loop μ-loop
 loop-holds c = passed-start
 
-shared-slice-read-holds-six : tie.Need-shared-slice-read-holds-six Inv-loop μ-loop
-shared-slice-read-holds-six c = omega arith
-
-holds-six-requires : tie.Need-holds-six-requires Inv-loop μ-loop
-holds-six-requires c κs = search needs
-
 -- the turn of the loop that a byte is asked in
 abbrev turn : tie.After-holds-six Inv-loop μ-loop → tie.In-loop Inv-loop μ-loop
 turn c = c .before .before
@@ -33,12 +27,6 @@ returns c =
     let asked = c .before in
     let at = turn asked in
     sym (passed-not (at .before .loop .inv) 0 (at .loop-test .taken) (test-failed (asked .holds-six .ensures) (c .if1 .taken)))
-
-add-i : tie.Need-add-i Inv-loop μ-loop
-add-i c = omega arith
-
-loop-less : tie.Need-loop-less Inv-loop μ-loop
-loop-less c = omega arith
 
 loop-again : tie.Need-loop-again Inv-loop μ-loop
 loop-again c =
@@ -56,10 +44,10 @@ all-hold-six-spec =
     Inv-loop
     μ-loop
     loop-holds
-    shared-slice-read-holds-six
-    holds-six-requires
+    (λ c. omega arith)
+    (λ c κs. search needs)
     returns
-    add-i
-    loop-less
+    (λ c. omega arith)
+    (λ c. omega arith)
     loop-again
     returns-2)

@@ -8,20 +8,11 @@ use Rattle.graph6_bits.proofs.bit_at.Tie as tie
 returns : tie.Need-returns
 returns c = bit-behind _ _ (c .if1 .taken)
 
-shared-slice-read-byte : tie.Need-shared-slice-read-byte
-shared-slice-read-byte c = search needs
-
 returns-2 : tie.Need-returns-2
 returns-2 c = bit-low _ _ (c .before .before .if1 .left) (c .if2 .taken)
 
 cast-is-set : tie.Need-cast-is-set
 cast-is-set c = omega (arith, c .before .shared-slice-known2 .given (c .before .before .before .before .args .k / 6))
-
-sub-is-set : tie.Need-sub-is-set
-sub-is-set c = search needs
-
-is-set-requires : tie.Need-is-set-requires
-is-set-requires c κs = search needs
 
 returns-3 : tie.Need-returns-3
 returns-3 c = bit-there _ _ (c .before .before .before .if1 .left) (c .is-set .ensures)
@@ -29,11 +20,4 @@ returns-3 c = bit-there _ _ (c .before .before .before .if1 .left) (c .is-set .e
 pub bit-at-spec : {M : Type 1} → statement M
 bit-at-spec =
     tie.close
-    (tie.spec
-    returns
-    shared-slice-read-byte
-    returns-2
-    cast-is-set
-    sub-is-set
-    is-set-requires
-    returns-3)
+    (tie.spec returns (λ c. search needs) returns-2 cast-is-set (λ c. search needs) (λ c κs. search needs) returns-3)

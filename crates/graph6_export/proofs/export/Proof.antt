@@ -12,20 +12,8 @@ use Rattle.graph6_export.specs.Parts.{counted, counted-is, parts-long, p
 use Rattle.graph6_export.proofs.export.Statement.{statement}
 use Rattle.graph6_export.proofs.export.Tie as tie
 
-size-length-requires : tie.Need-size-length-requires
-size-length-requires c κs = search needs
-
-data-length-requires : tie.Need-data-length-requires
-data-length-requires c κs = search needs
-
 add-length : tie.Need-add-length
 add-length c = omega (arith, parts-few _ (c .before .size-length .ensures) (c .data-length .ensures))
-
-is-valid-requires : tie.Need-is-valid-requires
-is-valid-requires c κs = search needs
-
-write-refusal-requires : tie.Need-write-refusal-requires
-write-refusal-requires c κs = search needs
 
 -- what the call has asked, from where both lengths are known
 abbrev start : tie.After-data-length → tie.Start
@@ -58,9 +46,6 @@ put-graph-requires c κs =
     let passed = c .before .before in
     fits (asked (passed .before)) (passed .if1 .left) (parts (passed .before))
 
-same-length : tie.Need-same-length
-same-length c = search needs
-
 returns-2 : tie.Need-returns-2
 returns-2 c =
     let put = c .before .before in
@@ -71,12 +56,12 @@ pub export-spec : {M : Type 1} → statement M
 export-spec =
     tie.close
     (tie.spec
-    size-length-requires
-    data-length-requires
+    (λ c κs. search needs)
+    (λ c κs. search needs)
     add-length
-    is-valid-requires
-    write-refusal-requires
+    (λ c κs. search needs)
+    (λ c κs. search needs)
     returns
     put-graph-requires
-    same-length
+    (λ c. search needs)
     returns-2)

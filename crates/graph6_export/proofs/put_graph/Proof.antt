@@ -7,15 +7,6 @@ use Rattle.graph6_export.specs.Parts.{data-inside, parts-put}
 use Rattle.graph6_export.proofs.put_graph.Statement.{statement}
 use Rattle.graph6_export.proofs.put_graph.Tie as tie
 
-put-size-requires : tie.Need-put-size-requires
-put-size-requires c κs = search needs
-
-pack-pairs-requires : tie.Need-pack-pairs-requires
-pack-pairs-requires c κs = search needs
-
-data-length-requires : tie.Need-data-length-requires
-data-length-requires c κs = search needs
-
 -- the bytes of the pairs are among those of the array
 inside : (c : tie.After-data-length) → c .data-length .result ≤ length (c .before .pack-pairs .result)
 inside c = data-inside _ (c .data-length .ensures) _ (c .before .pack-pairs .ensures)
@@ -25,12 +16,6 @@ array-share-prefix-bytes c = inside (c .before)
 
 slice-aggregate-put-text : tie.Need-slice-aggregate-put-text
 slice-aggregate-put-text c = sym (length-take-le _ _ (inside (c .before .before)))
-
-put-text-requires : tie.Need-put-text-requires
-put-text-requires c κs = search needs
-
-same-length : tie.Need-same-length
-same-length c = search needs
 
 returns : tie.Need-returns
 returns c =
@@ -46,11 +31,11 @@ pub put-graph-spec : {M : Type 1} → statement M
 put-graph-spec =
     tie.close
     (tie.spec
-    put-size-requires
-    pack-pairs-requires
-    data-length-requires
+    (λ c κs. search needs)
+    (λ c κs. search needs)
+    (λ c κs. search needs)
     array-share-prefix-bytes
     slice-aggregate-put-text
-    put-text-requires
-    same-length
+    (λ c κs. search needs)
+    (λ c. search needs)
     returns)

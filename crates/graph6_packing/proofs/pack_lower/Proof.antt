@@ -14,17 +14,11 @@ abbrev μ-loop : tie.MeasureT-loop
 loop-holds : tie.Need-loop-holds Inv-loop μ-loop
 loop-holds c = let s = c .pre in lower-start (s .0) (s .1)
 
-pair-place-requires : tie.Need-pair-place-requires Inv-loop μ-loop
-pair-place-requires c κs = search needs
-
 mul-is-set : tie.Need-mul-is-set Inv-loop μ-loop
 mul-is-set c = omega (arith, c .before .before .loop .inv .few)
 
 element-copy-out-is-set : tie.Need-element-copy-out-is-set Inv-loop μ-loop
 element-copy-out-is-set c = omega (arith, c .before .before .loop .inv .few)
-
-is-set-requires : tie.Need-is-set-requires Inv-loop μ-loop
-is-set-requires c κs = search needs
 
 -- where the place of a pair is known, in a turn of the loop
 abbrev placed : tie.After-is-set Inv-loop μ-loop → tie.After-pair-place Inv-loop μ-loop
@@ -37,12 +31,6 @@ pack-bit-requires c κs =
     let inv = at .before .loop .inv in
     let place = there .pair-place .ensures in
     (place-few inv (at .loop-test .taken) place, place-free inv (at .loop-test .taken) place)
-
-add-a : tie.Need-add-a Inv-loop μ-loop
-add-a c = omega arith
-
-loop-less : tie.Need-loop-less Inv-loop μ-loop
-loop-less c = omega arith
 
 loop-again : tie.Need-loop-again Inv-loop μ-loop
 loop-again c =
@@ -61,12 +49,12 @@ pack-lower-spec =
     Inv-loop
     μ-loop
     loop-holds
-    pair-place-requires
+    (λ c κs. search needs)
     mul-is-set
     element-copy-out-is-set
-    is-set-requires
+    (λ c κs. search needs)
     pack-bit-requires
-    add-a
-    loop-less
+    (λ c. omega arith)
+    (λ c. omega arith)
     loop-again
     returns)

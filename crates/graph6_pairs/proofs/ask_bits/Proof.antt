@@ -8,24 +8,12 @@ use Rattle.graph6_pairs.specs.Questions.{another-length, right-length}
 use Rattle.graph6_pairs.proofs.ask_bits.Statement.{statement}
 use Rattle.graph6_pairs.proofs.ask_bits.Tie as tie
 
-data-length-requires : tie.Need-data-length-requires
-data-length-requires c κs = search needs
-
 returns : tie.Need-returns
 returns c = another-length _ _ (λ e. omega (arith, c .before .data-length .ensures, c .if1 .taken))
-
-all-hold-six-requires : tie.Need-all-hold-six-requires
-all-hold-six-requires c κs = search needs
 
 -- the bytes are as many as the pairs take
 long : (c : tie.Else1) → let s = c .before .before .before .args in length (s .bytes .now) ≡ bytesFor (length (pairsByHigher (min (s .n) 64)))
 long c = omega (arith, c .before .data-length .ensures, c .if1 .left)
-
-is-padded-requires : tie.Need-is-padded-requires
-is-padded-requires c κs = search needs
-
-answer-of-requires : tie.Need-answer-of-requires
-answer-of-requires c κs = search needs
 
 returns-2 : tie.Need-returns-2
 returns-2 c =
@@ -39,9 +27,9 @@ pub ask-bits-spec : {M : Type 1} → statement M
 ask-bits-spec =
     tie.close
     (tie.spec
-    data-length-requires
-    all-hold-six-requires
-    is-padded-requires
-    answer-of-requires
+    (λ c κs. search needs)
+    (λ c κs. search needs)
+    (λ c κs. search needs)
+    (λ c κs. search needs)
     returns
     returns-2)

@@ -6,9 +6,6 @@ use Rattle.model.specs.Graph6.{bytesFor}
 use Rattle.graph6_pairs.proofs.data_length.Statement.{statement}
 use Rattle.graph6_pairs.proofs.data_length.Tie as tie
 
-pair-count-requires : tie.Need-pair-count-requires
-pair-count-requires c κs = search needs
-
 add-result : tie.Need-add-result
 add-result c = omega (arith, c .pair-count .ensures .1)
 
@@ -17,4 +14,4 @@ unfolding bytesFor
 returns c = ap (λ (k : ℕ). (k + 5) / 6) (c .pair-count .ensures .0)
 
 pub data-length-spec : {M : Type 1} → statement M
-data-length-spec = tie.close (tie.spec pair-count-requires add-result returns)
+data-length-spec = tie.close (tie.spec (λ c κs. search needs) add-result returns)

@@ -14,14 +14,8 @@ Inv-loop n bytes k₀ k = PaddedUpTo (length (pairsByHigher (min n 64))) bytes k
 abbrev μ-loop : tie.MeasureT-loop
 μ-loop n bytes k₀ k = 2022 - k
 
-pair-count-requires : tie.Need-pair-count-requires Inv-loop μ-loop
-pair-count-requires c κs = search needs
-
 loop-holds : tie.Need-loop-holds Inv-loop μ-loop
 loop-holds c = let counted = c .pair-count .ensures in padded-start (omega (arith, counted .0, counted .1)) (counted .0)
-
-bit-at-requires : tie.Need-bit-at-requires Inv-loop μ-loop
-bit-at-requires c κs = search needs
 
 -- the turn of the loop that a bit is asked in
 abbrev turn : tie.After-bit-at Inv-loop μ-loop → tie.In-loop Inv-loop μ-loop
@@ -54,9 +48,9 @@ is-padded-spec =
     (tie.spec
     Inv-loop
     μ-loop
-    pair-count-requires
+    (λ c κs. search needs)
     loop-holds
-    bit-at-requires
+    (λ c κs. search needs)
     returns
     add-k
     loop-less

@@ -14,21 +14,6 @@ abbrev μ-loop : tie.MeasureT-loop
 loop-holds : tie.Need-loop-holds Inv-loop μ-loop
 loop-holds c = lower-start (c .before .pre .1)
 
-pair-place-requires : tie.Need-pair-place-requires Inv-loop μ-loop
-pair-place-requires c κs = search needs
-
-bit-at-requires : tie.Need-bit-at-requires Inv-loop μ-loop
-bit-at-requires c κs = search needs
-
-join-pair-requires : tie.Need-join-pair-requires Inv-loop μ-loop
-join-pair-requires c κs = search needs
-
-add-a : tie.Need-add-a Inv-loop μ-loop
-add-a c = omega arith
-
-loop-less : tie.Need-loop-less Inv-loop μ-loop
-loop-less c = omega arith
-
 loop-again : tie.Need-loop-again Inv-loop μ-loop
 loop-again c =
     let asked = c .before .before in
@@ -47,10 +32,10 @@ join-lower-spec =
     Inv-loop
     μ-loop
     loop-holds
-    pair-place-requires
-    bit-at-requires
-    join-pair-requires
-    add-a
-    loop-less
+    (λ c κs. search needs)
+    (λ c κs. search needs)
+    (λ c κs. search needs)
+    (λ c. omega arith)
+    (λ c. omega arith)
     loop-again
     returns)

@@ -14,9 +14,6 @@ Inv-loop n bytes few adjacency₀ b₀ adjacency b = MadeUpTo (λ k. adjacencyOf
 abbrev μ-loop : tie.MeasureT-loop
 μ-loop n bytes few adjacency₀ b₀ adjacency b = few - b
 
-at-most-64-requires : tie.Need-at-most-64-requires Inv-loop μ-loop
-at-most-64-requires c κs = search needs
-
 loop-holds : tie.Need-loop-holds Inv-loop μ-loop
 loop-holds c = made-start _ (none-joined _)
 
@@ -25,12 +22,6 @@ join-lower-requires c κs =
     let at = c .before in
     let few = at .before .before .at-most-64 .ensures in
     (omega arith, at .before .loop .inv .made)
-
-add-b : tie.Need-add-b Inv-loop μ-loop
-add-b c = omega arith
-
-loop-less : tie.Need-loop-less Inv-loop μ-loop
-loop-less c = omega arith
 
 loop-again : tie.Need-loop-again Inv-loop μ-loop
 loop-again c = let at = c .before .before in made-next (at .before .loop .inv) (at .loop-test .taken) (c .join-lower .ensures)
@@ -44,10 +35,10 @@ join-pairs-spec =
     (tie.spec
     Inv-loop
     μ-loop
-    at-most-64-requires
+    (λ c κs. search needs)
     loop-holds
     join-lower-requires
-    add-b
-    loop-less
+    (λ c. omega arith)
+    (λ c. omega arith)
     loop-again
     returns)

@@ -8,9 +8,6 @@ use Rattle.laws.specs.Graph6.Pairs.{pairs-twice, pairs-length, pairs-most}
 use Rattle.graph6_pairs.proofs.pair_count.Statement.{statement}
 use Rattle.graph6_pairs.proofs.pair_count.Tie as tie
 
-at-most-64-requires : tie.Need-at-most-64-requires
-at-most-64-requires c κs = search needs
-
 -- so many pairs at most
 few : (c : tie.After-at-most-64) → length (pairsByHigher (c .at-most-64 .result)) ≤ 2016
 few c = pairs-most (omega (arith, c .at-most-64 .ensures))
@@ -29,4 +26,4 @@ returns c =
     (counted ∙ ap (λ (k : ℕ). length (pairsByHigher k)) (c .at-most-64 .ensures), omega (arith, few c))
 
 pub pair-count-spec : {M : Type 1} → statement M
-pair-count-spec = tie.close (tie.spec at-most-64-requires mul-result sub-result returns)
+pair-count-spec = tie.close (tie.spec (λ c κs. search needs) mul-result sub-result returns)

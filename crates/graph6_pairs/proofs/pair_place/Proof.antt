@@ -5,9 +5,6 @@ use mathlib.Core.Path.{ap}
 use Rattle.graph6_pairs.proofs.pair_place.Statement.{statement}
 use Rattle.graph6_pairs.proofs.pair_place.Tie as tie
 
-pair-count-requires : tie.Need-pair-count-requires
-pair-count-requires c κs = search needs
-
 add-result : tie.Need-add-result
 add-result c = omega (arith, c .pair-count .ensures .1)
 
@@ -15,4 +12,4 @@ returns : tie.Need-returns
 returns c = ap (λ (k : ℕ). k + c .before .args .a % 64) (c .pair-count .ensures .0)
 
 pub pair-place-spec : {M : Type 1} → statement M
-pair-place-spec = tie.close (tie.spec pair-count-requires add-result returns)
+pair-place-spec = tie.close (tie.spec (λ c κs. search needs) add-result returns)

@@ -10,30 +10,12 @@ returns : tie.Need-returns
 unfolding sizeFound
 returns c = no-bytes _ (c .if1 .taken)
 
-shared-slice-read-first : tie.Need-shared-slice-read-first
-shared-slice-read-first c = search needs
-
-short-size-requires : tie.Need-short-size-requires
-short-size-requires c κs = search needs
-
 returns-2 : tie.Need-returns-2
 returns-2 c = c .short-size .ensures ∙ one-byte _ (omega (arith, c .before .before .before .if1 .left)) (c .before .if2 .taken)
 
 returns-3 : tie.Need-returns-3
 unfolding sizeFound
 returns-3 c = cut-short _ (c .before .if2 .left) (c .if3 .taken)
-
-shared-slice-read-long-size : tie.Need-shared-slice-read-long-size
-shared-slice-read-long-size c = search needs
-
-shared-slice-read-long-size-2 : tie.Need-shared-slice-read-long-size-2
-shared-slice-read-long-size-2 c = search needs
-
-shared-slice-read-long-size-3 : tie.Need-shared-slice-read-long-size-3
-shared-slice-read-long-size-3 c = search needs
-
-long-size-requires : tie.Need-long-size-requires
-long-size-requires c κs = search needs
 
 returns-4 : tie.Need-returns-4
 returns-4 c =
@@ -46,12 +28,12 @@ find-size-spec =
     tie.close
     (tie.spec
     returns
-    shared-slice-read-first
-    short-size-requires
+    (λ c. search needs)
+    (λ c κs. search needs)
     returns-2
     returns-3
-    shared-slice-read-long-size
-    shared-slice-read-long-size-2
-    shared-slice-read-long-size-3
-    long-size-requires
+    (λ c. search needs)
+    (λ c. search needs)
+    (λ c. search needs)
+    (λ c κs. search needs)
     returns-4)

@@ -14,17 +14,11 @@ returns : tie.Need-returns
 unfolding sizeFound
 returns c = long-refused (λ n many few h m l. omega (arith, c .if1 .taken))
 
-holds-six-requires : tie.Need-holds-six-requires
-holds-six-requires c κs = search needs
-
 returns-2 : tie.Need-returns-2
 unfolding sizeFound
 returns-2 c =
     let failed = test-failed (c .before .holds-six .ensures) (c .if2 .taken) in
     long-refused (λ n many few h m l. true≢false (sym (within-six (omega arith) (omega arith)) ∙ failed))
-
-holds-six-requires-2 : tie.Need-holds-six-requires-2
-holds-six-requires-2 c κs = search needs
 
 returns-3 : tie.Need-returns-3
 unfolding sizeFound
@@ -44,14 +38,8 @@ six c =
 sub-n : tie.Need-sub-n
 sub-n c = six c .0 .0
 
-mul-n : tie.Need-mul-n
-mul-n c = search needs
-
 sub-n-2 : tie.Need-sub-n-2
 sub-n-2 c = six c .1 .0
-
-add-n : tie.Need-add-n
-add-n c = search needs
 
 returns-4 : tie.Need-returns-4
 unfolding sizeFound
@@ -75,14 +63,14 @@ long-size-spec =
     tie.close
     (tie.spec
     returns
-    holds-six-requires
+    (λ c κs. search needs)
     returns-2
-    holds-six-requires-2
+    (λ c κs. search needs)
     returns-3
     sub-n
-    mul-n
+    (λ c. search needs)
     sub-n-2
-    add-n
+    (λ c. search needs)
     returns-4
     returns-5
     returns-6)

@@ -13,12 +13,9 @@ returns-2 : tie.Need-returns-2
 unfolding sizeFound
 returns-2 c = short-high (omega (arith, c .if2 .taken))
 
-cast-t4 : tie.Need-cast-t4
-cast-t4 c = search needs
-
 returns-3 : tie.Need-returns-3
 unfolding sizeFound
 returns-3 c = short-found (omega (arith, c .before .if1 .left)) (omega (arith, c .if2 .left))
 
 pub short-size-spec : {M : Type 1} → statement M
-short-size-spec = tie.close (tie.spec returns returns-2 cast-t4 returns-3)
+short-size-spec = tie.close (tie.spec returns returns-2 (λ c. search needs) returns-3)

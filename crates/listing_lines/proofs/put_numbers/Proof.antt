@@ -13,17 +13,11 @@ start c = c .before .before
 room : (c : tie.Else1) → let s = start (c .before) .args in s .at + 150 ≤ length (s .out .now)
 room c = has-room (c .before .lacks .ensures) (c .if1 .left)
 
-lacks-requires : tie.Need-lacks-requires
-lacks-requires c κs = search needs
-
 returns : tie.Need-returns
 returns c = put-full _ (no-room (c .before .lacks .ensures) (c .if1 .taken))
 
 five-lines-requires : tie.Need-five-lines-requires
 five-lines-requires c κs = room (c .before)
-
-same-length : tie.Need-same-length
-same-length c = search needs
 
 returns-2 : tie.Need-returns-2
 returns-2 c =
@@ -33,4 +27,4 @@ returns-2 c =
 
 pub put-numbers-spec : {M : Type 1} → statement M
 put-numbers-spec =
-    tie.close (tie.spec lacks-requires returns five-lines-requires same-length returns-2)
+    tie.close (tie.spec (λ c κs. search needs) returns five-lines-requires (λ c. search needs) returns-2)

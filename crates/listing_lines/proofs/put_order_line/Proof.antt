@@ -16,23 +16,11 @@ room c = has-room (c .before .lacks .ensures) (c .if2 .left)
 returns : tie.Need-returns
 returns c = put-full _ (omega arith)
 
-mul-lacks : tie.Need-mul-lacks
-mul-lacks c = search needs
-
-add-lacks : tie.Need-add-lacks
-add-lacks c = search needs
-
-lacks-requires : tie.Need-lacks-requires
-lacks-requires c κs = search needs
-
 returns-2 : tie.Need-returns-2
 returns-2 c = put-full _ (no-room (c .before .lacks .ensures) (c .if2 .taken))
 
 order-line-requires : tie.Need-order-line-requires
 order-line-requires c κs = omega (arith, room (c .before))
-
-same-length : tie.Need-same-length
-same-length c = search needs
 
 returns-3 : tie.Need-returns-3
 returns-3 c =
@@ -45,10 +33,10 @@ put-order-line-spec =
     tie.close
     (tie.spec
     returns
-    mul-lacks
-    add-lacks
-    lacks-requires
+    (λ c. search needs)
+    (λ c. search needs)
+    (λ c κs. search needs)
     returns-2
     order-line-requires
-    same-length
+    (λ c. search needs)
     returns-3)

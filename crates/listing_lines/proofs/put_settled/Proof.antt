@@ -15,26 +15,8 @@ start c = c .before .before
 room : (c : tie.Else1) → let s = start (c .before) .args in s .at + 12 ≤ length (s .out .now)
 room c = has-room (c .before .lacks .ensures) (c .if1 .left)
 
-lacks-requires : tie.Need-lacks-requires
-lacks-requires c κs = search needs
-
 returns : tie.Need-returns
 returns c = put-full _ (no-room (c .before .lacks .ensures) (c .if1 .taken))
-
-slice-aggregate-put-text : tie.Need-slice-aggregate-put-text
-slice-aggregate-put-text c = search needs
-
-put-text-requires : tie.Need-put-text-requires
-put-text-requires c κs = search needs
-
-slice-aggregate-put-text-2 : tie.Need-slice-aggregate-put-text-2
-slice-aggregate-put-text-2 c = search needs
-
-put-text-requires-2 : tie.Need-put-text-requires-2
-put-text-requires-2 c κs = search needs
-
-same-length : tie.Need-same-length
-same-length c = search needs
 
 returns-2 : tie.Need-returns-2
 unfolding line text upto
@@ -43,9 +25,6 @@ returns-2 c =
     let yes = put .before .before .before in
     let h = room (yes .before) in
     rw (yes .if2 .taken) (put-fits h (omega arith) (put .put-text .ensures .fits (omega (arith, h))))
-
-same-length-2 : tie.Need-same-length-2
-same-length-2 c = search needs
 
 returns-3 : tie.Need-returns-3
 unfolding line text upto
@@ -59,13 +38,13 @@ pub put-settled-spec : {M : Type 1} → statement M
 put-settled-spec =
     tie.close
     (tie.spec
-    lacks-requires
+    (λ c κs. search needs)
     returns
-    slice-aggregate-put-text
-    put-text-requires
-    slice-aggregate-put-text-2
-    put-text-requires-2
-    same-length
+    (λ c. search needs)
+    (λ c κs. search needs)
+    (λ c. search needs)
+    (λ c κs. search needs)
+    (λ c. search needs)
     returns-2
-    same-length-2
+    (λ c. search needs)
     returns-3)

@@ -16,9 +16,6 @@ abbrev μ-loop : tie.MeasureT-loop
 loop-holds : tie.Need-loop-holds Inv-loop μ-loop
 loop-holds c = seen-none
 
-shared-slice-read-v : tie.Need-shared-slice-read-v Inv-loop μ-loop
-shared-slice-read-v c = omega arith
-
 cast-v : tie.Need-cast-v Inv-loop μ-loop
 cast-v c = omega (arith, c .shared-slice-known2 .given (c .before .before .loop .p))
 
@@ -27,23 +24,11 @@ returns c =
     let turn = c .before .before in
     not-a-vertex (omega arith) (turn .before .loop .inv) (turn .loop-test .taken) (c .if1 .taken)
 
-is-set-requires : tie.Need-is-set-requires Inv-loop μ-loop
-is-set-requires c κs = search needs
-
 returns-2 : tie.Need-returns-2 Inv-loop μ-loop
 returns-2 c =
     let vertex = c .before .before in
     let turn = vertex .before .before in
     seen-again (omega arith) (turn .before .loop .inv) (turn .loop-test .taken) refl (vertex .if1 .left) (sym (c .before .is-set .ensures) ∙ c .if2 .taken)
-
-set-requires : tie.Need-set-requires Inv-loop μ-loop
-set-requires c κs = search needs
-
-add-p : tie.Need-add-p Inv-loop μ-loop
-add-p c = omega arith
-
-loop-less : tie.Need-loop-less Inv-loop μ-loop
-loop-less c = omega arith
 
 loop-again : tie.Need-loop-again Inv-loop μ-loop
 loop-again c =
@@ -63,13 +48,13 @@ each-once-spec =
     Inv-loop
     μ-loop
     loop-holds
-    shared-slice-read-v
+    (λ c. omega arith)
     cast-v
     returns
-    is-set-requires
+    (λ c κs. search needs)
     returns-2
-    set-requires
-    add-p
-    loop-less
+    (λ c κs. search needs)
+    (λ c. omega arith)
+    (λ c. omega arith)
     loop-again
     returns-3)

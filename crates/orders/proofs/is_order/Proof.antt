@@ -10,11 +10,8 @@ returns c = rw (lt-leb (c .before .before .args .n) 64 (c .if1 .taken))
 returns-2 : tie.Need-returns-2
 returns-2 c = let a = c .before .before .before .args in rw (le-leb (a .n) 64 (c .before .if1 .left)) (too-short (a .n) (a .bytes .now) (c .if2 .taken))
 
-each-once-requires : tie.Need-each-once-requires
-each-once-requires c κs = search needs
-
 returns-3 : tie.Need-returns-3
 returns-3 c = let short = c .before in rw (le-leb (short .before .before .before .args .n) 64 (short .before .if1 .left)) (c .each-once .ensures)
 
 pub is-order-spec : {M : Type 1} → statement M
-is-order-spec = tie.close (tie.spec returns returns-2 each-once-requires returns-3)
+is-order-spec = tie.close (tie.spec returns returns-2 (λ c κs. search needs) returns-3)

@@ -25,20 +25,8 @@ returns-2 c = rw (lt-ltb _ _ (c .before .if1 .left), le-ltb _ _ (c .if2 .taken))
 loop-holds : tie.Need-loop-holds Inv-loop μ-loop
 loop-holds c = filled-start (search needs)
 
-moved-from-requires : tie.Need-moved-from-requires Inv-loop μ-loop
-moved-from-requires c κs = omega arith
-
 array-read-next : tie.Need-array-read-next Inv-loop μ-loop
 array-read-next c = c .moved-from .ensures .1
-
-array-write-next : tie.Need-array-write-next Inv-loop μ-loop
-array-write-next c = omega arith
-
-add-i : tie.Need-add-i Inv-loop μ-loop
-add-i c = omega arith
-
-loop-less : tie.Need-loop-less Inv-loop μ-loop
-loop-less c = omega arith
 
 loop-again : tie.Need-loop-again Inv-loop μ-loop
 loop-again c =
@@ -55,5 +43,16 @@ returns-3 c =
 pub moved-spec : {M : Type 1} → statement M
 moved-spec =
     tie.close
-    (tie.spec Inv-loop μ-loop returns returns-2 loop-holds moved-from-requires array-read-next array-write-next add-i loop-less loop-again
+    (tie.spec
+    Inv-loop
+    μ-loop
+    returns
+    returns-2
+    loop-holds
+    (λ c κs. omega arith)
+    array-read-next
+    (λ c. omega arith)
+    (λ c. omega arith)
+    (λ c. omega arith)
+    loop-again
     returns-3)

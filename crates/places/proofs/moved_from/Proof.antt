@@ -10,15 +10,6 @@ use Rattle.laws.specs.Orders.Moves.{movedFrom}
 use Rattle.places.proofs.moved_from.Statement.{statement}
 use Rattle.places.proofs.moved_from.Tie as tie
 
-add-if3 : tie.Need-add-if3
-add-if3 c = search needs
-
-sub-result : tie.Need-sub-result
-sub-result c = search needs
-
-add-result : tie.Need-add-result
-add-result c = search needs
-
 -- not the place directly behind the other
 not-behind : (c : tie.Else3) → let s = c .before .before .before .args in eqb (s .i) (suc (s .q)) ≡ false
 not-behind c =
@@ -81,4 +72,17 @@ returns-8 c =
     )
 
 pub moved-from-spec : {M : Type 1} → statement M
-moved-from-spec = tie.close (tie.spec add-if3 sub-result add-result returns returns-2 returns-3 returns-4 returns-5 returns-6 returns-7 returns-8)
+moved-from-spec =
+    tie.close
+    (tie.spec
+    (λ c. search needs)
+    (λ c. search needs)
+    (λ c. search needs)
+    returns
+    returns-2
+    returns-3
+    returns-4
+    returns-5
+    returns-6
+    returns-7
+    returns-8)

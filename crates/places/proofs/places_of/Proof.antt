@@ -17,24 +17,6 @@ returns c few perm = absurd (omega (arith, c .if1 .taken))
 loop-holds : tie.Need-loop-holds Inv-loop μ-loop
 loop-holds c = places-start (c .if1 .left)
 
-element-copy-out-v : tie.Need-element-copy-out-v Inv-loop μ-loop
-element-copy-out-v c = omega arith
-
-cast-v : tie.Need-cast-v Inv-loop μ-loop
-cast-v c = search needs
-
-cast-places : tie.Need-cast-places Inv-loop μ-loop
-cast-places c = omega arith
-
-array-write-places : tie.Need-array-write-places Inv-loop μ-loop
-array-write-places c = search needs
-
-add-p : tie.Need-add-p Inv-loop μ-loop
-add-p c = omega arith
-
-loop-less : tie.Need-loop-less Inv-loop μ-loop
-loop-less c = omega arith
-
 loop-again : tie.Need-loop-again Inv-loop μ-loop
 loop-again c = places-next (c .before .before .loop .inv) (c .before .loop-test .taken)
 
@@ -49,11 +31,11 @@ places-of-spec =
     μ-loop
     returns
     loop-holds
-    element-copy-out-v
-    cast-v
-    cast-places
-    array-write-places
-    add-p
-    loop-less
+    (λ c. omega arith)
+    (λ c. search needs)
+    (λ c. omega arith)
+    (λ c. search needs)
+    (λ c. omega arith)
+    (λ c. omega arith)
     loop-again
     returns-2)

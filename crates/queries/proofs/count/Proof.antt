@@ -5,9 +5,6 @@ use Rattle.laws.specs.Sums.Indicators.{test-held, test-failed}
 use Rattle.queries.proofs.count.Statement.{statement}
 use Rattle.queries.proofs.count.Tie as tie
 
-is-valid-requires : tie.Need-is-valid-requires
-is-valid-requires c κs = search needs
-
 returns : tie.Need-returns
 unfolding countOf checked byRefusal refusal isValid
 returns c = rw (test-failed (c .before .is-valid .ensures) (c .if1 .taken))
@@ -17,4 +14,4 @@ unfolding countOf checked byRefusal refusal isValid
 returns-2 c = rw (test-held (c .before .is-valid .ensures) (c .if1 .left))
 
 pub count-spec : {M : Type 1} → statement M
-count-spec = tie.close (tie.spec is-valid-requires returns returns-2)
+count-spec = tie.close (tie.spec (λ c κs. search needs) returns returns-2)

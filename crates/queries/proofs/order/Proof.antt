@@ -32,9 +32,6 @@ over-start : (n : ℕ) (xs ys : List ℕ) → n ≤ length xs
     → let part = take n xs in take (length part) part ++ drop (length part) ys ≡ part ++ drop n ys
 over-start n xs ys h = ap₂ (λ (us : List ℕ) (k : ℕ). us ++ drop k ys) (take-length (take n xs)) (length-take-le n xs h)
 
-is-valid-requires : tie.Need-is-valid-requires
-is-valid-requires c κs = search needs
-
 returns : tie.Need-returns
 unfolding orderRefusal orderBytes orderChecks checked byRefusal refusal isValid bufferFits
 returns c = let e = test-failed (c .before .is-valid .ensures) (c .if1 .taken) in (rw e, rw e)
@@ -57,9 +54,6 @@ slice-aggregate-copy c = let h = sizes (c .before .before) in simp length-take (
 copy-requires : tie.Need-copy-requires
 copy-requires c κs = let h = sizes (c .before .before .before) in simp length-take (omega (arith, h .0, h .1))
 
-same-length : tie.Need-same-length
-same-length c = search needs
-
 returns-3 : tie.Need-returns-3
 unfolding orderRefusal orderBytes orderChecks checked byRefusal refusal isValid bufferFits vertexOrder
 returns-3 c =
@@ -76,4 +70,12 @@ returns-3 c =
 pub order-spec : {M : Type 1} → statement M
 order-spec =
     tie.close
-    (tie.spec is-valid-requires returns returns-2 array-share-prefix-places slice-aggregate-copy copy-requires same-length returns-3)
+    (tie.spec
+    (λ c κs. search needs)
+    returns
+    returns-2
+    array-share-prefix-places
+    slice-aggregate-copy
+    copy-requires
+    (λ c. search needs)
+    returns-3)

@@ -5,13 +5,10 @@ use Rattle.laws.specs.Charts.Passes.{acceptedRead}
 use Rattle.read_layout.proofs.accepted.Statement.{statement}
 use Rattle.read_layout.proofs.accepted.Tie as tie
 
-count-crossings-requires : tie.Need-count-crossings-requires
-count-crossings-requires c κs = search needs
-
 returns : tie.Need-returns
 returns c =
     let s = c .before .before .before .args in
     ap (λ (k : ℕ). acceptedRead (record { n = s .n; order = s .t2; adjacency = s .t3; count = k })) (c .count-crossings .ensures)
 
 pub accepted-spec : {M : Type 1} → statement M
-accepted-spec = tie.close (tie.spec count-crossings-requires returns)
+accepted-spec = tie.close (tie.spec (λ c κs. search needs) returns)

@@ -5,12 +5,6 @@ use Rattle.model.specs.Charts.{asked, accept, refuse}
 use Rattle.read_layout.proofs.asked_code.Statement.{statement}
 use Rattle.read_layout.proofs.asked_code.Tie as tie
 
-enum-told : tie.Need-enum-told
-enum-told c = search needs
-
-enum-known-answer : tie.Need-enum-known-answer
-enum-known-answer c = search needs
-
 returns : tie.Need-returns
 unfolding asked accept
 returns c = sym (ap (λ (a : Asked). asked a .code) (c .enum-told .given .1))
@@ -20,4 +14,4 @@ unfolding asked refuse
 returns-2 c = sym (ap (λ (a : Asked). asked a .code) (c .before .answer .given .1))
 
 pub asked-code-spec : {M : Type 1} → statement M
-asked-code-spec = tie.close (tie.spec enum-told enum-known-answer returns returns-2)
+asked-code-spec = tie.close (tie.spec (λ c. search needs) (λ c. search needs) returns returns-2)

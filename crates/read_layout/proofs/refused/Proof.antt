@@ -5,12 +5,9 @@ use Rattle.laws.specs.Charts.Passes.{refusedRead}
 use Rattle.read_layout.proofs.refused.Statement.{statement}
 use Rattle.read_layout.proofs.refused.Tie as tie
 
-empty-requires : tie.Need-empty-requires
-empty-requires c κs = search needs
-
 returns : tie.Need-returns
 unfolding refusedRead
 returns c = ap (λ (l : Layout). record { refusal = c .before .args .code; layout = l }) (c .empty .ensures)
 
 pub refused-spec : {M : Type 1} → statement M
-refused-spec = tie.close (tie.spec empty-requires returns)
+refused-spec = tie.close (tie.spec (λ c κs. search needs) returns)

@@ -5,12 +5,6 @@ use Rattle.model.specs.Charts.{sizeFound, accept, refuse}
 use Rattle.read_layout.proofs.size_code.Statement.{statement}
 use Rattle.read_layout.proofs.size_code.Tie as tie
 
-enum-told : tie.Need-enum-told
-enum-told c = search needs
-
-enum-known-answer : tie.Need-enum-known-answer
-enum-known-answer c = search needs
-
 returns : tie.Need-returns
 unfolding sizeFound accept
 returns c = sym (ap (λ (a : SizeFound). sizeFound a .code) (c .enum-told .given .1))
@@ -20,4 +14,4 @@ unfolding sizeFound refuse
 returns-2 c = sym (ap (λ (a : SizeFound). sizeFound a .code) (c .before .answer .given .1))
 
 pub size-code-spec : {M : Type 1} → statement M
-size-code-spec = tie.close (tie.spec enum-told enum-known-answer returns returns-2)
+size-code-spec = tie.close (tie.spec (λ c. search needs) (λ c. search needs) returns returns-2)

@@ -17,15 +17,6 @@ loop-holds : tie.Need-loop-holds Inv-loop μ-loop
 unfolding sum
 loop-holds c = made-start 6 refl
 
-mul-bit-sum : tie.Need-mul-bit-sum Inv-loop μ-loop
-mul-bit-sum c = omega arith
-
-element-copy-out-bit-sum : tie.Need-element-copy-out-bit-sum Inv-loop μ-loop
-element-copy-out-bit-sum c = omega arith
-
-bit-sum-requires : tie.Need-bit-sum-requires Inv-loop μ-loop
-bit-sum-requires c κs = omega arith
-
 -- the turn that a bit is summed in
 abbrev turn : tie.After-bit-sum Inv-loop μ-loop → tie.At-loop Inv-loop μ-loop
 turn c = c .before .before .before
@@ -39,12 +30,6 @@ add-total : tie.Need-add-total Inv-loop μ-loop
 add-total c =
     let s = turn c .before .args in
     omega (arith, more c, sumTo-most (s .ranks .now) (s .set) (suc (turn c .loop .b)) (omega arith))
-
-add-b : tie.Need-add-b Inv-loop μ-loop
-add-b c = omega arith
-
-loop-less : tie.Need-loop-less Inv-loop μ-loop
-loop-less c = omega arith
 
 loop-again : tie.Need-loop-again Inv-loop μ-loop
 loop-again c = made-next (turn c .loop .inv) (omega arith) (more c)
@@ -63,11 +48,11 @@ rank-sum-spec =
     Inv-loop
     μ-loop
     loop-holds
-    mul-bit-sum
-    element-copy-out-bit-sum
-    bit-sum-requires
+    (λ c. omega arith)
+    (λ c. omega arith)
+    (λ c κs. omega arith)
     add-total
-    add-b
-    loop-less
+    (λ c. omega arith)
+    (λ c. omega arith)
     loop-again
     returns)

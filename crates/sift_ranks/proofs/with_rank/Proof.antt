@@ -16,27 +16,6 @@ abbrev μ-loop : tie.MeasureT-loop
 loop-holds : tie.Need-loop-holds Inv-loop μ-loop
 loop-holds c = filled-start (search needs)
 
-mul-ranked-word : tie.Need-mul-ranked-word Inv-loop μ-loop
-mul-ranked-word c = omega arith
-
-array-read-ranked-word : tie.Need-array-read-ranked-word Inv-loop μ-loop
-array-read-ranked-word c = omega arith
-
-ranked-word-requires : tie.Need-ranked-word-requires Inv-loop μ-loop
-ranked-word-requires c κs = search needs
-
-mul-next : tie.Need-mul-next Inv-loop μ-loop
-mul-next c = omega arith
-
-array-write-next : tie.Need-array-write-next Inv-loop μ-loop
-array-write-next c = omega arith
-
-add-i : tie.Need-add-i Inv-loop μ-loop
-add-i c = omega arith
-
-loop-less : tie.Need-loop-less Inv-loop μ-loop
-loop-less c = omega arith
-
 loop-again : tie.Need-loop-again Inv-loop μ-loop
 loop-again c = filled-next (c .before .before .loop .inv) (omega arith) (c .ranked-word .ensures)
 
@@ -51,12 +30,12 @@ with-rank-spec =
     Inv-loop
     μ-loop
     loop-holds
-    mul-ranked-word
-    array-read-ranked-word
-    ranked-word-requires
-    mul-next
-    array-write-next
-    add-i
-    loop-less
+    (λ c. omega arith)
+    (λ c. omega arith)
+    (λ c κs. search needs)
+    (λ c. omega arith)
+    (λ c. omega arith)
+    (λ c. omega arith)
+    (λ c. omega arith)
     loop-again
     returns)

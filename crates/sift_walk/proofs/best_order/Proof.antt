@@ -29,9 +29,6 @@ array-share-prefix-order c = inside c
 slice-aggregate-place-of : tie.Need-slice-aggregate-place-of
 slice-aggregate-place-of c = sym (length-take-le _ _ (inside (c .before)))
 
-place-of-requires : tie.Need-place-of-requires
-place-of-requires c κs = tt
-
 -- u stands in one of them, or behind the last
 low : (c : tie.After-place-of) → c .place-of .result ≤ few c .before .args .n
 low c =
@@ -59,7 +56,7 @@ best-order-spec =
     returns
     array-share-prefix-order
     slice-aggregate-place-of
-    place-of-requires
+    (λ c κs. tt)
     pass-all-requires
     chosen-requires
     returns-2)

@@ -4,12 +4,6 @@ use Rattle.sift_walk.specs.Finding.{movedPlaces, chosen-moved, chosen-ke
 use Rattle.sift_walk.proofs.chosen.Statement.{statement}
 use Rattle.sift_walk.proofs.chosen.Tie as tie
 
-turned-requires : tie.Need-turned-requires
-turned-requires c κs = search needs
-
-moved-requires : tie.Need-moved-requires
-moved-requires c κs = search needs
-
 returns : tie.Need-returns
 unfolding movedPlaces
 returns c = chosen-moved _ _ _ _ (omega (arith, c .before .before .if1 .taken)) (c .before .turned .ensures) (c .moved .ensures)
@@ -18,4 +12,4 @@ returns-2 : tie.Need-returns-2
 returns-2 c = chosen-kept _ _ _ _ (omega (arith, c .if1 .left))
 
 pub chosen-spec : {M : Type 1} → statement M
-chosen-spec = tie.close (tie.spec turned-requires moved-requires returns returns-2)
+chosen-spec = tie.close (tie.spec (λ c κs. search needs) (λ c κs. search needs) returns returns-2)

@@ -35,32 +35,17 @@ pairs-few c = let s = start c .args in product-few (s .vertex .degree) (c .befor
 joined-few : (c : tie.After-count2) → let s = start c .args in s .joined * c .before .count .result ≤ 4160
 joined-few c = let s = start c .args in product-few (s .joined) (c .before .count .result) (omega (arith, start c .pre .2)) (degree-few c)
 
-count-requires : tie.Need-count-requires
-count-requires c κs = search needs
-
-count-requires-2 : tie.Need-count-requires-2
-count-requires-2 c κs = search needs
-
 mul-around : tie.Need-mul-around
 mul-around c = record { fits = omega (arith, around-few (c .before)) }
 
-rank-sum-requires : tie.Need-rank-sum-requires
-rank-sum-requires c κs = search needs
-
 add-ranked : tie.Need-add-ranked
 add-ranked c = record { fits = omega (arith, around-few (counts c), c .rank-sum .ensures .1) }
-
-add-excess : tie.Need-add-excess
-add-excess c = search needs
 
 mul-excess : tie.Need-mul-excess
 mul-excess c = record { fits = omega (arith, excess-few (counts (c .before))) }
 
 mul-pairs : tie.Need-mul-pairs
 mul-pairs c = record { fits = omega (arith, pairs-few (counts (c .before .before))) }
-
-count-requires-3 : tie.Need-count-requires-3
-count-requires-3 c κs = search needs
 
 mul-shared : tie.Need-mul-shared
 mul-shared c = record { fits = omega (arith, joined-few (counts (ranked c))) }
@@ -69,9 +54,6 @@ add-shared : tie.Need-add-shared
 add-shared c =
     let s = start (counts (ranked c)) .args in
     record { fits = omega (arith, joined-few (counts (ranked c)), count-few (s .word) (s .vertex .neighbours) (c .count3 .ensures)) }
-
-exchanged-requires : tie.Need-exchanged-requires
-exchanged-requires c κs = search needs
 
 returns : tie.Need-returns
 returns c =
@@ -86,16 +68,16 @@ pub exchange-spec : {M : Type 1} → statement M
 exchange-spec =
     tie.close
     (tie.spec
-    count-requires
-    count-requires-2
+    (λ c κs. search needs)
+    (λ c κs. search needs)
     mul-around
-    rank-sum-requires
+    (λ c κs. search needs)
     add-ranked
-    add-excess
+    (λ c. search needs)
     mul-excess
     mul-pairs
-    count-requires-3
+    (λ c κs. search needs)
     mul-shared
     add-shared
-    exchanged-requires
+    (λ c κs. search needs)
     returns)

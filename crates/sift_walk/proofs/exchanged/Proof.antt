@@ -3,21 +3,6 @@ use Rattle.sift_walk.specs.Exchanges.{exchanged-exact}
 use Rattle.sift_walk.proofs.exchanged.Statement.{statement}
 use Rattle.sift_walk.proofs.exchanged.Tie as tie
 
-wrapping-sub-u32-requires : tie.Need-wrapping-sub-u32-requires
-wrapping-sub-u32-requires c κs = search needs
-
-wrapping-sub-u32-requires-2 : tie.Need-wrapping-sub-u32-requires-2
-wrapping-sub-u32-requires-2 c κs = search needs
-
-wrapping-sub-u32-requires-3 : tie.Need-wrapping-sub-u32-requires-3
-wrapping-sub-u32-requires-3 c κs = search needs
-
-wrapping-sub-u32-requires-4 : tie.Need-wrapping-sub-u32-requires-4
-wrapping-sub-u32-requires-4 c κs = search needs
-
-wrapping-add-u32-requires : tie.Need-wrapping-add-u32-requires
-wrapping-add-u32-requires c κs = search needs
-
 returns : tie.Need-returns
 returns c =
     let left = c .before in
@@ -32,9 +17,9 @@ pub exchanged-spec : {M : Type 1} → statement M
 exchanged-spec =
     tie.close
     (tie.spec
-    wrapping-sub-u32-requires
-    wrapping-sub-u32-requires-2
-    wrapping-sub-u32-requires-3
-    wrapping-sub-u32-requires-4
-    wrapping-add-u32-requires
+    (λ c κs. search needs)
+    (λ c κs. search needs)
+    (λ c κs. search needs)
+    (λ c κs. search needs)
+    (λ c κs. search needs)
     returns)

@@ -21,12 +21,6 @@ start c = ready c .before .before
 abbrev test : tie.After-passing-arg Inv-loop μ-loop → tie.In-loop Inv-loop μ-loop
 test c = c .before .before .before
 
-vertex-of-requires : tie.Need-vertex-of-requires Inv-loop μ-loop
-vertex-of-requires c κs = search needs
-
-ranks-of-requires : tie.Need-ranks-of-requires Inv-loop μ-loop
-ranks-of-requires c κs = search needs
-
 loop-holds : tie.Need-loop-holds Inv-loop μ-loop
 loop-holds c = walking-start
 
@@ -80,8 +74,8 @@ pass-all-spec =
     (tie.spec
     Inv-loop
     μ-loop
-    vertex-of-requires
-    ranks-of-requires
+    (λ c κs. search needs)
+    (λ c κs. search needs)
     loop-holds
     add-loop
     other-at-requires

@@ -5,9 +5,6 @@ use Rattle.sift_walk.specs.Exchanges.{passed-made}
 use Rattle.sift_walk.proofs.passing.Statement.{statement}
 use Rattle.sift_walk.proofs.passing.Tie as tie
 
-bit-at-requires : tie.Need-bit-at-requires
-bit-at-requires c κs = search needs
-
 add-met : tie.Need-add-met
 add-met c =
     let s = c .before .before in
@@ -18,12 +15,6 @@ exchange-requires c κs =
     let s = c .before .before in
     (s .pre .0, s .pre .2, omega (arith, c .before .bit-at .ensures, bit-lt (s .args .vertex .neighbours) (s .args .v)))
 
-set-requires : tie.Need-set-requires
-set-requires c κs = search needs
-
-better-requires : tie.Need-better-requires
-better-requires c κs = search needs
-
 returns : tie.Need-returns
 returns c =
     let set = c .before in
@@ -31,4 +22,12 @@ returns c =
     passed-made _ _ _ _ _ _ (told .before .before .bit-at .ensures) (told .exchange .ensures) (set .set .ensures) (c .better .ensures)
 
 pub passing-spec : {M : Type 1} → statement M
-passing-spec = tie.close (tie.spec bit-at-requires add-met exchange-requires set-requires better-requires returns)
+passing-spec =
+    tie.close
+    (tie.spec
+    (λ c κs. search needs)
+    add-met
+    exchange-requires
+    (λ c κs. search needs)
+    (λ c κs. search needs)
+    returns)

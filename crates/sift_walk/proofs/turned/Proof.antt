@@ -3,12 +3,6 @@ use Rattle.sift_walk.specs.Words.{turned-on, turned-round}
 use Rattle.sift_walk.proofs.turned.Statement.{statement}
 use Rattle.sift_walk.proofs.turned.Tie as tie
 
-add-q : tie.Need-add-q
-add-q c = search needs
-
-add-q-2 : tie.Need-add-q-2
-add-q-2 c = search needs
-
 returns : tie.Need-returns
 returns c = turned-on _ _ _ (c .if1 .taken)
 
@@ -16,4 +10,4 @@ returns-2 : tie.Need-returns-2
 returns-2 c = turned-round _ _ _ (c .if1 .left)
 
 pub turned-spec : {M : Type 1} → statement M
-turned-spec = tie.close (tie.spec add-q add-q-2 returns returns-2)
+turned-spec = tie.close (tie.spec (λ c. search needs) (λ c. search needs) returns returns-2)

@@ -13,17 +13,11 @@ start c = c .before .before .before
 room : (c : tie.Else1) → let s = start (c .before) .args in s .at + length (s .t .now) ≤ length (s .out .now)
 room c = has-room (c .before .lacks .ensures) (c .if1 .left)
 
-lacks-requires : tie.Need-lacks-requires
-lacks-requires c κs = search needs
-
 returns : tie.Need-returns
 returns c = put-full _ (no-room (c .before .lacks .ensures) (c .if1 .taken))
 
 copy-text-requires : tie.Need-copy-text-requires
 copy-text-requires c κs = room (c .before)
-
-same-length : tie.Need-same-length
-same-length c = search needs
 
 returns-2 : tie.Need-returns-2
 returns-2 c =
@@ -32,4 +26,4 @@ returns-2 c =
 
 pub put-text-spec : {M : Type 1} → statement M
 put-text-spec =
-    tie.close (tie.spec lacks-requires returns copy-text-requires same-length returns-2)
+    tie.close (tie.spec (λ c κs. search needs) returns copy-text-requires (λ c. search needs) returns-2)

@@ -5,12 +5,6 @@ use Rattle.laws.specs.Sums.Bits.{bit-beyond}
 use Rattle.words.proofs.bit_at.Statement.{statement}
 use Rattle.words.proofs.bit_at.Tie as tie
 
-shr-result : tie.Need-shr-result
-shr-result c = search needs
-
-cast-result : tie.Need-cast-result
-cast-result c = search needs
-
 returns : tie.Need-returns
 unfolding bit
 returns c = refl
@@ -19,4 +13,4 @@ returns-2 : tie.Need-returns-2
 returns-2 c = sym (bit-beyond 64 (c .before .args .word) (c .before .args .i) (c .before .fits .word .fits) (c .if1 .left))
 
 pub bit-at-spec : {M : Type 1} → statement M
-bit-at-spec = tie.close (tie.spec shr-result cast-result returns returns-2)
+bit-at-spec = tie.close (tie.spec (λ c. search needs) (λ c. search needs) returns returns-2)

@@ -8,9 +8,6 @@ use Rattle.laws.specs.Sums.Bits.{shifted-one, sub-power, clear-beyond}
 use Rattle.words.proofs.clear.Statement.{statement}
 use Rattle.words.proofs.clear.Tie as tie
 
-shl-result : tie.Need-shl-result
-shl-result c = search needs
-
 sub-result : tie.Need-sub-result
 sub-result c = and-le-l _ _
 
@@ -25,4 +22,4 @@ returns-2 : tie.Need-returns-2
 returns-2 c = sym (clear-beyond 64 (c .before .args .word) (c .before .args .i) (c .before .fits .word .fits) (c .if1 .left))
 
 pub clear-spec : {M : Type 1} → statement M
-clear-spec = tie.close (tie.spec shl-result sub-result returns returns-2)
+clear-spec = tie.close (tie.spec (λ c. search needs) sub-result returns returns-2)

@@ -2,8 +2,5 @@ use mathlib.Core.Path.{refl}
 use Rattle.words.proofs.common.Statement.{statement}
 use Rattle.words.proofs.common.Tie as tie
 
-returns : tie.Need-returns
-returns c = refl
-
 pub common-spec : {M : Type 1} → statement M
-common-spec = tie.close (tie.spec returns)
+common-spec = tie.close (tie.spec (λ c. refl))

@@ -6,9 +6,6 @@ use Rattle.laws.specs.Sums.Bits.{shifted-one}
 use Rattle.words.proofs.low_bits.Statement.{statement}
 use Rattle.words.proofs.low_bits.Tie as tie
 
-shl-result : tie.Need-shl-result
-shl-result c = search needs
-
 sub-result : tie.Need-sub-result
 sub-result c = rw (shifted-one (c .before .args .n) (c .if1 .taken)) (pow-pos (c .before .args .n))
 
@@ -19,4 +16,4 @@ returns-2 : tie.Need-returns-2
 returns-2 c = rw (min-eq-right (c .if1 .left))
 
 pub low-bits-spec : {M : Type 1} → statement M
-low-bits-spec = tie.close (tie.spec shl-result sub-result returns returns-2)
+low-bits-spec = tie.close (tie.spec (λ c. search needs) sub-result returns returns-2)

@@ -12,15 +12,6 @@ place-linked-requires c κs =
     let start = c .before .before .before in
     (words-valid (start .args .l) (start .pre .0), start .pre .1)
 
-put-rest-requires : tie.Need-put-rest-requires
-put-rest-requires c κs = search needs
-
-written-requires : tie.Need-written-requires
-written-requires c κs = search needs
-
-carried-to-requires : tie.Need-carried-to-requires
-carried-to-requires c κs = search needs
-
 returns : tie.Need-returns
 returns c =
     let ordered = c .before in
@@ -32,4 +23,10 @@ returns c =
 
 pub append-from-spec : {M : Type 1} → statement M
 append-from-spec =
-    tie.close (tie.spec place-linked-requires put-rest-requires written-requires carried-to-requires returns)
+    tie.close
+    (tie.spec
+    place-linked-requires
+    (λ c κs. search needs)
+    (λ c κs. search needs)
+    (λ c κs. search needs)
+    returns)

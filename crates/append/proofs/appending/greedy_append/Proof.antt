@@ -12,9 +12,6 @@ accepted : (c : tie.Else1) → let s = c .before .before .args in refusal (layCh
 unfolding layChecks
 accepted c = sym (c .before .vertex-refusal .ensures) ∙ c .if1 .left
 
-vertex-refusal-requires : tie.Need-vertex-refusal-requires
-vertex-refusal-requires c κs = search needs
-
 returns : tie.Need-returns
 unfolding layOf layChecks
 returns c =
@@ -38,4 +35,4 @@ returns-2 c =
 
 pub greedy-append-spec : {M : Type 1} → statement M
 greedy-append-spec =
-    tie.close (tie.spec vertex-refusal-requires returns append-from-requires returns-2)
+    tie.close (tie.spec (λ c κs. search needs) returns append-from-requires returns-2)

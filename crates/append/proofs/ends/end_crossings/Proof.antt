@@ -47,29 +47,17 @@ cast-p c = omega (arith, vertex c)
 shr-closing : tie.Need-shr-closing Inv-loop μ-loop
 shr-closing c = omega (arith, vertex c)
 
-cast-passed : tie.Need-cast-passed Inv-loop μ-loop
-cast-passed c = omega arith
-
 mul-count : tie.Need-mul-count Inv-loop μ-loop
 mul-count c = omega (arith, vertex c)
 
 element-copy-out-count : tie.Need-element-copy-out-count Inv-loop μ-loop
 element-copy-out-count c = vertex c
 
-count-requires : tie.Need-count-requires Inv-loop μ-loop
-count-requires c κs = tt
-
 passed-requires : tie.Need-passed-requires Inv-loop μ-loop
 passed-requires c κs =
     let turn = c .before .before in
     let l = start turn .pre .0 in
     (so-far-small (turn .before .loop .inv) (omega (arith, entries-length l, l .few)), omega arith, rw (c .count .ensures) (maskedOnes-le _ _))
-
-add-i : tie.Need-add-i Inv-loop μ-loop
-add-i c = omega arith
-
-loop-less : tie.Need-loop-less Inv-loop μ-loop
-loop-less c = omega arith
 
 loop-again : tie.Need-loop-again Inv-loop μ-loop
 unfolding bit openFrom
@@ -97,12 +85,12 @@ end-crossings-spec =
     array-read-p
     cast-p
     shr-closing
-    cast-passed
+    (λ c. omega arith)
     mul-count
     element-copy-out-count
-    count-requires
+    (λ c κs. tt)
     passed-requires
-    add-i
-    loop-less
+    (λ c. omega arith)
+    (λ c. omega arith)
     loop-again
     returns)

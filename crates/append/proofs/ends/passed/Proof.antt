@@ -21,15 +21,9 @@ mul-t6 c = let s = start c in omega (arith, products-small (s .pre .0) (s .pre .
 add-t7 : tie.Need-add-t7
 add-t7 c = let s = start (c .before) in omega (arith, products-small (s .pre .0) (s .pre .1) (s .pre .2) .1, s .pre .0 .back)
 
-add-t8 : tie.Need-add-t8
-add-t8 c = search needs
-
-add-t9 : tie.Need-add-t9
-add-t9 c = search needs
-
 returns : tie.Need-returns
 unfolding passedOf
 returns c = refl
 
 pub passed-spec : {M : Type 1} → statement M
-passed-spec = tie.close (tie.spec mul-t4 add-t5 mul-t6 add-t7 add-t8 add-t9 returns)
+passed-spec = tie.close (tie.spec mul-t4 add-t5 mul-t6 add-t7 (λ c. search needs) (λ c. search needs) returns)

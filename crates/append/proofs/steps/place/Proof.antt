@@ -11,18 +11,6 @@ use Rattle.append.proofs.steps.place.Tie as tie
 marked : (c : tie.After-set) → let s = c .before .args in c .set .result ≡ withBit (s .s .placed) (s .v)
 marked c = set-within _ _ (c .before .pre .vertex) (c .set .ensures)
 
-set-requires : tie.Need-set-requires
-set-requires c κs = search needs
-
-mul-end-crossings : tie.Need-mul-end-crossings
-mul-end-crossings c = search needs
-
-element-copy-out-end-crossings : tie.Need-element-copy-out-end-crossings
-element-copy-out-end-crossings c = search needs
-
-end-crossings-requires : tie.Need-end-crossings-requires
-end-crossings-requires c κs = search needs
-
 put-requires : tie.Need-put-requires
 put-requires c κs =
     let start = c .before .before .before in
@@ -36,9 +24,9 @@ pub place-spec : {M : Type 1} → statement M
 place-spec =
     tie.close
     (tie.spec
-    set-requires
-    mul-end-crossings
-    element-copy-out-end-crossings
-    end-crossings-requires
+    (λ c κs. search needs)
+    (λ c. search needs)
+    (λ c. search needs)
+    (λ c κs. search needs)
     put-requires
     returns)

@@ -12,15 +12,6 @@ Inv-loop n adjacency s so-far₀ v₀ so-far v = PlacedUpTo n adjacency s so-far
 abbrev μ-loop : tie.MeasureT-loop
 μ-loop n adjacency s so-far₀ v₀ so-far v = n - so-far .line .size
 
-alone-requires : tie.Need-alone-requires Inv-loop μ-loop
-alone-requires c κs = tt
-
-set-requires : tie.Need-set-requires Inv-loop μ-loop
-set-requires c κs = tt
-
-next-vertex-requires : tie.Need-next-vertex-requires Inv-loop μ-loop
-next-vertex-requires c κs = tt
-
 loop-holds : tie.Need-loop-holds Inv-loop μ-loop
 loop-holds c =
     let marked = c .before in
@@ -39,9 +30,6 @@ vertex c = omega (arith, c .loop-test .taken)
 
 place-requires : tie.Need-place-requires Inv-loop μ-loop
 place-requires c κs = next-fits (start (c .before) .pre .0) (c .before .loop .inv) (vertex c)
-
-next-vertex-requires-2 : tie.Need-next-vertex-requires-2 Inv-loop μ-loop
-next-vertex-requires-2 c κs = tt
 
 loop-less : tie.Need-loop-less Inv-loop μ-loop
 loop-less c =
@@ -64,12 +52,12 @@ place-linked-spec =
     (tie.spec
     Inv-loop
     μ-loop
-    alone-requires
-    set-requires
-    next-vertex-requires
+    (λ c κs. tt)
+    (λ c κs. tt)
+    (λ c κs. tt)
     loop-holds
     place-requires
-    next-vertex-requires-2
+    (λ c κs. tt)
     loop-less
     loop-again
     returns)

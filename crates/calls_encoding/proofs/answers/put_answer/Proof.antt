@@ -8,18 +8,12 @@ use Rattle.text.specs.Room.{no-room, has-room}
 use Rattle.calls_encoding.proofs.answers.put_answer.Statement.{statement}
 use Rattle.calls_encoding.proofs.answers.put_answer.Tie as tie
 
-lacks-requires : tie.Need-lacks-requires
-lacks-requires c κs = search needs
-
 returns : tie.Need-returns
 returns c = not-answered _ _ _ (no-room (c .before .lacks .ensures) (c .if1 .taken))
 
 -- there are the places
 room : (c : tie.Else1) → let s = c .before .before .before .args in s .at + answerWidth ≤ length (s .table .now)
 room c = has-room (c .before .lacks .ensures) (c .if1 .left)
-
-cast-table : tie.Need-cast-table
-cast-table c = search needs
 
 mul-table : tie.Need-mul-table
 mul-table c = omega (arith, room (c .before))
@@ -63,9 +57,6 @@ mul-table-5 c = omega (arith, room (c .before))
 slice-write-table-5 : tie.Need-slice-write-table-5
 slice-write-table-5 c = simp length-set (omega (arith, room (c .before)))
 
-same-length : tie.Need-same-length
-same-length c = search needs
-
 returns-2 : tie.Need-returns-2
 returns-2 c = answer-put _ _ _ (room (c .before))
 
@@ -73,9 +64,9 @@ pub put-answer-spec : {M : Type 1} → statement M
 put-answer-spec =
     tie.close
     (tie.spec
-    lacks-requires
+    (λ c κs. search needs)
     returns
-    cast-table
+    (λ c. search needs)
     mul-table
     slice-write-table
     add-table
@@ -90,5 +81,5 @@ put-answer-spec =
     add-table-4
     mul-table-5
     slice-write-table-5
-    same-length
+    (λ c. search needs)
     returns-2)

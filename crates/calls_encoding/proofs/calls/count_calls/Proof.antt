@@ -14,28 +14,10 @@ Inv-loop calls most i₀ i = i ≤ length (callsOf calls)
 abbrev μ-loop : tie.MeasureT-loop
 μ-loop calls most i₀ i = most - i
 
-loop-holds : tie.Need-loop-holds Inv-loop μ-loop
-loop-holds c = omega arith
-
-call-at-requires : tie.Need-call-at-requires Inv-loop μ-loop
-call-at-requires c κs = omega arith
-
-enum-told : tie.Need-enum-told Inv-loop μ-loop
-enum-told c = search needs
-
-enum-told-2 : tie.Need-enum-told-2 Inv-loop μ-loop
-enum-told-2 c = search needs
-
 returns : tie.Need-returns Inv-loop μ-loop
 returns c =
     let called = c .before .before in
     counted-end _ (called .before .before .loop .inv) (sym (called .call-at .ensures) ∙ c .enum-told2 .given .1)
-
-add-i : tie.Need-add-i Inv-loop μ-loop
-add-i c = omega arith
-
-loop-less : tie.Need-loop-less Inv-loop μ-loop
-loop-less c = omega arith
 
 loop-again : tie.Need-loop-again Inv-loop μ-loop
 loop-again c =
@@ -51,12 +33,12 @@ count-calls-spec =
     (tie.spec
     Inv-loop
     μ-loop
-    loop-holds
-    call-at-requires
-    enum-told
-    enum-told-2
+    (λ c. omega arith)
+    (λ c κs. omega arith)
+    (λ c. search needs)
+    (λ c. search needs)
     returns
-    add-i
-    loop-less
+    (λ c. omega arith)
+    (λ c. omega arith)
     loop-again
     returns-2)

@@ -18,26 +18,14 @@ told : {from : Origin} {chart numbers table : List ℕ} {r : Played} {after : Li
     × ((after ≡ tableOf from chart numbers table) × Demand3 (startOf from chart .layout) (playedCalls from chart numbers (length table)))
 told {from} {chart} {numbers} {table} a = (a .returned, (a .table-is, play-claim from chart numbers (length table)))
 
-start-of-requires : tie.Need-start-of-requires
-start-of-requires c κs = search needs
-
 returns : tie.Need-returns
 returns c = told (play-unstarted _ _ _ _ (c .before .before .start-of .ensures) (c .if1 .taken))
-
-count-calls-requires : tie.Need-count-calls-requires
-count-calls-requires c κs = search needs
 
 returns-2 : tie.Need-returns-2
 returns-2 c =
     let counted = c .before in
     let started = counted .before in
     told (play-short _ _ _ _ (started .before .before .start-of .ensures) (started .if1 .left) (omega (arith, counted .count-calls .ensures, c .if2 .taken)))
-
-play-all-requires : tie.Need-play-all-requires
-play-all-requires c κs = search needs
-
-same-length : tie.Need-same-length
-same-length c = search needs
 
 returns-3 : tie.Need-returns-3
 returns-3 c =
@@ -53,10 +41,10 @@ pub play-spec : {M : Type 1} → statement M
 play-spec =
     tie.close
     (tie.spec
-    start-of-requires
+    (λ c κs. search needs)
     returns
-    count-calls-requires
+    (λ c κs. search needs)
     returns-2
-    play-all-requires
-    same-length
+    (λ c κs. search needs)
+    (λ c. search needs)
     returns-3)

@@ -28,12 +28,6 @@ play-next-requires c κs =
     let turn = c .before in
     omega (arith, same-size (turn .before), entry (turn .before) .pre, turn .loop-test .taken)
 
-add-i : tie.Need-add-i Inv-loop μ-loop
-add-i c = omega arith
-
-loop-less : tie.Need-loop-less Inv-loop μ-loop
-loop-less c = omega arith
-
 loop-again : tie.Need-loop-again Inv-loop μ-loop
 loop-again c =
     let called = c .before .before in
@@ -57,8 +51,8 @@ play-all-spec =
     μ-loop
     loop-holds
     play-next-requires
-    add-i
-    loop-less
+    (λ c. omega arith)
+    (λ c. omega arith)
     loop-again
     same-length
     returns)

@@ -6,24 +6,6 @@ use borrow.Author.Needs.{needs}
 use Rattle.calls_play.proofs.playing.start_of.Statement.{statement}
 use Rattle.calls_play.proofs.playing.start_of.Tie as tie
 
-enum-told : tie.Need-enum-told
-enum-told c = search needs
-
-empty-requires : tie.Need-empty-requires
-empty-requires c κs = search needs
-
-enum-told-2 : tie.Need-enum-told-2
-enum-told-2 c = search needs
-
-read-requires : tie.Need-read-requires
-read-requires c κs = search needs
-
-enum-told-3 : tie.Need-enum-told-3
-enum-told-3 c = search needs
-
-import-requires : tie.Need-import-requires
-import-requires c κs = search needs
-
 returns : tie.Need-returns
 unfolding startOf
 returns c =
@@ -49,4 +31,13 @@ returns-3 c =
 pub start-of-spec : {M : Type 1} → statement M
 start-of-spec =
     tie.close
-    (tie.spec enum-told empty-requires enum-told-2 read-requires enum-told-3 import-requires returns returns-2 returns-3)
+    (tie.spec
+    (λ c. search needs)
+    (λ c κs. search needs)
+    (λ c. search needs)
+    (λ c κs. search needs)
+    (λ c. search needs)
+    (λ c κs. search needs)
+    returns
+    returns-2
+    returns-3)

@@ -13,21 +13,9 @@ use Rattle.first_crossing.proofs.crossing.first_crossing.Tie as tie
 accepted : (c : tie.Else1) → T (valid (c .before .before .args .l))
 accepted c = subst T (sym (test-held (c .before .is-valid .ensures) (c .if1 .left))) tt
 
-is-valid-requires : tie.Need-is-valid-requires
-is-valid-requires c κs = search needs
-
 returns : tie.Need-returns
 unfolding shown firstCrossingOf checked byRefusal refusal isValid
 returns c = rw (test-failed (c .before .is-valid .ensures) (c .if1 .taken))
-
-slice-aggregate-put-edges : tie.Need-slice-aggregate-put-edges
-slice-aggregate-put-edges c = search needs
-
-put-edges-requires : tie.Need-put-edges-requires
-put-edges-requires c κs = search needs
-
-slice-aggregate-first-pair : tie.Need-slice-aggregate-first-pair
-slice-aggregate-first-pair c = search needs
 
 -- from where the edges are searched to where they were put, and from there to where the check was passed
 abbrev put : tie.After-ends3 → tie.After-put-edges
@@ -48,10 +36,10 @@ pub first-crossing-spec : {M : Type 1} → statement M
 first-crossing-spec =
     tie.close
     (tie.spec
-    is-valid-requires
+    (λ c κs. search needs)
     returns
-    slice-aggregate-put-edges
-    put-edges-requires
-    slice-aggregate-first-pair
+    (λ c. search needs)
+    (λ c κs. search needs)
+    (λ c. search needs)
     first-pair-requires
     returns-2)

@@ -30,9 +30,6 @@ start c = c .before .before .before
 abbrev row-of : tie.At-loop Inv-loop μ-loop Inv-search μ-search → tie.Else1 Inv-loop μ-loop Inv-search μ-search
 row-of c = c .before .before
 
-places-of-requires : tie.Need-places-of-requires Inv-loop μ-loop Inv-search μ-search
-places-of-requires c κs = search needs
-
 -- the places are those of the order
 placed : (c : tie.After-places-of Inv-loop μ-loop Inv-search μ-search)
     → let s = c .before .before .args in PlacesOf (s .n) (s .order .now) (c .places-of .result)
@@ -43,9 +40,6 @@ search-holds c = firsts-start
 
 edge-at-requires : tie.Need-edge-at-requires Inv-loop μ-loop Inv-search μ-search
 edge-at-requires c κs = in-array (start (c .before) .pre) (c .if1 .left)
-
-add-second : tie.Need-add-second Inv-loop μ-loop Inv-search μ-search
-add-second c = omega arith
 
 loop-holds : tie.Need-loop-holds Inv-loop μ-loop Inv-search μ-search
 loop-holds c = seconds-start (c .before .if1 .left)
@@ -68,12 +62,6 @@ cross-requires c κs =
     let second = ends-below given (f .before .loop-test .taken) (f .edge-at2 .ensures) in
     (placed (row .before .before) .size, first .0, first .1, second .0, second .1)
 
-add-second-2 : tie.Need-add-second-2 Inv-loop μ-loop Inv-search μ-search
-add-second-2 c = omega arith
-
-loop-less : tie.Need-loop-less Inv-loop μ-loop Inv-search μ-search
-loop-less c = omega arith
-
 loop-again : tie.Need-loop-again Inv-loop μ-loop Inv-search μ-search
 loop-again c =
     let f = c .before .before .before in
@@ -82,12 +70,6 @@ loop-again c =
     let row = e .before in
     seconds-next (start (row .before) .pre) (placed (row .before .before)) (row .if1 .left) (f .before .loop-test .taken)
     (e .edge-at .ensures) (f .edge-at2 .ensures) (c .before .cross .ensures) (at-loop .loop .inv) (c .if2 .left)
-
-add-first : tie.Need-add-first Inv-loop μ-loop Inv-search μ-search
-add-first c = omega arith
-
-search-less : tie.Need-search-less Inv-loop μ-loop Inv-search μ-search
-search-less c = omega arith
 
 search-again : tie.Need-search-again Inv-loop μ-loop Inv-search μ-search
 search-again c =
@@ -117,19 +99,19 @@ first-pair-spec =
     μ-loop
     Inv-search
     μ-search
-    places-of-requires
+    (λ c κs. search needs)
     search-holds
     edge-at-requires
-    add-second
+    (λ c. omega arith)
     loop-holds
     edge-at-requires-2
     slice-aggregate-cross
     cross-requires
-    add-second-2
-    loop-less
+    (λ c. omega arith)
+    (λ c. omega arith)
     loop-again
-    add-first
-    search-less
+    (λ c. omega arith)
+    (λ c. omega arith)
     search-again
     returns
     returns-2)

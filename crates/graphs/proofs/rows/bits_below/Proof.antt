@@ -22,9 +22,6 @@ Inv-loop n adjacency most v₀ v = PassedUpTo (passes adjacency n) 64 v
 abbrev μ-loop : tie.MeasureT-loop
 μ-loop n adjacency most v₀ v = 64 - v
 
-low-bits-requires : tie.Need-low-bits-requires Inv-loop μ-loop
-low-bits-requires c κs = search needs
-
 -- the largest word with no bit from n on
 full : (c : tie.At-loop Inv-loop μ-loop) → let n = c .before .before .args .n in suc (c .before .low-bits .result) ≡ 2 ^ n
 full c =
@@ -34,23 +31,11 @@ full c =
 loop-holds : tie.Need-loop-holds Inv-loop μ-loop
 loop-holds c = passed-none
 
-mul-if1 : tie.Need-mul-if1 Inv-loop μ-loop
-mul-if1 c = omega arith
-
-element-copy-out-if1 : tie.Need-element-copy-out-if1 Inv-loop μ-loop
-element-copy-out-if1 c = omega arith
-
 returns : tie.Need-returns Inv-loop μ-loop
 unfolding bitsBelow
 returns c =
     let turn = c .before .before in
     failed-at (turn .before .loop .inv) (turn .loop-test .taken) refl (beyond-most (full (turn .before)) (c .if1 .taken))
-
-add-v : tie.Need-add-v Inv-loop μ-loop
-add-v c = omega arith
-
-loop-less : tie.Need-loop-less Inv-loop μ-loop
-loop-less c = omega arith
 
 loop-again : tie.Need-loop-again Inv-loop μ-loop
 loop-again c =
@@ -67,12 +52,12 @@ bits-below-spec =
     (tie.spec
     Inv-loop
     μ-loop
-    low-bits-requires
+    (λ c κs. search needs)
     loop-holds
-    mul-if1
-    element-copy-out-if1
+    (λ c. omega arith)
+    (λ c. omega arith)
     returns
-    add-v
-    loop-less
+    (λ c. omega arith)
+    (λ c. omega arith)
     loop-again
     returns-2)

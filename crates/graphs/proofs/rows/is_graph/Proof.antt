@@ -7,14 +7,8 @@ use Rattle.graphs.proofs.rows.is_graph.Tie as tie
 returns : tie.Need-returns
 returns c = rw (lt-leb _ 64 (c .if1 .taken))
 
-symmetric-requires : tie.Need-symmetric-requires
-symmetric-requires c κs = search needs
-
 returns-2 : tie.Need-returns-2
 returns-2 c = rw (le-leb _ 64 (c .before .before .if1 .left), test-failed (c .before .symmetric .ensures) (c .if2 .taken))
-
-loopless-requires : tie.Need-loopless-requires
-loopless-requires c κs = search needs
 
 returns-3 : tie.Need-returns-3
 returns-3 c =
@@ -24,9 +18,6 @@ returns-3 c =
       test-held (symmetry .before .symmetric .ensures) (symmetry .if2 .left),
       test-failed (c .before .loopless .ensures) (c .if3 .taken),
     )
-
-bits-below-requires : tie.Need-bits-below-requires
-bits-below-requires c κs = search needs
 
 returns-4 : tie.Need-returns-4
 returns-4 c =
@@ -38,9 +29,6 @@ returns-4 c =
       test-held (no-loop .before .loopless .ensures) (no-loop .if3 .left),
       test-failed (c .before .bits-below .ensures) (c .if4 .taken),
     )
-
-zero-from-requires : tie.Need-zero-from-requires
-zero-from-requires c κs = search needs
 
 returns-5 : tie.Need-returns-5
 returns-5 c =
@@ -60,11 +48,11 @@ is-graph-spec =
     tie.close
     (tie.spec
     returns
-    symmetric-requires
+    (λ c κs. search needs)
     returns-2
-    loopless-requires
+    (λ c κs. search needs)
     returns-3
-    bits-below-requires
+    (λ c κs. search needs)
     returns-4
-    zero-from-requires
+    (λ c κs. search needs)
     returns-5)

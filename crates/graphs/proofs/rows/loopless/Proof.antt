@@ -22,26 +22,11 @@ abbrev μ-loop : tie.MeasureT-loop
 loop-holds : tie.Need-loop-holds Inv-loop μ-loop
 loop-holds c = passed-none
 
-mul-is-set : tie.Need-mul-is-set Inv-loop μ-loop
-mul-is-set c = omega arith
-
-element-copy-out-is-set : tie.Need-element-copy-out-is-set Inv-loop μ-loop
-element-copy-out-is-set c = omega arith
-
-is-set-requires : tie.Need-is-set-requires Inv-loop μ-loop
-is-set-requires c κs = search needs
-
 returns : tie.Need-returns Inv-loop μ-loop
 unfolding loopless linked
 returns c =
     let turn = c .before .before .before in
     failed-at (turn .before .loop .inv) (turn .loop-test .taken) (ap not (c .before .is-set .ensures)) (ap not (c .if1 .taken))
-
-add-v : tie.Need-add-v Inv-loop μ-loop
-add-v c = omega arith
-
-loop-less : tie.Need-loop-less Inv-loop μ-loop
-loop-less c = omega arith
 
 loop-again : tie.Need-loop-again Inv-loop μ-loop
 unfolding linked
@@ -60,11 +45,11 @@ loopless-spec =
     Inv-loop
     μ-loop
     loop-holds
-    mul-is-set
-    element-copy-out-is-set
-    is-set-requires
+    (λ c. omega arith)
+    (λ c. omega arith)
+    (λ c κs. search needs)
     returns
-    add-v
-    loop-less
+    (λ c. omega arith)
+    (λ c. omega arith)
     loop-again
     returns-2)

@@ -15,20 +15,11 @@ abbrev μ-loop : tie.MeasureT-loop
 loop-holds : tie.Need-loop-holds Inv-loop μ-loop
 loop-holds c = passed-none
 
-symmetric-row-requires : tie.Need-symmetric-row-requires Inv-loop μ-loop
-symmetric-row-requires c κs = omega arith
-
 returns : tie.Need-returns Inv-loop μ-loop
 returns c =
     let turn = c .before .before in
     failed-at (turn .before .loop .inv) (turn .loop-test .taken) (c .before .symmetric-row .ensures) (not-true _ (c .if1 .taken))
     ∙ sym (symmetric-rows _ _)
-
-add-u : tie.Need-add-u Inv-loop μ-loop
-add-u c = omega arith
-
-loop-less : tie.Need-loop-less Inv-loop μ-loop
-loop-less c = omega arith
 
 loop-again : tie.Need-loop-again Inv-loop μ-loop
 loop-again c =
@@ -45,9 +36,9 @@ symmetric-spec =
     Inv-loop
     μ-loop
     loop-holds
-    symmetric-row-requires
+    (λ c κs. omega arith)
     returns
-    add-u
-    loop-less
+    (λ c. omega arith)
+    (λ c. omega arith)
     loop-again
     returns-2)

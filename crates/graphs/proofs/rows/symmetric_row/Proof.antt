@@ -22,24 +22,6 @@ abbrev μ-loop : tie.MeasureT-loop
 loop-holds : tie.Need-loop-holds Inv-loop μ-loop
 loop-holds c = passed-none
 
-mul-is-set : tie.Need-mul-is-set Inv-loop μ-loop
-mul-is-set c = omega arith
-
-element-copy-out-is-set : tie.Need-element-copy-out-is-set Inv-loop μ-loop
-element-copy-out-is-set c = omega arith
-
-is-set-requires : tie.Need-is-set-requires Inv-loop μ-loop
-is-set-requires c κs = search needs
-
-mul-is-set-2 : tie.Need-mul-is-set-2 Inv-loop μ-loop
-mul-is-set-2 c = omega arith
-
-element-copy-out-is-set-2 : tie.Need-element-copy-out-is-set-2 Inv-loop μ-loop
-element-copy-out-is-set-2 c = omega arith
-
-is-set-requires-2 : tie.Need-is-set-requires-2 Inv-loop μ-loop
-is-set-requires-2 c κs = search needs
-
 returns : tie.Need-returns Inv-loop μ-loop
 unfolding symmetricRow linked
 returns c =
@@ -47,12 +29,6 @@ returns c =
     let turn = first .before .before in
     failed-at (turn .before .loop .inv) (turn .loop-test .taken)
     (ap₂ Bool·beq (first .is-set .ensures) (c .before .is-set2 .ensures)) (not-true _ (c .if1 .taken))
-
-add-v : tie.Need-add-v Inv-loop μ-loop
-add-v c = omega arith
-
-loop-less : tie.Need-loop-less Inv-loop μ-loop
-loop-less c = omega arith
 
 loop-again : tie.Need-loop-again Inv-loop μ-loop
 unfolding linked
@@ -73,14 +49,14 @@ symmetric-row-spec =
     Inv-loop
     μ-loop
     loop-holds
-    mul-is-set
-    element-copy-out-is-set
-    is-set-requires
-    mul-is-set-2
-    element-copy-out-is-set-2
-    is-set-requires-2
+    (λ c. omega arith)
+    (λ c. omega arith)
+    (λ c κs. search needs)
+    (λ c. omega arith)
+    (λ c. omega arith)
+    (λ c κs. search needs)
     returns
-    add-v
-    loop-less
+    (λ c. omega arith)
+    (λ c. omega arith)
     loop-again
     returns-2)

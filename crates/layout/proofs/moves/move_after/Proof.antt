@@ -34,9 +34,6 @@ inside c = omega (arith, size c, sound (start c .args .l) (pair c .is-valid) .sm
 lent : (c : tie.After-adjacency) → let l = start c .args .l in l .n ≡ length (take (l .n) (l .order))
 lent c = let l = start c .args .l in sym (length-take-le (l .n) (l .order) (inside c))
 
-pair-refusal-requires : tie.Need-pair-refusal-requires
-pair-refusal-requires c κs = search needs
-
 returns : tie.Need-returns
 unfolding moveOf
 returns c =
@@ -49,23 +46,11 @@ array-share-prefix-before c = inside c
 slice-aggregate-place-of : tie.Need-slice-aggregate-place-of
 slice-aggregate-place-of c = lent (c .before)
 
-place-of-requires : tie.Need-place-of-requires
-place-of-requires c κs = search needs
-
 array-share-prefix-before-2 : tie.Need-array-share-prefix-before-2
 array-share-prefix-before-2 c = inside (c .before .before)
 
 slice-aggregate-place-of-2 : tie.Need-slice-aggregate-place-of-2
 slice-aggregate-place-of-2 c = lent (c .before .before .before)
-
-place-of-requires-2 : tie.Need-place-of-requires-2
-place-of-requires-2 c κs = search needs
-
-moved-requires : tie.Need-moved-requires
-moved-requires c κs = search needs
-
-recounted-requires : tie.Need-recounted-requires
-recounted-requires c κs = search needs
 
 returns-2 : tie.Need-returns-2
 unfolding moveOf vertexOrder
@@ -82,5 +67,15 @@ returns-2 c =
 pub move-after-spec : {M : Type 1} → statement M
 move-after-spec =
     tie.close
-    (tie.spec pair-refusal-requires returns array-share-prefix-before slice-aggregate-place-of place-of-requires array-share-prefix-before-2
-    slice-aggregate-place-of-2 place-of-requires-2 moved-requires recounted-requires returns-2)
+    (tie.spec
+    (λ c κs. search needs)
+    returns
+    array-share-prefix-before
+    slice-aggregate-place-of
+    (λ c κs. search needs)
+    array-share-prefix-before-2
+    slice-aggregate-place-of-2
+    (λ c κs. search needs)
+    (λ c κs. search needs)
+    (λ c κs. search needs)
+    returns-2)

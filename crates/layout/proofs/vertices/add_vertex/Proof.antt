@@ -10,9 +10,6 @@ use Rattle.laws.specs.Layouts.VertexEdits.{added-kept}
 use Rattle.layout.proofs.vertices.add_vertex.Statement.{statement}
 use Rattle.layout.proofs.vertices.add_vertex.Tie as tie
 
-is-valid-requires : tie.Need-is-valid-requires
-is-valid-requires c κs = search needs
-
 returns : tie.Need-returns
 unfolding addOf addChecks checked byRefusal refusal isValid hasRoom
 returns c = rw (test-failed (c .before .is-valid .ensures) (c .if1 .taken))
@@ -22,12 +19,6 @@ unfolding addOf addChecks checked byRefusal refusal isValid hasRoom
 returns-2 c =
     let tested = c .before in
     rw (test-held (tested .before .is-valid .ensures) (tested .if1 .left), le-ltb (tested .before .before .args .l .n) 64 (c .if2 .taken))
-
-with-last-requires : tie.Need-with-last-requires
-with-last-requires c κs = search needs
-
-add-size : tie.Need-add-size
-add-size c = search needs
 
 returns-3 : tie.Need-returns-3
 unfolding addOf addChecks checked byRefusal refusal isValid hasRoom
@@ -42,4 +33,12 @@ returns-3 c =
     (added-kept l (subst T (sym is-valid) tt) (room .if2 .left) (placed .with-last .ensures .1) (search needs) (placed .with-last .ensures .0)))
 
 pub add-vertex-spec : {M : Type 1} → statement M
-add-vertex-spec = tie.close (tie.spec is-valid-requires returns returns-2 with-last-requires add-size returns-3)
+add-vertex-spec =
+    tie.close
+    (tie.spec
+    (λ c κs. search needs)
+    returns
+    returns-2
+    (λ c κs. search needs)
+    (λ c. search needs)
+    returns-3)

@@ -16,21 +16,6 @@ start c = c .before .before .before .before
 returns : tie.Need-returns
 returns c = listed-short _ _ (c .if1 .taken)
 
-read-requires : tie.Need-read-requires
-read-requires c κs = search needs
-
-slice-aggregate-put-line : tie.Need-slice-aggregate-put-line
-slice-aggregate-put-line c = search needs
-
-cast-put-line : tie.Need-cast-put-line
-cast-put-line c = search needs
-
-put-line-requires : tie.Need-put-line-requires
-put-line-requires c κs = search needs
-
-same-length : tie.Need-same-length
-same-length c = search needs
-
 returns-2 : tie.Need-returns-2
 unfolding line text upto
 returns-2 c =
@@ -49,9 +34,6 @@ list-layout-requires c κs =
     let good = read-valid (start read .args .bytes .now) (ap (λ (r : LayoutRead). r .refusal) (sym same) ∙ accepted .if2 .left) in
     (rw same (good .0), rw same (good .1), read .before .if1 .left)
 
-same-length-2 : tie.Need-same-length-2
-same-length-2 c = search needs
-
 returns-3 : tie.Need-returns-3
 returns-3 c =
     let listed = c .before .before in
@@ -65,12 +47,12 @@ list-chart-spec =
     tie.close
     (tie.spec
     returns
-    read-requires
-    slice-aggregate-put-line
-    cast-put-line
-    put-line-requires
-    same-length
+    (λ c κs. search needs)
+    (λ c. search needs)
+    (λ c. search needs)
+    (λ c κs. search needs)
+    (λ c. search needs)
     returns-2
     list-layout-requires
-    same-length-2
+    (λ c. search needs)
     returns-3)

@@ -36,32 +36,14 @@ inside c =
     let size : length (c .converge .result .layout .order) ≡ 64 = search needs in
     omega (arith, few (start c))
 
-converge-requires : tie.Need-converge-requires
-converge-requires c κs = search needs
-
 cast-t11 : tie.Need-cast-t11
 cast-t11 c = omega (arith, few (start (c .before)))
-
-edge-count-requires : tie.Need-edge-count-requires
-edge-count-requires c κs = search needs
-
-put-numbers-requires : tie.Need-put-numbers-requires
-put-numbers-requires c κs = search needs
-
-put-settled-requires : tie.Need-put-settled-requires
-put-settled-requires c κs = search needs
 
 array-share-prefix-order : tie.Need-array-share-prefix-order
 array-share-prefix-order c = inside (settled (edges (numbers (state c))))
 
 slice-aggregate-put-order-line : tie.Need-slice-aggregate-put-order-line
 slice-aggregate-put-order-line c = sym (length-take-le _ _ (inside (settled (edges (numbers (state (c .before)))))))
-
-put-order-line-requires : tie.Need-put-order-line-requires
-put-order-line-requires c κs = search needs
-
-same-length : tie.Need-same-length
-same-length c = search needs
 
 returns : tie.Need-returns
 returns c =
@@ -84,13 +66,13 @@ pub list-layout-spec : {M : Type 1} → statement M
 list-layout-spec =
     tie.close
     (tie.spec
-    converge-requires
+    (λ c κs. search needs)
     cast-t11
-    edge-count-requires
-    put-numbers-requires
-    put-settled-requires
+    (λ c κs. search needs)
+    (λ c κs. search needs)
+    (λ c κs. search needs)
     array-share-prefix-order
     slice-aggregate-put-order-line
-    put-order-line-requires
-    same-length
+    (λ c κs. search needs)
+    (λ c. search needs)
     returns)

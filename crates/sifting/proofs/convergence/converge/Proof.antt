@@ -11,9 +11,6 @@ use Rattle.sifting.proofs.convergence.converge.Tie as tie
 accepted : (c : tie.Else1) → let s = c .before .before .args in refusal (settleChecks (s .l) (s .limit)) ≡ 0
 accepted c = sym (c .before .limit-refusal .ensures) ∙ c .if1 .left
 
-limit-refusal-requires : tie.Need-limit-refusal-requires
-limit-refusal-requires c κs = search needs
-
 returns : tie.Need-returns
 unfolding settleOf
 returns c =
@@ -35,4 +32,4 @@ returns-2 c =
     ∙ sym (when-accepted (settleChecks (s .l) (s .limit)) (roundsUpTo (s .limit) (s .l)) (settleRefused (s .l)) (accepted (c .before)))
 
 pub converge-spec : {M : Type 1} → statement M
-converge-spec = tie.close (tie.spec limit-refusal-requires returns run-rounds-requires returns-2)
+converge-spec = tie.close (tie.spec (λ c κs. search needs) returns run-rounds-requires returns-2)

@@ -18,9 +18,6 @@ loop-holds c =
     let start = c .before in
     settling-start (start .args .l) (start .args .limit) (start .pre .0)
 
-crossings-of-requires : tie.Need-crossings-of-requires Inv-loop μ-loop
-crossings-of-requires c κs = tt
-
 -- what is counted before the first round
 crossings-before : (c : tie.After-crossings-of Inv-loop μ-loop) → c .crossings-of .result ≡ crossingsOf (c .before .args .l)
 crossings-before c = c .crossings-of .ensures ∙ counted-valid _ (c .before .pre .0)
@@ -48,17 +45,11 @@ add-optima c =
     let start = turn .before .before .pre in
     omega (arith, settling-bounds (turn .loop .inv) (round .before .loop-test .taken) (start .0) (round .sift-all .ensures) .1, start .1)
 
-add-rounds : tie.Need-add-rounds Inv-loop μ-loop
-add-rounds c = omega arith
-
 returns : tie.Need-returns Inv-loop μ-loop
 returns c =
     let summed = c .before .before in
     let round = summed .before .before in
     settling-still (round .before .before .loop .inv) (round .before .loop-test .taken) (round .sift-all .ensures) (c .if1 .taken)
-
-loop-less : tie.Need-loop-less Inv-loop μ-loop
-loop-less c = omega arith
 
 loop-again : tie.Need-loop-again Inv-loop μ-loop
 loop-again c =
@@ -75,14 +66,14 @@ run-rounds-spec =
     (tie.spec
     Inv-loop
     μ-loop
-    crossings-of-requires
+    (λ c κs. tt)
     loop-holds
     sub-crossings
     sift-all-requires
     add-reduction
     add-optima
-    add-rounds
+    (λ c. omega arith)
     returns
-    loop-less
+    (λ c. omega arith)
     loop-again
     returns-2)

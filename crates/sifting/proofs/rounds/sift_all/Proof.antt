@@ -36,12 +36,6 @@ sift-next-requires c κs =
       s .few,
     )
 
-add-u : tie.Need-add-u Inv-loop μ-loop
-add-u c = omega arith
-
-loop-less : tie.Need-loop-less Inv-loop μ-loop
-loop-less c = omega arith
-
 loop-again : tie.Need-loop-again Inv-loop μ-loop
 loop-again c =
     let test = c .before .before in
@@ -51,4 +45,15 @@ returns : tie.Need-returns Inv-loop μ-loop
 returns c = round-end (c .before .loop .inv) (c .loop-test .left)
 
 pub sift-all-spec : {M : Type 1} → statement M
-sift-all-spec = tie.close (tie.spec Inv-loop μ-loop loop-holds sub-crossings sift-next-requires add-u loop-less loop-again returns)
+sift-all-spec =
+    tie.close
+    (tie.spec
+    Inv-loop
+    μ-loop
+    loop-holds
+    sub-crossings
+    sift-next-requires
+    (λ c. omega arith)
+    (λ c. omega arith)
+    loop-again
+    returns)

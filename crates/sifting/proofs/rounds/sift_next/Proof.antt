@@ -36,12 +36,6 @@ moved c =
     ∙ ap (λ (x : ℕ). cond (eqb x 0) 0 1) (saved c)
     ∙ moves-saving (s .s .layout) (ready .0) (s .u) (ready .1)
 
-sift-vertex-requires : tie.Need-sift-vertex-requires
-sift-vertex-requires c κs = search needs
-
-moved-by-requires : tie.Need-moved-by-requires
-moved-by-requires c κs = search needs
-
 add-reduction : tie.Need-add-reduction
 unfolding reduction
 add-reduction c =
@@ -80,4 +74,12 @@ returns c =
     (sift sifting .sift-vertex .ensures) (moved sifting)
 
 pub sift-next-spec : {M : Type 1} → statement M
-sift-next-spec = tie.close (tie.spec sift-vertex-requires moved-by-requires add-reduction add-moved add-optima returns)
+sift-next-spec =
+    tie.close
+    (tie.spec
+    (λ c κs. search needs)
+    (λ c κs. search needs)
+    add-reduction
+    add-moved
+    add-optima
+    returns)

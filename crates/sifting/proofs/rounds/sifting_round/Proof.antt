@@ -9,18 +9,12 @@ use Rattle.laws.specs.Layouts.Recount.{counted-valid}
 use Rattle.sifting.proofs.rounds.sifting_round.Statement.{statement}
 use Rattle.sifting.proofs.rounds.sifting_round.Tie as tie
 
-is-valid-requires : tie.Need-is-valid-requires
-is-valid-requires c κs = search needs
-
 returns : tie.Need-returns
 unfolding roundOf checked byRefusal refusal isValid
 returns c = rw (test-failed (c .before .is-valid .ensures) (c .if1 .taken))
 
 accepted : (c : tie.Else1) → T (valid (c .before .before .args .l))
 accepted c = subst T (sym (test-held (c .before .is-valid .ensures) (c .if1 .left))) tt
-
-crossings-of-requires : tie.Need-crossings-of-requires
-crossings-of-requires c κs = tt
 
 sift-all-requires : tie.Need-sift-all-requires
 sift-all-requires c κs = let passed = accepted (c .before) in (passed, c .crossings-of .ensures ∙ counted-valid _ passed)
@@ -32,4 +26,4 @@ returns-2 c =
     rw (test-held (passed .before .is-valid .ensures) (passed .if1 .left)) (c .sift-all .ensures)
 
 pub sifting-round-spec : {M : Type 1} → statement M
-sifting-round-spec = tie.close (tie.spec is-valid-requires returns crossings-of-requires sift-all-requires returns-2)
+sifting-round-spec = tie.close (tie.spec (λ c κs. search needs) returns (λ c κs. tt) sift-all-requires returns-2)

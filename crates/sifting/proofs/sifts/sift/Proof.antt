@@ -16,18 +16,12 @@ checks c =
     let s = c .before .before .args in
     vertex-passed (s .l) (s .u) (sym (c .before .vertex-refusal .ensures) ∙ c .if1 .left)
 
-vertex-refusal-requires : tie.Need-vertex-refusal-requires
-vertex-refusal-requires c κs = search needs
-
 returns : tie.Need-returns
 unfolding siftOf siftChecks
 returns c =
     let l = c .before .before .args .l in
     let u = c .before .before .args .u in
     sym (when-refused (siftChecks l u) (siftAnswer l u) (siftRefused l) (c .before .vertex-refusal .ensures) (c .if1 .taken))
-
-crossings-of-requires : tie.Need-crossings-of-requires
-crossings-of-requires c κs = tt
 
 sift-vertex-requires : tie.Need-sift-vertex-requires
 sift-vertex-requires c κs =
@@ -41,4 +35,4 @@ returns-2 c =
     c .sift-vertex .ensures ∙ sym (sift-accepted (s .l) (s .u) (checks accepted .0) (checks accepted .1))
 
 pub sift-spec : {M : Type 1} → statement M
-sift-spec = tie.close (tie.spec vertex-refusal-requires returns crossings-of-requires sift-vertex-requires returns-2)
+sift-spec = tie.close (tie.spec (λ c κs. search needs) returns (λ c κs. tt) sift-vertex-requires returns-2)

@@ -36,12 +36,6 @@ saves c =
     let ready = start c .pre in
     sifted-saves (s .l) (ready .0) (s .u) (ready .1) (ready .2) (found c .after)
 
-best-order-requires : tie.Need-best-order-requires
-best-order-requires c κs = search needs
-
-carried-requires : tie.Need-carried-requires
-carried-requires c κs = search needs
-
 sub-reduction : tie.Need-sub-reduction
 sub-reduction c = omega (arith, saves (c .before) .0)
 
@@ -58,4 +52,4 @@ returns c =
     (best .optima-are ∙ sym (sifted-optima (s .l) (ready .0) (s .u) (ready .1)))
 
 pub sift-vertex-spec : {M : Type 1} → statement M
-sift-vertex-spec = tie.close (tie.spec best-order-requires sub-reduction carried-requires returns)
+sift-vertex-spec = tie.close (tie.spec (λ c κs. search needs) sub-reduction (λ c κs. search needs) returns)

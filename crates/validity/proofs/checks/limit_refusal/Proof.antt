@@ -6,9 +6,6 @@ use Rattle.laws.specs.Sums.Indicators.{test-held, test-failed}
 use Rattle.validity.proofs.checks.limit_refusal.Statement.{statement}
 use Rattle.validity.proofs.checks.limit_refusal.Tie as tie
 
-is-valid-requires : tie.Need-is-valid-requires
-is-valid-requires c κs = search needs
-
 returns : tie.Need-returns
 unfolding settleChecks refusal isValid limitFits
 returns c = rw (test-failed (c .before .is-valid .ensures) (c .if1 .taken))
@@ -32,4 +29,4 @@ returns-4 c =
     rw (test-held (tested .before .is-valid .ensures) (tested .if1 .left), le-leb _ _ (c .before .if2 .left), le-leb _ _ (c .if3 .left))
 
 pub limit-refusal-spec : {M : Type 1} → statement M
-limit-refusal-spec = tie.close (tie.spec is-valid-requires returns returns-2 returns-3 returns-4)
+limit-refusal-spec = tie.close (tie.spec (λ c κs. search needs) returns returns-2 returns-3 returns-4)

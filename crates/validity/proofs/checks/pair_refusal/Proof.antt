@@ -10,9 +10,6 @@ use Rattle.laws.specs.Sums.Indicators.{test-held, test-failed}
 use Rattle.validity.proofs.checks.pair_refusal.Statement.{statement}
 use Rattle.validity.proofs.checks.pair_refusal.Tie as tie
 
-is-valid-requires : tie.Need-is-valid-requires
-is-valid-requires c κs = search needs
-
 returns : tie.Need-returns
 unfolding moveChecks refusal isValid isVertex differ
 returns c = rw (test-failed (c .before .is-valid .ensures) (c .if1 .taken))
@@ -45,4 +42,4 @@ returns-5 c =
 
 pub pair-refusal-spec : {M : Type 1} → statement M
 pair-refusal-spec =
-    tie.close (tie.spec is-valid-requires returns returns-2 returns-3 returns-4 returns-5)
+    tie.close (tie.spec (λ c κs. search needs) returns returns-2 returns-3 returns-4 returns-5)

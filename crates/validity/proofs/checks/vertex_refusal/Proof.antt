@@ -9,9 +9,6 @@ use Rattle.laws.specs.Sums.Indicators.{test-held, test-failed}
 use Rattle.validity.proofs.checks.vertex_refusal.Statement.{statement}
 use Rattle.validity.proofs.checks.vertex_refusal.Tie as tie
 
-is-valid-requires : tie.Need-is-valid-requires
-is-valid-requires c κs = search needs
-
 returns : tie.Need-returns
 unfolding refusal isValid isVertex
 returns c = rw (test-failed (c .before .is-valid .ensures) (c .if1 .taken))
@@ -33,4 +30,4 @@ returns-3 c =
     rw (accepted (c .before), lt-ltb (s .v) (s .l .n) (omega arith))
 
 pub vertex-refusal-spec : {M : Type 1} → statement M
-vertex-refusal-spec = tie.close (tie.spec is-valid-requires returns returns-2 returns-3)
+vertex-refusal-spec = tie.close (tie.spec (λ c κs. search needs) returns returns-2 returns-3)

@@ -9,15 +9,9 @@ use Rattle.model.specs.Layouts.{valid, vertexOrder, symmetric, loopless, bitsBe
 use Rattle.validity.proofs.validity.is_valid.Statement.{statement}
 use Rattle.validity.proofs.validity.is_valid.Tie as tie
 
-order-valid-requires : tie.Need-order-valid-requires
-order-valid-requires c κs = search needs
-
 returns : tie.Need-returns
 unfolding valid vertexOrder
 returns c = rw (test-failed (c .before .order-valid .ensures) (c .if1 .taken))
-
-is-graph-requires : tie.Need-is-graph-requires
-is-graph-requires c κs = search needs
 
 -- of what is asked of the words, the first is known already
 words : (n : ℕ) (adj : List ℕ) {r : Bool} → leb n 64 ≡ true → r ≡ (leb n 64 && symmetric n adj && loopless n adj && bitsBelow n adj && zeroFrom n adj)
@@ -32,4 +26,4 @@ returns-2 c =
     rw ordered (words _ _ (both-left _ _ (both-left _ _ ordered)) (c .is-graph .ensures))
 
 pub is-valid-spec : {M : Type 1} → statement M
-is-valid-spec = tie.close (tie.spec order-valid-requires returns is-graph-requires returns-2)
+is-valid-spec = tie.close (tie.spec (λ c κs. search needs) returns (λ c κs. search needs) returns-2)
