@@ -693,7 +693,7 @@ def _parts(graph: GraphOrEdges) -> Tuple[List[Hashable], List[Tuple[Hashable, Ha
     return nodes, [_pair(edge) for edge in edges]
 
 
-def _numbered(labels: Sequence[Hashable], pairs: Iterable[Tuple[Hashable, Hashable]]) -> Layout:
+def _numbered(labels: Sequence[Hashable], pairs: Sequence[Tuple[Hashable, Hashable]]) -> Layout:
     """The layout of the vertices in this order, each numbered by its place, with these edges."""
     number = {label: v for v, label in enumerate(labels)}
     for a, b in pairs:
