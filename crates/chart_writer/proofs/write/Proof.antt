@@ -1,12 +1,11 @@
 use borrow.Author.Needs.{needs}
 use Prim.Native.Nat.{_≤_}
-use mathlib.Core.Path.{_≡_, refl, sym, ap, _∙_}
-use mathlib.Core.Bool.{Bool}
+use mathlib.Core.Path.{_≡_, refl, sym, _∙_}
 use lib.ListN.{length as len}
 use lib.Seq.{length-take-le}
 use Rattle.model.specs.Checks.{refusal}
 use Rattle.laws.specs.Buffers.Formats.{chart-coded}
-use Rattle.buffer_checks.specs.Answers.{asks, refused}
+use Rattle.buffer_checks.specs.Answers.{refused}
 use Rattle.chart_writer.specs.Answers.{ChartAsked, counted-is, inside, fits, chart-written}
 use Rattle.chart_writer.proofs.write.Statement.{statement}
 use Rattle.chart_writer.proofs.write.Tie as tie
@@ -24,14 +23,13 @@ asked : (c : tie.After-write-refusal)
 unfolding refusal
 asked c =
     let length = counted c .chart-length in
-    let size = len (start (counted c) .args .buffer .now) in
     record {
       asked =
           record {
             coded = chart-coded;
             own-is = λ t. refl;
             measured = λ t. length .ensures ∙ counted-is _ t;
-            told = c .write-refusal .ensures ∙ ap (λ (b : Bool). refusal (asks 19 b 0 (length .result) size)) (c .before .is-valid .ensures);
+            told = rw (c .before .is-valid .ensures) at (c .write-refusal .ensures);
           };
       measured = length .ensures;
     }

@@ -1,11 +1,9 @@
 use borrow.Author.Needs.{needs}
-use mathlib.Core.Path.{refl, ap, _∙_}
-use mathlib.Core.Bool.{Bool}
-use lib.ListN.{length}
+use mathlib.Core.Path.{refl}
 use Rattle.model.specs.Checks.{refusal}
 use Rattle.model.specs.EdgeCrossings.{tableFormat}
 use Rattle.laws.specs.Buffers.Formats.{table-coded}
-use Rattle.buffer_checks.specs.Answers.{asks, Asked}
+use Rattle.buffer_checks.specs.Answers.{Asked}
 use Rattle.edge_crossings.specs.Answers.{counted-is, refused, fits, numbers-put}
 use Rattle.edge_crossings.proofs.edge_crossings.Statement.{statement}
 use Rattle.edge_crossings.proofs.edge_crossings.Tie as tie
@@ -23,13 +21,11 @@ asked : (c : tie.After-write-refusal)
     Asked tableFormat (s .l) (s .table .now) 0 number (c .write-refusal .result)
 unfolding refusal
 asked c =
-    let edges = counted c .edge-count in
-    let size = length (start (counted c) .args .table .now) in
     record {
       coded = table-coded;
       own-is = λ t. refl;
-      measured = λ t. counted-is _ t (edges .ensures);
-      told = c .write-refusal .ensures ∙ ap (λ (b : Bool). refusal (asks 23 b 0 (edges .result) size)) (c .before .is-valid .ensures);
+      measured = λ t. counted-is _ t (counted c .edge-count .ensures);
+      told = rw (c .before .is-valid .ensures) at (c .write-refusal .ensures);
     }
 
 -- from where the table is lent to where the checks have passed

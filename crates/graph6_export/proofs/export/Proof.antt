@@ -1,13 +1,11 @@
 use borrow.Author.Needs.{needs}
 use Prim.Native.Nat.{_+_}
 use native.Mathlib.Omega.{arith}
-use mathlib.Core.Path.{_≡_, refl, ap, _∙_}
-use mathlib.Core.Bool.{Bool}
-use lib.ListN.{length as len}
+use mathlib.Core.Path.{_≡_, refl, _∙_}
 use Rattle.model.specs.Checks.{refusal}
 use Rattle.model.specs.Graph6.{graph6Format}
 use Rattle.laws.specs.Buffers.Formats.{graph6-coded}
-use Rattle.buffer_checks.specs.Answers.{asks, Asked, refused}
+use Rattle.buffer_checks.specs.Answers.{Asked, refused}
 use Rattle.graph6_export.specs.Parts.{counted, counted-is, parts-long, parts-few, fits, graph-written}
 use Rattle.graph6_export.proofs.export.Statement.{statement}
 use Rattle.graph6_export.proofs.export.Tie as tie
@@ -15,27 +13,28 @@ use Rattle.graph6_export.proofs.export.Tie as tie
 add-length : tie.Need-add-length
 add-length c = omega (arith, parts-few _ (c .before .size-length .ensures) (c .data-length .ensures))
 
--- what the call has asked, from where both lengths are known
+-- from the checks to where both lengths are known, and from there to the start
+abbrev known : tie.After-write-refusal → tie.After-data-length
+known c = c .before .before
+
 abbrev start : tie.After-data-length → tie.Start
 start c = c .before .before .before .before
 
 parts : (c : tie.After-write-refusal)
-    → let known = c .before .before in known .before .size-length .result + known .data-length .result ≡ counted (start known .args .l .n)
-parts c = let known = c .before .before in parts-long _ (known .before .size-length .ensures) (known .data-length .ensures)
+    → known c .before .size-length .result + known c .data-length .result ≡ counted (start (known c) .args .l .n)
+parts c = parts-long _ (known c .before .size-length .ensures) (known c .data-length .ensures)
 
+-- what the call has asked
 asked : (c : tie.After-write-refusal)
-    → let known = c .before .before in let s = start known .args in
-    Asked graph6Format (s .l) (s .buffer .now) 0 (known .before .size-length .result + known .data-length .result) (c .write-refusal .result)
+    → let s = start (known c) .args in
+    Asked graph6Format (s .l) (s .buffer .now) 0 (known c .before .size-length .result + known c .data-length .result) (c .write-refusal .result)
 unfolding refusal
 asked c =
-    let known = c .before .before in
-    let s = start known .args in
-    let long = known .before .size-length .result + known .data-length .result in
     record {
       coded = graph6-coded;
       own-is = λ t. refl;
-      measured = λ t. parts c ∙ counted-is (s .l) t;
-      told = c .write-refusal .ensures ∙ ap (λ (b : Bool). refusal (asks 19 b 0 long (len (s .buffer .now)))) (c .before .is-valid .ensures);
+      measured = λ t. parts c ∙ counted-is _ t;
+      told = rw (c .before .is-valid .ensures) at (c .write-refusal .ensures);
     }
 
 returns : tie.Need-returns
