@@ -14,4 +14,4 @@ unfolding f.Code.routine
 rl-export-graph6-spec 𝓤 H 𝓜 𝓖 𝓡 =
     calling 𝓤 H 𝓜 𝓖 𝓡 f.Code.env f.Key.name
     (walks w8 (struct LayoutWritten.the-type LayoutWritten.Laws.the-laws) (writeOf graph6Format) (writtenBytes graph6Format) g.Symbol.name 𝓤 H (𝓖 .A))
-    (f.spec 𝓤 H) refl (f.Code.unfolded 𝓤 H 𝓜 𝓡) (g.spec 𝓤 H) refl f.Code.calls-exporter·export (g.Met.met 𝓤 H 𝓜 𝓖 𝓡)
+    (f.spec 𝓤 H) refl (f.Code.unfolded 𝓤 H 𝓜 𝓡) (g.spec 𝓤 H) refl f.Code.calls-graph6-export·export (g.Met.met 𝓤 H 𝓜 𝓖 𝓡)

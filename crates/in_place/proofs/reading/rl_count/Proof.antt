@@ -12,4 +12,4 @@ pub rl-count-spec : {M : Type 1} → f.Statement.statement M
 unfolding f.Code.routine
 rl-count-spec 𝓤 H 𝓜 𝓖 𝓡 =
     calling 𝓤 H 𝓜 𝓖 𝓡 f.Code.env f.Key.name (walks (struct Counted.the-type Counted.Laws.the-laws) (numbers []) (λ l _ _. countOf l) g.Symbol.name 𝓤 H (𝓖 .A))
-    (f.spec 𝓤 H) refl (f.Code.unfolded 𝓤 H 𝓜 𝓡) (g.spec 𝓤 H) refl f.Code.calls-reads·count (g.Met.met 𝓤 H 𝓜 𝓖 𝓡)
+    (f.spec 𝓤 H) refl (f.Code.unfolded 𝓤 H 𝓜 𝓡) (g.spec 𝓤 H) refl f.Code.calls-queries·count (g.Met.met 𝓤 H 𝓜 𝓖 𝓡)

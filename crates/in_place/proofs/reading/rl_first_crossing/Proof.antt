@@ -13,4 +13,4 @@ unfolding f.Code.routine
 rl-first-crossing-spec 𝓤 H 𝓜 𝓖 𝓡 =
     calling 𝓤 H 𝓜 𝓖 𝓡 f.Code.env f.Key.name
     (walks (struct CrossingReport.the-type CrossingReport.Laws.the-laws) (numbers []) (λ l _ _. crossingReportOf l) g.Symbol.name 𝓤 H (𝓖 .A))
-    (f.spec 𝓤 H) refl (f.Code.unfolded 𝓤 H 𝓜 𝓡) (g.spec 𝓤 H) refl f.Code.calls-reports·crossing-report (g.Met.met 𝓤 H 𝓜 𝓖 𝓡)
+    (f.spec 𝓤 H) refl (f.Code.unfolded 𝓤 H 𝓜 𝓡) (g.spec 𝓤 H) refl f.Code.calls-crossing-report·crossing-report (g.Met.met 𝓤 H 𝓜 𝓖 𝓡)

@@ -14,4 +14,4 @@ unfolding f.Code.routine
 rl-write-chart-spec 𝓤 H 𝓜 𝓖 𝓡 =
     calling 𝓤 H 𝓜 𝓖 𝓡 f.Code.env f.Key.name
     (walks w8 (struct LayoutWritten.the-type LayoutWritten.Laws.the-laws) (writeOf chartFormat) (writtenBytes chartFormat) g.Symbol.name 𝓤 H (𝓖 .A))
-    (f.spec 𝓤 H) refl (f.Code.unfolded 𝓤 H 𝓜 𝓡) (g.spec 𝓤 H) refl f.Code.calls-writer·write (g.Met.met 𝓤 H 𝓜 𝓖 𝓡)
+    (f.spec 𝓤 H) refl (f.Code.unfolded 𝓤 H 𝓜 𝓡) (g.spec 𝓤 H) refl f.Code.calls-chart-writer·write (g.Met.met 𝓤 H 𝓜 𝓖 𝓡)
