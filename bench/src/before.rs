@@ -1,11 +1,11 @@
-//! The calls that change a lent layout, by the library of an earlier commit and as
-//! it is now. Both are loaded as shared libraries, so that both are called alike.
+//! The calls on a lent layout, by the library of an earlier commit and as it is
+//! now. Both are loaded as shared libraries, so that both are called alike.
 
 use std::ffi::{c_char, c_int, c_void, CStr, CString};
 use std::mem::transmute_copy;
 
-use layouts::layout;
-use rostulanda::ffi::{self, Convergence, Round, Sifted, Tally};
+use layouts::{chart, layout};
+use rostulanda::ffi::{self, Convergence, Counted, EdgesCounted, Round, Sifted, Tally, Written};
 use rostulanda::Fields;
 use second::layout::Layout;
 
@@ -23,6 +23,7 @@ pub fn print(before: &str, now: &str) -> Outcome {
     println!("microseconds of a call: median and minimum, by the library of the commit and as it is now; ratio: now to before\n");
     print_heading(&["before", "now"]);
     edits(libraries, 1000)?;
+    files(libraries, 1000)?;
     appending(libraries)?;
     SIFTED
         .iter()
@@ -64,6 +65,24 @@ fn edits(libraries: &Libraries, edges: usize) -> Outcome {
     libraries.line(&name("move"), l, |by, l| (by.move_after)(l, c, d))
 }
 
+/// Reading, writing and counting 64 vertices with so many edges.
+fn files(libraries: &Libraries, edges: usize) -> Outcome {
+    let l = &layout(64, edges);
+    let chart = &chart(l);
+    let name = |call| of_64(call, edges);
+    libraries.line(&name("count"), l, |by, l| (by.count)(l))?;
+    libraries.line(&name("reading a chart"), l, |by, l| by.read_chart(l, chart))?;
+    libraries.line(&name("writing a chart"), l, |by, l| {
+        by.written(by.write_chart, l)
+    })?;
+    libraries.line(&name("exporting a graph6"), l, |by, l| {
+        by.written(by.export_graph6, l)
+    })?;
+    libraries.line(&name("the crossings of every edge"), l, |by, l| {
+        by.edge_crossings(l)
+    })
+}
+
 /// Laying 64 vertices.
 fn appending(libraries: &Libraries) -> Outcome {
     let start = VERTEX as usize;
@@ -91,7 +110,15 @@ struct Library {
     sift: extern "C" fn(&mut Fields, usize) -> Sifted,
     sifting_round: extern "C" fn(&mut Fields) -> Round,
     converge: extern "C" fn(&mut Fields, u32) -> Convergence,
+    count: extern "C" fn(&Fields) -> Counted,
+    read_chart: unsafe extern "C" fn(&mut Fields, *const u8, usize) -> u8,
+    write_chart: Writer,
+    export_graph6: Writer,
+    edge_crossings: unsafe extern "C" fn(&Fields, *mut u32, usize) -> EdgesCounted,
 }
+
+/// A call that writes a layout into a lent buffer.
+type Writer = unsafe extern "C" fn(&Fields, *mut u8, usize) -> Written;
 
 /// The types above are those of the Rust host, or this does not compile.
 const _: Library = Library {
@@ -102,6 +129,11 @@ const _: Library = Library {
     sift: ffi::rl_sift,
     sifting_round: ffi::rl_sifting_round,
     converge: ffi::rl_converge,
+    count: ffi::rl_count,
+    read_chart: ffi::rl_read_chart,
+    write_chart: ffi::rl_write_chart,
+    export_graph6: ffi::rl_export_graph6,
+    edge_crossings: ffi::rl_edge_crossings,
 };
 
 impl Library {
@@ -118,8 +150,31 @@ impl Library {
                 sift: shared.function(c"rl_sift")?,
                 sifting_round: shared.function(c"rl_sifting_round")?,
                 converge: shared.function(c"rl_converge")?,
+                count: shared.function(c"rl_count")?,
+                read_chart: shared.function(c"rl_read_chart")?,
+                write_chart: shared.function(c"rl_write_chart")?,
+                export_graph6: shared.function(c"rl_export_graph6")?,
+                edge_crossings: shared.function(c"rl_edge_crossings")?,
             })
         }
+    }
+
+    fn read_chart(&self, l: &mut Fields, chart: &[u8]) -> u8 {
+        // SAFETY: the bytes are there as long as the call.
+        unsafe { (self.read_chart)(l, chart.as_ptr(), chart.len()) }
+    }
+
+    /// Writes into a buffer that has room for any chart.
+    fn written(&self, writer: Writer, l: &Fields) -> Written {
+        let mut buffer = [0; 4106];
+        // SAFETY: the buffer is there as long as the call, and nothing else uses it.
+        unsafe { writer(l, buffer.as_mut_ptr(), buffer.len()) }
+    }
+
+    fn edge_crossings(&self, l: &Fields) -> EdgesCounted {
+        let mut table = [0; 2016];
+        // SAFETY: the table is there as long as the call, and nothing else uses it.
+        unsafe { (self.edge_crossings)(l, table.as_mut_ptr(), table.len()) }
     }
 }
 

@@ -106,12 +106,12 @@ unsafe extern "C" {
     pub safe fn rl_first_crossing(l: &Fields) -> Crossing;
     pub safe fn rl_is_valid(l: &Fields) -> bool;
 
-    unsafe fn rl_read_chart(l: &mut Fields, chart: *const u8, length: usize) -> u8;
+    pub unsafe fn rl_read_chart(l: &mut Fields, chart: *const u8, length: usize) -> u8;
     unsafe fn rl_import_graph6(l: &mut Fields, graph6: *const u8, length: usize) -> u8;
     unsafe fn rl_order(l: &Fields, buffer: *mut u8, length: usize) -> u8;
-    unsafe fn rl_write_chart(l: &Fields, buffer: *mut u8, length: usize) -> Written;
-    unsafe fn rl_export_graph6(l: &Fields, buffer: *mut u8, length: usize) -> Written;
-    unsafe fn rl_edge_crossings(l: &Fields, table: *mut u32, length: usize) -> EdgesCounted;
+    pub unsafe fn rl_write_chart(l: &Fields, buffer: *mut u8, length: usize) -> Written;
+    pub unsafe fn rl_export_graph6(l: &Fields, buffer: *mut u8, length: usize) -> Written;
+    pub unsafe fn rl_edge_crossings(l: &Fields, table: *mut u32, length: usize) -> EdgesCounted;
     unsafe fn rl_list_chart(
         chart: *const u8,
         length: usize,
