@@ -4,7 +4,7 @@ use native.Mathlib.Nat.{lt-of-lt-of-le}
 use native.Mathlib.Omega.{arith}
 use mathlib.Core.Path.{_≡_, sym, ap, _∙_, subst}
 use mathlib.Core.List.{List, _++_}
-use lib.ListN.{take, drop}
+use lib.ListN.{drop}
 use lib.Seq.{take-at}
 use lib.Dec.{T}
 use Rattle.model.specs.declared.Layout.{Layout}

@@ -13,6 +13,7 @@ use Rattle.model.specs.Crossings.{bit, unitWeight}
 use Rattle.model.specs.Edits.{withBit}
 use Rattle.model.specs.GreedyAppend.{Placing, waiting, hasEdges, degreeIn, nextVertex, closing, open′, frontCrossings, backCrossings}
 use Rattle.model.specs.GreedyAppend.{alone, placeFront, placeBack, placeVertex, placeMore, placeLinked}
+use Rattle.laws.specs.Crossings.Bound.{mostOfPlace}
 use Rattle.laws.specs.Sums.Bits.{set-lt}
 use Rattle.laws.specs.Sums.Indicators.{less, same, more, order}
 use Rattle.laws.specs.Sums.Lists.{All, all-mono, sumPairs-ext}
@@ -56,12 +57,12 @@ pub record Fitting (s : Partial) (v : ℕ) : Type 0 where
   pub vertices : All (λ x. x < 64) (entries (s .line))
   pub room : s .line .size < 64
   pub vertex : v < 64
-  pub tally : s .tally ≤ 16777216
+  pub tally : s .tally ≤ mostOfPlace * 64
 
 -- the crossings of a step are few
 pub record Few (ends : Ends) : Type 0 where
-  pub front : ends .front ≤ 262144
-  pub back : ends .back ≤ 262144
+  pub front : ends .front ≤ mostOfPlace
+  pub back : ends .back ≤ mostOfPlace
 
 pub ends-few : (adj : List ℕ) (word others : ℕ) {l : Line} → Centred l → Few (endsOf adj word others (entries l))
 ends-few adj word others {l} c =
@@ -72,7 +73,7 @@ ends-few adj word others {l} c =
 -- some of n vertices are placed, and the tally has room for more
 pub record Underway (n : ℕ) (s : Partial) : Type 0 where
   pub part : Partly n (s .line) (s .placed)
-  pub bounded : s .tally ≤ 262144 * s .line .size
+  pub bounded : s .tally ≤ mostOfPlace * s .line .size
 
 -- r is s with v placed
 record Stepped (n : ℕ) (adj : List ℕ) (s : Partial) (v : ℕ) (r : Partial) : Type 0 where
@@ -148,7 +149,7 @@ module _ {n : ℕ} {adj : List ℕ} {s : Partial} (w : Words n adj) (u : Underwa
     grown-size : line .size ≡ s .line .size + 1
     grown-size = omega (arith, entries-length c, entries-length (u .part .centred), ap length e)
 
-    grown : Placed n ys → Held next ys → (k : ℕ) → k ≤ 262144 → Underway n (record { line = line; placed = next; tally = s .tally + k })
+    grown : Placed n ys → Held next ys → (k : ℕ) → k ≤ mostOfPlace → Underway n (record { line = line; placed = next; tally = s .tally + k })
     grown o h k l =
         record {
           part = record { centred = c; order = subst (Placed n) (sym e) o; held = subst (Held next) (sym e) h };

@@ -23,8 +23,6 @@ use Rattle.laws.specs.Layouts.Validity.{permutation-eachOnce}
 use Rattle.laws.specs.Crossings.Bound.{mostEdges}
 use Rattle.laws.specs.Buffers.EdgeBytes.{edge-bytes-length}
 use Rattle.laws.specs.Buffers.Charts.{chartWith, chart-length}
-use Rattle.laws.specs.Charts.Words.{adjacencyOf}
-use Rattle.laws.specs.Charts.Padded.{padded}
 use Rattle.laws.specs.Charts.Reading.{read-number, read-is}
 use Rattle.chart_roundtrip.specs.Fields.{fieldOf, field-bytes, allBytes, fields-read}
 use Rattle.laws.specs.Crossings.Edges.{edge-rises, edge-below}

@@ -8,6 +8,7 @@ use mathlib.Core.List.{List}
 use lib.Dec.{ltb}
 use Rattle.model.specs.Lists.{one}
 use Rattle.model.specs.Edits.{withBit, withoutBit}
+use Rattle.laws.specs.Crossings.Bound.{mostOfPlace}
 use Rattle.laws.specs.Sums.Indicators.{order, one-lt, one-ge}
 use Rattle.laws.specs.Sums.Ranges.{sum, sum-zero}
 use Rattle.laws.specs.Sums.Bits.{maskedOnes}
@@ -68,7 +69,7 @@ pub record CountUpTo (n : ℕ) (order adj : List ℕ) (before from total j : ℕ
   pub mask-before : before ≡ maskBefore order j
   pub mask-from : from ≡ maskFrom n order j
   pub counted : total ≡ sum j (countRow n order adj)
-  pub bounded : total ≤ 262144 * j
+  pub bounded : total ≤ mostOfPlace * j
 
 module _ {n : ℕ} {order adj : List ℕ} where
   pub count-start : {from : ℕ} → n ≤ 64 → from ≡ 2 ^ min n 64 - 1 → CountUpTo n order adj 0 from 0 0
@@ -83,7 +84,7 @@ module _ {n : ℕ} {order adj : List ℕ} where
       }
 
   pub count-next : {before from total j wider cleared row : ℕ} → CountUpTo n order adj before from total j → j < n
-      → cleared ≡ withoutBit from (vertexAt order j) → wider ≡ withBit before (vertexAt order j) → row ≡ countRow n order adj j → row ≤ 262144
+      → cleared ≡ withoutBit from (vertexAt order j) → wider ≡ withBit before (vertexAt order j) → row ≡ countRow n order adj j → row ≤ mostOfPlace
       → CountUpTo n order adj wider cleared (total + row) (j + 1)
   unfolding maskBefore maskFrom sum
   count-next {before} {from} {total} {j} r h e w p b =

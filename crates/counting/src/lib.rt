@@ -5,6 +5,8 @@ ghost use Prim.Native.Nat.{suc, _*_, _≤_, _<_};
 ghost use Rattle.laws.specs.Sums.Bits.{maskedOnes};
 ghost use Rattle.laws.specs.Crossings.Masks.{vertexAt, wordAt, maskBefore, maskFrom, countRow};
 ghost use Rattle.laws.specs.Layouts.Recount.{counted};
+ghost use Rattle.laws.specs.Crossings.Bound.{mostOfPlace};
+ghost use Rattle.laws.specs.Sums.Numbers.{Bounded};
 use model::Layout;
 
 // The crossings of a valid layout.
@@ -49,7 +51,7 @@ fn count_row(
     after: u64,
 ) -> u32
     requires { ⌜ (n ≤ 64) × (j < n) × (before ≡ maskBefore (now order) j) × (after ≡ maskFrom n (now order) (suc j)) ⌝ }
-    ensures { λ r. ⌜ (r ≡ countRow n (now (order .entry)) (now (adjacency .entry)) j) × (r ≤ 262144) ⌝ }
+    ensures { λ r. ⌜ Bounded (countRow n (now (order .entry)) (now (adjacency .entry)) j) mostOfPlace r ⌝ }
 {
     let word = word_at(order, adjacency, j);
     let mut rest = after;
@@ -64,14 +66,14 @@ fn count_row(
 }
 
 fn count_pair(later: u64, before: u64, earlier: u64, rest: u64) -> u32
-    ensures { λ r. ⌜ (r ≡ maskedOnes later before * maskedOnes earlier rest) × (r ≤ 4096) ⌝ }
+    ensures { λ r. ⌜ Bounded (maskedOnes later before * maskedOnes earlier rest) 4096 r ⌝ }
 {
     words::count(later, before) * words::count(earlier, rest)
 }
 
 fn vertex_at(order: &[u8; 64], k: usize) -> usize
     requires { ⌜ k < 64 ⌝ }
-    ensures { λ r. ⌜ (r ≡ vertexAt (now (order .entry)) k) × (r < 64) ⌝ }
+    ensures { λ r. ⌜ Bounded (vertexAt (now (order .entry)) k) 63 r ⌝ }
 {
     (order[k] % 64) as usize
 }

@@ -7,6 +7,7 @@ ghost use Rattle.model.specs.EdgeCrossings.{edgeCrossingsOf, crossingTable};
 ghost use Rattle.laws.specs.Buffers.Writing.{Written};
 ghost use Rattle.laws.specs.Layouts.Recount.{Drawn};
 ghost use Rattle.edge_crossings.specs.Numbers.{placeAt, numberOf, numbersOf, numbered};
+ghost use Rattle.laws.specs.Sums.Numbers.{Bounded};
 use buffer_checks::write_refusal;
 use chords::chord_crossings;
 use edge_list::edge_count;
@@ -80,7 +81,7 @@ fn number_of(chords: &[u32; 4096], places: &[u8; 64], low: u8, high: u8) -> u32
 
 // The place of a vertex; vertices and places are taken modulo 64.
 fn place_at(places: &[u8; 64], v: u8) -> usize
-    ensures { λ r. ⌜ (r ≡ placeAt (now (places .entry)) v) × (r < 64) ⌝ }
+    ensures { λ r. ⌜ Bounded (placeAt (now (places .entry)) v) 63 r ⌝ }
 {
     let u = (v % 64) as usize;
     (places[u] % 64) as usize

@@ -3,7 +3,7 @@
 ghost use mathlib.Core.Path.{_≡_};
 ghost use mathlib.Core.Bool.{cond};
 ghost use mathlib.Core.List.{[], _++_};
-ghost use Prim.Native.Nat.{suc, _+_, _%_, _≤_, _<_, min};
+ghost use Prim.Native.Nat.{suc, _+_, _%_, _<_, min};
 ghost use lib.ListN.{length, drop};
 ghost use lib.Dec.{eqb};
 ghost use Rattle.model.specs.Lists.{every};
@@ -12,13 +12,15 @@ ghost use Rattle.model.specs.Charts.{asked, answer};
 ghost use Rattle.model.specs.Graph6.{bytesFor, pairsByHigher, unpacked, dataChecks, paddingChecks, graph6Edges};
 ghost use Rattle.laws.specs.Charts.Words.{adjacencyOf};
 ghost use Rattle.graph6_pairs.specs.Questions.{asks};
+ghost use Rattle.laws.specs.Crossings.Bound.{mostEdges};
+ghost use Rattle.laws.specs.Sums.Numbers.{Bounded};
 use graph6_bits::all_hold_six;
 use graph6_bits::bit_at;
 use model::Asked;
 
 // How many pairs there are.
 pub fn pair_count(n: usize) -> usize
-    ensures { λ r. ⌜ (r ≡ length (pairsByHigher (min n 64))) × (r ≤ 2016) ⌝ }
+    ensures { λ r. ⌜ Bounded (length (pairsByHigher (min n 64))) mostEdges r ⌝ }
 {
     let few = at_most_64(n);
     (few * few - few) / 2

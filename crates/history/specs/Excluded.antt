@@ -1,7 +1,7 @@
 -- What `best-places` and `converged-is-minimum` of demand 3 exclude by themselves: "a sift that leaves the ring alone and a "settled" said before any
 -- sifting". On the first worked ring (links 0-2 and 1-3, order 0 1 2 3) vertex 0 does not stand at a best place, so that a sift of 0 cannot have left the
 -- ring as it was; and the ring is no local minimum, so that no answer with it can say converged.
-use Prim.Native.Nat.{ℕ, _<_}
+use Prim.Native.Nat.{_<_}
 use native.Mathlib.Omega.{arith}
 use mathlib.Core.Path.{_≡_, refl}
 use mathlib.Core.Bool.{xor}

@@ -1,5 +1,5 @@
--- Sums and indicators: tests as 0 or 1, sums over a range and over the entries of a list, sums over pairs, the bits of a word, two kinds of loops, and
--- differences that wrap. Nothing here knows of a layout. Others cite order (a case on two numbers), one-lt and its kin, sum-ext, sum-swap, all-mono,
+-- Sums and indicators: tests as 0 or 1, sums over a range and over the entries of a list, sums over pairs, the bits of a word, two kinds of loops,
+-- differences that wrap, and numbers that are known and small. Nothing here knows of a layout. Others cite order (a case on two numbers), one-lt and its kin, sum-ext, sum-swap, all-mono,
 -- sumOver-places, Symmetric, masked ones and the bit laws, PassedUpTo (entries asked one after the other), MadeUpTo (a value made step by step) and
 -- exact-less (a difference that does not go below 0).
 pub mod Indicators
@@ -11,3 +11,4 @@ pub mod Pairs
 pub mod Bits
 pub mod Loops
 pub mod Wrapping
+pub mod Numbers

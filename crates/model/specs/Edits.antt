@@ -1,6 +1,6 @@
 -- The calls add, link, unlink and move.
 use Prim.Native.Nat.{ℕ, suc, _+_, _*_, _-_, _^_}
-use mathlib.Core.Bool.{Bool, not, cond}
+use mathlib.Core.Bool.{not, cond}
 use mathlib.Core.List.{List, [], _∷_}
 use lib.ListN.{getD, set}
 use lib.Dec.{eqb}

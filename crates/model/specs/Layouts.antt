@@ -1,7 +1,7 @@
 -- The circular layout (document 01: the ring), validity (whole), and the carried count.
 use Prim.Native.Nat.{ℕ, _+_, _-_, _%_, _^_}
 use mathlib.Core.Bool.{Bool, Bool·beq, not, _&&_}
-use mathlib.Core.List.{List, [], _∷_, _++_}
+use mathlib.Core.List.{List, _++_}
 use lib.ListN.{getD, take, drop, replicate}
 use lib.Dec.{eqb, leb, ltb}
 use Rattle.model.specs.declared.Layout.{Layout}

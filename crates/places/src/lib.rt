@@ -9,6 +9,7 @@ ghost use Rattle.laws.specs.Orders.Permutations.{Permutation};
 ghost use Rattle.laws.specs.Orders.Moves.{movedFrom};
 ghost use Rattle.places.specs.AllPlaces.{PlacesOf};
 ghost use Rattle.places.specs.MovedPlaces.{shifted};
+ghost use Rattle.laws.specs.Sums.Numbers.{Bounded};
 
 // The place of a vertex in an order, or the order's length where it has none.
 pub fn place_of(order: &[u8], v: usize) -> usize
@@ -64,7 +65,7 @@ pub fn moved(order: [u8; 64], p: usize, q: usize) -> [u8; 64]
 // The place before the move of the entry that stands at place i after it.
 fn moved_from(p: usize, q: usize, i: usize) -> usize
     requires { ⌜ (p < 64) × (q < 64) × (i < 64) ⌝ }
-    ensures { λ r. ⌜ (r ≡ movedFrom p q i) × (r < 64) ⌝ }
+    ensures { λ r. ⌜ Bounded (movedFrom p q i) 63 r ⌝ }
 {
     if q < p {
         if i <= q {

@@ -1,6 +1,7 @@
 // One record of a list.
 ghost use Prim.Native.Nat.{_≤_};
 ghost use Rattle.io.specs.Counts.{Counts};
+ghost use Rattle.play_answers.specs.Lines.{lineRoom};
 use crate::starts;
 use model::Decoded;
 use model::Layout;
@@ -59,7 +60,7 @@ pub fn play_start(
 
 // What the table of ops says, but for starts from bytes.
 fn play_op(l: Layout, op: u64, a: u64, b: u64, line: &mut [u8]) -> Played
-    ensures { λ r. ⌜ r .written ≤ 65536 ⌝ }
+    ensures { λ r. ⌜ r .written ≤ lineRoom ⌝ }
 {
     match op {
         0 => starts::empty(l, line),
@@ -79,7 +80,7 @@ fn play_op(l: Layout, op: u64, a: u64, b: u64, line: &mut [u8]) -> Played
 
 // A call, or the end of the list.
 fn play_decoded(l: Layout, decoded: Decoded, line: &mut [u8]) -> Played
-    ensures { λ r. ⌜ r .written ≤ 65536 ⌝ }
+    ensures { λ r. ⌜ r .written ≤ lineRoom ⌝ }
 {
     let Decoded::Next(c) = decoded else {
         return end(l, line);
@@ -89,7 +90,7 @@ fn play_decoded(l: Layout, decoded: Decoded, line: &mut [u8]) -> Played
 
 // The list ends here.
 fn end(l: Layout, line: &mut [u8]) -> Played
-    ensures { λ r. ⌜ r .written ≤ 65536 ⌝ }
+    ensures { λ r. ⌜ r .written ≤ lineRoom ⌝ }
 {
     let written = put_text(line, 0, b"end\n");
     Played {

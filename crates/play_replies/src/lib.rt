@@ -1,6 +1,7 @@
 // The calls that change a layout, each with its answer line. They go through calls_step::step: what is
 // compared is what the theorem over lists of calls speaks of.
 ghost use Prim.Native.Nat.{_+_, _≤_};
+ghost use Rattle.play_answers.specs.Lines.{lineRoom};
 use decimals::put_number;
 use decimals::put_small;
 use model::Call;
@@ -12,7 +13,7 @@ use text::put_text;
 
 // Makes the call and writes its line.
 pub fn play_call(l: Layout, c: Call, line: &mut [u8]) -> Played
-    ensures { λ r. ⌜ r .written ≤ 65536 ⌝ }
+    ensures { λ r. ⌜ r .written ≤ lineRoom ⌝ }
 {
     let answer = calls_step::step(l, c);
     let after = answer.layout;

@@ -2,6 +2,7 @@
 ghost use Prim.Native.Nat.{_+_, _*_, _≤_};
 ghost use mathlib.Core.Path.{_≡_};
 ghost use lib.ListN.{length};
+ghost use Rattle.play_answers.specs.Lines.{lineRoom};
 use decimals::put_number;
 use model::Layout;
 use play_answers::Played;
@@ -13,7 +14,7 @@ use text::put_text;
 // Counts into a table of size entries, or 2,100 if that is less, each of which holds fill modulo 2^32
 // before the call.
 pub fn edge_crossings(l: Layout, size: u64, fill: u64, line: &mut [u8]) -> Played
-    ensures { λ r. ⌜ r .written ≤ 65536 ⌝ }
+    ensures { λ r. ⌜ r .written ≤ lineRoom ⌝ }
 {
     let mut table = filled((fill % 4294967296) as u32);
     let lent = at_most(size, 2100);
@@ -22,7 +23,7 @@ pub fn edge_crossings(l: Layout, size: u64, fill: u64, line: &mut [u8]) -> Playe
 
 fn count_into(l: Layout, line: &mut [u8], table: &mut [u32]) -> Played
     requires { ⌜ length (now table) ≤ 2100 ⌝ }
-    ensures { λ r. ⌜ r .written ≤ 65536 ⌝ }
+    ensures { λ r. ⌜ r .written ≤ lineRoom ⌝ }
 {
     let answer = edge_crossings::edge_crossings(l, table);
     let head_end = put_head(line, b"perlink", answer.refusal);

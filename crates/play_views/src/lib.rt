@@ -2,6 +2,7 @@
 ghost use Prim.Native.Nat.{_+_, _*_, _≤_};
 ghost use mathlib.Core.Path.{_≡_};
 ghost use lib.ListN.{length};
+ghost use Rattle.play_answers.specs.Lines.{lineRoom};
 use decimals::put_bytes;
 use decimals::put_number;
 use model::Edge;
@@ -15,7 +16,7 @@ use play_records::at_most;
 use text::put_text;
 
 pub fn count(l: Layout, line: &mut [u8]) -> Played
-    ensures { λ r. ⌜ r .written ≤ 65536 ⌝ }
+    ensures { λ r. ⌜ r .written ≤ lineRoom ⌝ }
 {
     let answer = queries::count(l);
     let at = put_head(line, b"count", answer.refusal);
@@ -26,7 +27,7 @@ pub fn count(l: Layout, line: &mut [u8]) -> Played
 // Reads the order into a buffer of size bytes, or 255 if that is less, each of which holds fill
 // modulo 256 before the call.
 pub fn order(l: Layout, size: u64, fill: u64, line: &mut [u8]) -> Played
-    ensures { λ r. ⌜ r .written ≤ 65536 ⌝ }
+    ensures { λ r. ⌜ r .written ≤ lineRoom ⌝ }
 {
     let mut buffer = filled((fill % 256) as u8);
     let lent = at_most(size, 255);
@@ -35,7 +36,7 @@ pub fn order(l: Layout, size: u64, fill: u64, line: &mut [u8]) -> Played
 
 fn order_into(l: Layout, line: &mut [u8], buffer: &mut [u8]) -> Played
     requires { ⌜ length (now buffer) ≤ 255 ⌝ }
-    ensures { λ r. ⌜ r .written ≤ 65536 ⌝ }
+    ensures { λ r. ⌜ r .written ≤ lineRoom ⌝ }
 {
     let refusal = queries::order(l, buffer);
     let head_end = put_head(line, b"order", refusal);
@@ -52,7 +53,7 @@ pub enum Format {
 // Writes the layout into a buffer of size bytes, or 8,192 if that is less, each of which holds fill
 // modulo 256 before the call.
 pub fn write(l: Layout, format: Format, size: u64, fill: u64, line: &mut [u8]) -> Played
-    ensures { λ r. ⌜ r .written ≤ 65536 ⌝ }
+    ensures { λ r. ⌜ r .written ≤ lineRoom ⌝ }
 {
     let mut buffer = filled((fill % 256) as u8);
     let lent = at_most(size, 8192);
@@ -61,7 +62,7 @@ pub fn write(l: Layout, format: Format, size: u64, fill: u64, line: &mut [u8]) -
 
 fn write_into(l: Layout, format: Format, line: &mut [u8], buffer: &mut [u8]) -> Played
     requires { ⌜ length (now buffer) ≤ 8192 ⌝ }
-    ensures { λ r. ⌜ r .written ≤ 65536 ⌝ }
+    ensures { λ r. ⌜ r .written ≤ lineRoom ⌝ }
 {
     let length_end = write_as(l, format, line, buffer);
     let end = put_buffer(line, length_end, buffer);
@@ -101,7 +102,7 @@ fn put_buffer(line: &mut [u8], at: usize, buffer: &[u8]) -> usize
 }
 
 pub fn pair(l: Layout, line: &mut [u8]) -> Played
-    ensures { λ r. ⌜ r .written ≤ 65536 ⌝ }
+    ensures { λ r. ⌜ r .written ≤ lineRoom ⌝ }
 {
     let answer = first_crossing::first_crossing(l);
     let end = put_crossing(line, answer);

@@ -20,6 +20,10 @@ use Rattle.laws.specs.Sums.Bits.{maskedOnes, maskedOnes-le, bit-lt, bit-none, d
 unfoldable pub rankSum : List ℕ → ℕ → ℕ
 rankSum ranks set = sum 6 (λ b. 2 ^ b * maskedOnes set (getD ranks b 0))
 
+-- at most 63 for each of 64 vertices
+abbrev pub mostRankSum : ℕ
+mostRankSum = 4032
+
 -- the word of bit b, where the rank of v is k
 unfoldable pub rankedWord : ℕ → ℕ → ℕ → ℕ → ℕ
 rankedWord word v k b = cond (eqb (bit k b) 1) (cond (ltb v 64) (withBit word v) word) word

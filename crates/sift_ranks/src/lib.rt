@@ -1,13 +1,14 @@
 // A rank below 64 for each of 64 vertices, in six words: word b has bit b of each vertex's rank at
 // the vertex's place.
 ghost use mathlib.Core.Path.{_≡_};
-ghost use Prim.Native.Nat.{_*_, _^_, _≤_, _<_};
+ghost use Prim.Native.Nat.{_*_, _^_, _<_};
 ghost use Rattle.laws.specs.Sums.Bits.{maskedOnes};
-ghost use Rattle.sift_ranks.specs.Ranks.{rankSum, withRank, rankedWord};
+ghost use Rattle.sift_ranks.specs.Ranks.{mostRankSum, rankSum, withRank, rankedWord};
+ghost use Rattle.laws.specs.Sums.Numbers.{Bounded};
 
 // The sum of the ranks of the vertices in a set: bit b of each counts 2^b.
 pub fn rank_sum(ranks: &[u64; 6], set: u64) -> u32
-    ensures { λ r. ⌜ (r ≡ rankSum (now (ranks .entry)) set) × (r ≤ 4032) ⌝ }
+    ensures { λ r. ⌜ Bounded (rankSum (now (ranks .entry)) set) mostRankSum r ⌝ }
 {
     let mut total: u32 = 0;
     let mut b = 0;

@@ -31,13 +31,13 @@ count-row-requires c κs =
       omega arith,
       c .before .before .loop-test .taken,
       so-far .mask-before,
-      c .clear .ensures ∙ ap₂ withoutBit (so-far .mask-from) (c .before .vertex-at .ensures .0),
+      c .clear .ensures ∙ ap₂ withoutBit (so-far .mask-from) (c .before .vertex-at .ensures .is),
     )
 
 add-total : tie.Need-add-total Inv-loop μ-loop
 add-total c =
     let so-far = c .before .before .before .before .loop .inv in
-    omega (arith, c .count-row .ensures .1, so-far .bounded, so-far .inside)
+    omega (arith, c .count-row .ensures .small, so-far .bounded, so-far .inside)
 
 loop-again : tie.Need-loop-again Inv-loop μ-loop
 loop-again c =
@@ -46,10 +46,10 @@ loop-again c =
     let turn = vertex .before .before .loop in
     let v = vertex .vertex-at .ensures in
     count-next (turn .inv) (vertex .before .loop-test .taken)
-    (row .before .clear .ensures ∙ ap (withoutBit (turn .«from»)) (v .0))
-    (set-within _ _ (v .1) (c .set .ensures) ∙ ap (withBit (turn .before)) (v .0))
-    (row .count-row .ensures .0)
-    (row .count-row .ensures .1)
+    (row .before .clear .ensures ∙ ap (withoutBit (turn .«from»)) (v .is))
+    (set-within _ _ (omega (arith, v .small)) (c .set .ensures) ∙ ap (withBit (turn .before)) (v .is))
+    (row .count-row .ensures .is)
+    (row .count-row .ensures .small)
 
 returns-2 : tie.Need-returns-2 Inv-loop μ-loop
 unfolding counted

@@ -18,7 +18,7 @@ mul-result : tie.Need-mul-result
 mul-result c = record { fits = omega (arith, most c) }
 
 returns : tie.Need-returns
-returns c = (ap₂ (λ (x y : ℕ). x * y) (c .before .count .ensures) (c .count2 .ensures), most c)
+returns c = record { is = ap₂ (λ (x y : ℕ). x * y) (c .before .count .ensures) (c .count2 .ensures); small = most c }
 
 pub count-pair-spec : {M : Type 1} → statement M
 count-pair-spec = tie.close (tie.spec (λ c κs. search needs) (λ c κs. search needs) mul-result returns)

@@ -31,7 +31,7 @@ word-at-requires-2 c κs = omega (arith, c .before .before .before .loop .inv .0
 add-total : tie.Need-add-total Inv-loop μ-loop
 add-total c =
     let so-far = turn c .loop .inv .0 in
-    omega (arith, c .count-pair .ensures .1, so-far .bounded, so-far .inside)
+    omega (arith, c .count-pair .ensures .small, so-far .bounded, so-far .inside)
 
 loop-again : tie.Need-loop-again Inv-loop μ-loop
 loop-again c =
@@ -39,18 +39,18 @@ loop-again c =
     let cleared = c .before .before in
     let vertex = cleared .before in (
       row-next (so-far .0) (vertex .before .loop-test .taken)
-          (cleared .clear .ensures ∙ ap (withoutBit (turn c .loop .rest)) (vertex .vertex-at .ensures .0))
-          (c .count-pair .ensures .0
+          (cleared .clear .ensures ∙ ap (withoutBit (turn c .loop .rest)) (vertex .vertex-at .ensures .is))
+          (c .count-pair .ensures .is
           ∙ ap₂ (λ (x y : ℕ). x * y) (ap₂ maskedOnes (c .before .word-at2 .ensures) (turn c .before .before .pre .2))
           (ap (λ (w : ℕ). maskedOnes w (cleared .clear .result)) (so-far .1)))
-          (c .count-pair .ensures .1),
+          (c .count-pair .ensures .small),
       so-far .1,
     )
 
 returns : tie.Need-returns Inv-loop μ-loop
 returns c =
     let so-far = c .before .loop .inv .0 in
-    (row-end so-far (c .loop-test .left), omega (arith, so-far .bounded, so-far .inside))
+    record { is = row-end so-far (c .loop-test .left); small = omega (arith, so-far .bounded, so-far .inside) }
 
 pub count-row-spec : {M : Type 1} → statement M
 count-row-spec =

@@ -8,7 +8,7 @@ use Rattle.counting.proofs.word_at.Tie as tie
 
 returns : tie.Need-returns
 unfolding wordAt
-returns c = ap (λ (v : ℕ). getD (c .before .before .args .adjacency .now) v 0) (c .before .vertex-at .ensures .0)
+returns c = ap (λ (v : ℕ). getD (c .before .before .args .adjacency .now) v 0) (c .before .vertex-at .ensures .is)
 
 pub word-at-spec : {M : Type 1} → statement M
 word-at-spec = tie.close (tie.spec (λ c κs. search needs) (λ c. search needs) (λ c. search needs) returns)

@@ -7,11 +7,11 @@ use Rattle.graph6_pairs.proofs.data_length.Statement.{statement}
 use Rattle.graph6_pairs.proofs.data_length.Tie as tie
 
 add-result : tie.Need-add-result
-add-result c = omega (arith, c .pair-count .ensures .1)
+add-result c = omega (arith, c .pair-count .ensures .small)
 
 returns : tie.Need-returns
 unfolding bytesFor
-returns c = ap (λ (k : ℕ). (k + 5) / 6) (c .pair-count .ensures .0)
+returns c = ap (λ (k : ℕ). (k + 5) / 6) (c .pair-count .ensures .is)
 
 pub data-length-spec : {M : Type 1} → statement M
 data-length-spec = tie.close (tie.spec (λ c κs. search needs) add-result returns)

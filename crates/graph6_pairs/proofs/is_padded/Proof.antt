@@ -15,7 +15,7 @@ abbrev μ-loop : tie.MeasureT-loop
 μ-loop n bytes k₀ k = 2022 - k
 
 loop-holds : tie.Need-loop-holds Inv-loop μ-loop
-loop-holds c = let counted = c .pair-count .ensures in padded-start (omega (arith, counted .0, counted .1)) (counted .0)
+loop-holds c = let counted = c .pair-count .ensures in padded-start (omega (arith, counted .is, counted .small)) (counted .is)
 
 -- the turn of the loop that a bit is asked in
 abbrev turn : tie.After-bit-at Inv-loop μ-loop → tie.In-loop Inv-loop μ-loop

@@ -23,7 +23,7 @@ returns : tie.Need-returns
 returns c =
     let n = c .at-most-64 .result in
     let counted : (n * n - n) / 2 ≡ length (pairsByHigher n) = sym (pairs-length n) in
-    (counted ∙ ap (λ (k : ℕ). length (pairsByHigher k)) (c .at-most-64 .ensures), omega (arith, few c))
+    record { is = counted ∙ ap (λ (k : ℕ). length (pairsByHigher k)) (c .at-most-64 .ensures); small = omega (arith, few c) }
 
 pub pair-count-spec : {M : Type 1} → statement M
 pair-count-spec = tie.close (tie.spec (λ c κs. search needs) mul-result sub-result returns)

@@ -1,11 +1,10 @@
 -- Edges that words hold weigh 1: the crossings over weights are then the pairs of edges that cross, as document 01 defines them.
-use Prim.Native.Nat.{ℕ, _*_, _<_}
+use Prim.Native.Nat.{ℕ, _<_}
 use native.Mathlib.Nat.{mul-one}
 use mathlib.Core.Path.{_≡_, refl, ap, _∙_}
 use mathlib.Core.Bool.{Bool, true, false, _&&_}
 use mathlib.Core.List.{List, map}
 use lib.Dec.{ltb}
-use Rattle.model.specs.declared.Edge.{Edge}
 use Rattle.model.specs.Lists.{one, upto, keep, sumPairs}
 use Rattle.model.specs.Crossings.{linked, edges, crosses, crossingPairs, unitWeight, adjacent, weightedEdges, edgeWeight, crossingWeight, crossings}
 use Rattle.laws.specs.Sums.Indicators.{both-right}

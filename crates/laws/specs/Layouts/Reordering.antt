@@ -4,7 +4,7 @@ use native.Mathlib.Nat.{add-sub-of-le}
 use native.Mathlib.Omega.{arith}
 use mathlib.Core.Path.{_≡_, refl, sym, ap, _∙_, subst}
 use mathlib.Core.List.{List, _++_}
-use lib.ListN.{length, take, drop}
+use lib.ListN.{length, drop}
 use lib.Seq.{length-front, getD-drop, take-at}
 use lib.Dec.{T}
 use Rattle.model.specs.declared.Layout.{Layout}

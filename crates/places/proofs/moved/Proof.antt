@@ -26,13 +26,13 @@ loop-holds : tie.Need-loop-holds Inv-loop μ-loop
 loop-holds c = filled-start (search needs)
 
 array-read-next : tie.Need-array-read-next Inv-loop μ-loop
-array-read-next c = c .moved-from .ensures .1
+array-read-next c = omega (arith, c .moved-from .ensures .small)
 
 loop-again : tie.Need-loop-again Inv-loop μ-loop
 loop-again c =
     let turn = c .before .before in
     let order = turn .before .before .before .args .t1 in
-    filled-next (turn .loop .inv) (c .before .loop-test .taken) (ap (λ (k : ℕ). getD order k 0) (c .moved-from .ensures .0))
+    filled-next (turn .loop .inv) (c .before .loop-test .taken) (ap (λ (k : ℕ). getD order k 0) (c .moved-from .ensures .is))
 
 returns-3 : tie.Need-returns-3 Inv-loop μ-loop
 unfolding shifted

@@ -39,7 +39,10 @@ unfolding rankSum
 returns c =
     let m = c .before .loop .inv in
     let s = c .before .before .args in
-    (made-end m (omega (arith, c .loop-test .left)) refl, omega (arith, m .made, sumTo-most (s .ranks .now) (s .set) _ (m .inside)))
+    record {
+      is = made-end m (omega (arith, c .loop-test .left)) refl;
+      small = omega (arith, m .made, sumTo-most (s .ranks .now) (s .set) _ (m .inside));
+    }
 
 pub rank-sum-spec : {M : Type 1} → statement M
 rank-sum-spec =

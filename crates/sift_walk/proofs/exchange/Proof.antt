@@ -39,7 +39,7 @@ mul-around : tie.Need-mul-around
 mul-around c = record { fits = omega (arith, around-few (c .before)) }
 
 add-ranked : tie.Need-add-ranked
-add-ranked c = record { fits = omega (arith, around-few (counts c), c .rank-sum .ensures .1) }
+add-ranked c = record { fits = omega (arith, around-few (counts c), c .rank-sum .ensures .small) }
 
 mul-excess : tie.Need-mul-excess
 mul-excess c = record { fits = omega (arith, excess-few (counts (c .before))) }
@@ -61,7 +61,7 @@ returns c =
     let sums = ranked shared in
     let both = counts sums in
     let s = start both .args in
-    told-made (s .step) (s .vertex) _ (s .word) (s .joined) (sums .rank-sum .ensures .0) (both .count2 .ensures) (both .before .count .ensures)
+    told-made (s .step) (s .vertex) _ (s .word) (s .joined) (sums .rank-sum .ensures .is) (both .count2 .ensures) (both .before .count .ensures)
     (shared .count3 .ensures) (c .exchanged .ensures)
 
 pub exchange-spec : {M : Type 1} → statement M

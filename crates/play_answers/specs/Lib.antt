@@ -1,0 +1,2 @@
+-- Lines: how long an answer line may be.
+pub mod Lines
