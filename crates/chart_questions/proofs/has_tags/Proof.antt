@@ -2,7 +2,8 @@ use borrow.Author.Needs.{needs}
 use Prim.Native.Nat.{_+_, _-_}
 use native.Mathlib.Omega.{arith}
 use lib.ListN.{length, drop}
-use Rattle.chart_questions.specs.Fields.{FieldThere, field-there, field-none, TagsUpTo, tags-start, tags-end, tag-missing, tag-beyond, tag-wrong, tags-next}
+use Rattle.chart_questions.specs.Fields.{FieldThere, field-there, field-none, TagsUpTo, tags-start}
+use Rattle.chart_questions.specs.Fields.{tags-end, tag-missing, tag-beyond, tag-wrong, tags-next}
 use Rattle.chart_questions.proofs.has_tags.Statement.{statement}
 use Rattle.chart_questions.proofs.has_tags.Tie as tie
 

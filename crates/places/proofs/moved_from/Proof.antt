@@ -25,19 +25,28 @@ returns-2 : tie.Need-returns-2
 unfolding movedFrom
 returns-2 c =
     let s = c .before .before .before .args in
-    record { is = rw (lt-ltb _ _ (c .before .before .if1 .taken), lt-leb _ _ (c .before .if2 .left), eq-eqb (s .i) (suc (s .q)) (omega arith)); small = omega arith }
+    record {
+      is = rw (lt-ltb _ _ (c .before .before .if1 .taken), lt-leb _ _ (c .before .if2 .left), eq-eqb (s .i) (suc (s .q)) (omega arith));
+      small = omega arith;
+    }
 
 returns-3 : tie.Need-returns-3
 unfolding movedFrom
 returns-3 c =
     let there = c .before in
-    record { is = rw (lt-ltb _ _ (there .before .before .if1 .taken), lt-leb _ _ (there .before .if2 .left), not-behind there, le-leb _ _ (c .if4 .taken)); small = omega arith }
+    record {
+      is = rw (lt-ltb _ _ (there .before .before .if1 .taken), lt-leb _ _ (there .before .if2 .left), not-behind there, le-leb _ _ (c .if4 .taken));
+      small = omega arith;
+    }
 
 returns-4 : tie.Need-returns-4
 unfolding movedFrom
 returns-4 c =
     let there = c .before in
-    record { is = rw (lt-ltb _ _ (there .before .before .if1 .taken), lt-leb _ _ (there .before .if2 .left), not-behind there, lt-leb _ _ (c .if4 .left)); small = omega arith }
+    record {
+      is = rw (lt-ltb _ _ (there .before .before .if1 .taken), lt-leb _ _ (there .before .if2 .left), not-behind there, lt-leb _ _ (c .if4 .left));
+      small = omega arith;
+    }
 
 returns-5 : tie.Need-returns-5
 unfolding movedFrom
@@ -47,19 +56,28 @@ returns-5 c =
 returns-6 : tie.Need-returns-6
 unfolding movedFrom
 returns-6 c =
-    record { is = rw (le-ltb _ _ (c .before .before .if1 .left), le-ltb _ _ (c .before .if5 .left), lt-ltb _ _ (c .if6 .taken)) (add-one _); small = omega arith }
+    record {
+      is = rw (le-ltb _ _ (c .before .before .if1 .left), le-ltb _ _ (c .before .if5 .left), lt-ltb _ _ (c .if6 .taken)) (add-one _);
+      small = omega arith;
+    }
 
 returns-7 : tie.Need-returns-7
 unfolding movedFrom
 returns-7 c =
     let there = c .before in
-    record { is = rw (le-ltb _ _ (there .before .before .if1 .left), le-ltb _ _ (there .before .if5 .left), le-ltb _ _ (there .if6 .left), eq-eqb _ _ (c .if7 .taken)); small = omega arith }
+    record {
+      is = rw (le-ltb _ _ (there .before .before .if1 .left), le-ltb _ _ (there .before .if5 .left), le-ltb _ _ (there .if6 .left), eq-eqb _ _ (c .if7 .taken));
+      small = omega arith;
+    }
 
 returns-8 : tie.Need-returns-8
 unfolding movedFrom
 returns-8 c =
     let there = c .before in
-    record { is = rw (le-ltb _ _ (there .before .before .if1 .left), le-ltb _ _ (there .before .if5 .left), le-ltb _ _ (there .if6 .left), ne-eqb _ _ (c .if7 .left)); small = omega arith }
+    record {
+      is = rw (le-ltb _ _ (there .before .before .if1 .left), le-ltb _ _ (there .before .if5 .left), le-ltb _ _ (there .if6 .left), ne-eqb _ _ (c .if7 .left));
+      small = omega arith;
+    }
 
 pub moved-from-spec : {M : Type 1} → statement M
 moved-from-spec =
