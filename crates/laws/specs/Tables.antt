@@ -1,0 +1,3 @@
+-- Tables of weights, 64 rows of 64 bytes (document 02, Note 8): an entry, the sum of a row, and rows added to numbers.
+-- Others cite tableWeight, rowWeight, rowSum, row-weight and row-products, SummedUpTo, RowsOf, AddedRow.
+pub mod Rows
