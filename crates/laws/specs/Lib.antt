@@ -8,4 +8,5 @@ pub mod Sifting
 pub mod Append
 pub mod Buffers
 pub mod Charts
+pub mod Tables
 pub mod Graph6

@@ -1,0 +1,44 @@
+use borrow.Author.Needs.{needs}
+use Prim.Native.Nat.{_-_}
+use native.Mathlib.Omega.{arith}
+use mathlib.Core.Path.{_≡_}
+use lib.ListN.{length}
+use Rattle.laws.specs.Tables.Rows.{AddingUpTo, adding-start, adding-next, adding-end}
+use Rattle.weights.proofs.add_entries.Statement.{statement}
+use Rattle.weights.proofs.add_entries.Tie as tie
+
+abbrev Inv-loop : tie.InvT-loop
+Inv-loop numbers₀ weights v y₀ numbers y = length numbers₀ ≡ 64 → AddingUpTo weights v numbers₀ numbers y
+
+abbrev μ-loop : tie.MeasureT-loop
+μ-loop numbers₀ weights v y₀ numbers y = 64 - y
+
+loop-holds : tie.Need-loop-holds Inv-loop μ-loop
+loop-holds c e = adding-start e
+
+loop-again : tie.Need-loop-again Inv-loop μ-loop
+loop-again c e =
+    let told = c .before .before in
+    let test = told .before in
+    adding-next (test .before .loop .inv e) (test .loop-test .taken) (told .entry .ensures .0) (told .entry .ensures .1) (c .grown .ensures)
+
+returns : tie.Need-returns Inv-loop μ-loop
+returns c e = adding-end (c .before .loop .inv e) (c .loop-test .left)
+
+pub add-entries-spec : {M : Type 1} → statement M
+add-entries-spec =
+    tie.close
+    (tie.spec
+    Inv-loop
+    μ-loop
+    loop-holds
+    (λ c κs. search needs)
+    (λ c. omega arith)
+    (λ c. omega arith)
+    (λ c κs. search needs)
+    (λ c. omega arith)
+    (λ c. omega arith)
+    (λ c. omega arith)
+    (λ c. omega arith)
+    loop-again
+    returns)

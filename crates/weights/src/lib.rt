@@ -1,0 +1,124 @@
+// A table of weights (document 02, Note 8): the weight of u towards v stands at 64 * u + v. Only here is
+// the table read. Calls of other crates are total: a vertex is taken modulo 64.
+ghost use mathlib.Core.Path.{_≡_};
+ghost use Prim.Native.Nat.{_+_, _*_, _%_, _<_, _≤_};
+ghost use lib.ListN.{length, take, drop};
+ghost use Rattle.laws.specs.Tables.Rows.{tableWeight, rowWeight, rowSum, mostWeight, mostSum, RowsOf, AddedRow};
+
+// The weight between two vertices.
+pub fn weight_at(weights: &[u8; 4096], u: usize, v: usize) -> u32
+    ensures { λ r. ⌜ (r ≡ tableWeight (now (weights .entry)) (u % 64) (v % 64)) × (r ≤ 255) ⌝ }
+{
+    entry(weights, u % 64, v % 64)
+}
+
+fn entry(weights: &[u8; 4096], u: usize, v: usize) -> u32
+    requires { ⌜ (u < 64) × (v < 64) ⌝ }
+    ensures { λ r. ⌜ (r ≡ tableWeight (now (weights .entry)) u v) × (r ≤ 255) ⌝ }
+{
+    wide(weights[64 * u + v])
+}
+
+fn wide(b: u8) -> u32
+    ensures { λ r. ⌜ (r ≡ b) × (r ≤ 255) ⌝ }
+{
+    b as u32
+}
+
+// The weights of a vertex towards each.
+pub fn row_of(weights: &[u8; 4096], u: usize) -> &[u8]
+    ensures { λ r. ⌜ now r ≡ take 64 (drop (64 * (u % 64)) (now (weights .entry))) ⌝ }
+{
+    let start = 64 * (u % 64);
+    let end = start + 64;
+    let table = &weights[..];
+    &table[start..end]
+}
+
+// The weight of a vertex: the sum of its row.
+pub fn row_weight(weights: &[u8; 4096], v: usize) -> u32
+    ensures { λ r. ⌜ (r ≡ rowWeight (now (weights .entry)) (v % 64)) × (r ≤ mostWeight) ⌝ }
+{
+    row_total(weights, v % 64)
+}
+
+fn row_total(weights: &[u8; 4096], v: usize) -> u32
+    requires { ⌜ v < 64 ⌝ }
+    ensures { λ r. ⌜ (r ≡ rowWeight (now (weights .entry)) v) × (r ≤ mostWeight) ⌝ }
+{
+    let mut total: u32 = 0;
+    let mut i = 0;
+    while i < 64 {
+        total += entry(weights, v, i);
+        i += 1;
+    }
+    total
+}
+
+// The weights of all vertices.
+pub fn row_weights(weights: &[u8; 4096]) -> [u16; 64]
+    ensures { λ r. ⌜ RowsOf (now (weights .entry)) r ⌝ }
+{
+    let mut rows = [0u16; 64];
+    let mut v = 0;
+    while v < 64 {
+        rows[v] = row_total(weights, v) as u16;
+        v += 1;
+    }
+    rows
+}
+
+// The sum of a row, each weight times a number of 15 bits.
+pub fn row_sum(weights: &[u8; 4096], v: usize, numbers: &[u16; 64]) -> u32
+    ensures { λ r. ⌜ (r ≡ rowSum (now (weights .entry)) (v % 64) (now (numbers .entry))) × (r ≤ mostSum) ⌝ }
+{
+    row_products(weights, v % 64, numbers)
+}
+
+fn row_products(weights: &[u8; 4096], v: usize, numbers: &[u16; 64]) -> u32
+    requires { ⌜ v < 64 ⌝ }
+    ensures { λ r. ⌜ (r ≡ rowSum (now (weights .entry)) v (now (numbers .entry))) × (r ≤ mostSum) ⌝ }
+{
+    let mut total: u32 = 0;
+    let mut i = 0;
+    while i < 64 {
+        total += product(entry(weights, v, i), numbers[i]);
+        i += 1;
+    }
+    total
+}
+
+// Of the number 15 bits.
+fn product(a: u32, b: u16) -> u32
+    requires { ⌜ a ≤ 255 ⌝ }
+    ensures { λ r. ⌜ (r ≡ a * (b % 32768)) × (r ≤ 8355585) ⌝ }
+{
+    let low = b % 32768;
+    a * low as u32
+}
+
+// A row added to 64 numbers, each modulo 2^16.
+pub fn add_row(numbers: &mut [u16; 64], weights: &[u8; 4096], v: usize)
+    ensures { λ _. ⌜ (length (now (numbers .entry)) ≡ 64 → AddedRow (now (weights .entry)) (v % 64) (now (numbers .entry)) (now (numbers .exit))) ⌝ }
+{
+    add_entries(numbers, weights, v % 64)
+}
+
+fn add_entries(numbers: &mut [u16; 64], weights: &[u8; 4096], v: usize)
+    requires { ⌜ v < 64 ⌝ }
+    ensures { λ _. ⌜ (length (now (numbers .entry)) ≡ 64 → AddedRow (now (weights .entry)) v (now (numbers .entry)) (now (numbers .exit))) ⌝ }
+{
+    let mut y = 0;
+    while y < 64 {
+        let w = entry(weights, v, y);
+        numbers[y] = grown(numbers[y], w);
+        y += 1;
+    }
+}
+
+fn grown(x: u16, w: u32) -> u16
+    requires { ⌜ w ≤ 255 ⌝ }
+    ensures { λ r. ⌜ r ≡ (x + w) % 65536 ⌝ }
+{
+    ((x as u32 + w) % 65536) as u16
+}

@@ -1,0 +1,2 @@
+-- The loops of the counter.
+pub mod Loops
