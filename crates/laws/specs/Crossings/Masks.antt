@@ -1,11 +1,11 @@
 -- The crossing counter's formula, over sets of vertices held as bits of a word, and that it counts the crossings.
 use Prim.Native.Nat.{ℕ, zero, suc, _+_, _*_, _-_, _/_, _%_, _^_, _≤_, _<_}
-use native.Mathlib.Nat.{mul-add, lt-of-lt-of-le, pow-suc, le-of-suc-le-suc, not-suc-le-zero}
+use native.Mathlib.Nat.{mul-add, lt-of-lt-of-le, mod-eq-of-lt, pow-suc, le-of-suc-le-suc, not-suc-le-zero}
 use native.Mathlib.Omega.{arith}
 use mathlib.Core.Path.{_≡_, refl, sym, ap, ap₂, _∙_}
 use mathlib.Core.List.{List, [], _∷_, _++_}
 use lib.ListN.{getD, take, drop}
-use lib.Seq.{take-suc}
+use lib.Seq.{take-suc, getD-take}
 use lib.Dec.{eqb, ltb}
 use lib.Arith.{dbl-pred, digits-div, digits-mod}
 use lib.Pow.{pow-pos, ones-lt}
@@ -27,6 +27,12 @@ use Rattle.laws.specs.Crossings.Edges.{crossings-sum}
 
 unfoldable pub vertexAt : List ℕ → ℕ → ℕ
 vertexAt order k = getD order k 0 % 64
+
+-- of an order that holds each vertex once, the vertex there
+pub vertex-within : {n : ℕ} (order : List ℕ) → n ≤ 64 → Permutation n (take n order) → (j : ℕ) → j < n → vertexAt order j ≡ at (take n order) j
+unfolding vertexAt
+vertex-within {n} order small permutation j h =
+    ap (λ (x : ℕ). x % 64) (sym (getD-take n order j 0 h)) ∙ mod-eq-of-lt (lt-of-lt-of-le (at-lt permutation j h) small)
 
 -- the adjacency word of the vertex at a place
 unfoldable pub wordAt : List ℕ → List ℕ → ℕ → ℕ

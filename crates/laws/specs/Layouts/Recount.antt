@@ -1,20 +1,19 @@
 -- The carried count of a changed layout, by the counter's formula and by the definition; and that edits keep an order and edges that can be counted.
 use Prim.Native.Nat.{ℕ, _+_, _-_, _%_, _≤_, _<_}
-use native.Mathlib.Nat.{mod-eq-of-lt, mod-add-mod, add-mod-right, lt-of-lt-of-le}
+use native.Mathlib.Nat.{mod-eq-of-lt, mod-add-mod, add-mod-right}
 use native.Mathlib.Omega.{arith}
 use mathlib.Core.Path.{_≡_, sym, ap, ap₂, _∙_}
 use mathlib.Core.Bool.{cond}
 use mathlib.Core.List.{List}
 use lib.ListN.{take}
-use lib.Seq.{getD-take}
 use lib.Dec.{T, leb}
 use borrow.Author.Tests.{le-leb}
 use Rattle.model.specs.declared.Layout.{Layout}
 use Rattle.model.specs.Crossings.{unitWeight}
 use Rattle.model.specs.Layouts.{modulus, vertexOrder, weight, crossingsOf, valid, carried, changed, uncounted}
-use Rattle.laws.specs.Orders.Permutations.{at, Permutation, at-lt}
+use Rattle.laws.specs.Orders.Permutations.{at, Permutation}
 use Rattle.laws.specs.Sums.Pairs.{Symmetric}
-use Rattle.laws.specs.Crossings.Masks.{vertexAt, countOn, countOn-crossings}
+use Rattle.laws.specs.Crossings.Masks.{vertexAt, vertex-within, countOn, countOn-crossings}
 use Rattle.laws.specs.Layouts.Validity.{sound, words-symmetric}
 
 -- an order that holds each vertex once, and symmetric edges
@@ -29,9 +28,7 @@ drawn l t = record { small = sound l t .small; permutation = sound l t .permutat
 
 -- the vertex at a place, which the counter takes modulo 64
 pub drawn-vertex : {n : ℕ} {order adj : List ℕ} → Drawn n order adj → (j : ℕ) → j < n → vertexAt order j ≡ at (take n order) j
-unfolding vertexAt
-drawn-vertex {n} {order} d j h =
-    ap (λ (x : ℕ). x % 64) (sym (getD-take n order j 0 h)) ∙ mod-eq-of-lt (lt-of-lt-of-le (at-lt (d .permutation) j h) (d .small))
+drawn-vertex {order = order} d = vertex-within order (d .small) (d .permutation)
 
 -- what the counter answers
 unfoldable pub counted : ℕ → List ℕ → List ℕ → ℕ

@@ -1,5 +1,5 @@
 -- The table of weights: the weight of v towards y stands at 64 v + y. Sums over its rows.
-use Prim.Native.Nat.{ℕ, suc, _+_, _*_, _-_, _%_, _≤_, _<_}
+use Prim.Native.Nat.{ℕ, _+_, _*_, _-_, _%_, _≤_, _<_}
 use native.Mathlib.Nat.{add-sub-of-le, add-zero, zero-mul, mod-eq-of-lt, not-suc-le-zero}
 use native.Mathlib.Numerals.{add-one}
 use native.Mathlib.Omega.{arith}

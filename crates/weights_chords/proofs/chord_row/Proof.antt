@@ -1,0 +1,66 @@
+use borrow.Author.Needs.{needs}
+use Prim.Native.Nat.{_-_}
+use native.Mathlib.Omega.{arith}
+use mathlib.Core.Path.{refl, sym, _∙_}
+use Rattle.laws.specs.Crossings.Masks.{vertexAt}
+use Rattle.weights_chords.specs.Chords.{ChordsTo, row-start, row-next, row-end}
+use Rattle.weights_chords.proofs.chord_row.Statement.{statement}
+use Rattle.weights_chords.proofs.chord_row.Tie as tie
+
+abbrev Inv-loop : tie.InvT-loop
+Inv-loop chords₀ n order weights rows i first passed₀ outgoing₀ k₀ chords passed outgoing k =
+    ChordsTo n order weights i chords₀ chords passed outgoing k
+
+abbrev μ-loop : tie.MeasureT-loop
+μ-loop chords₀ n order weights rows i first passed₀ outgoing₀ k₀ chords passed outgoing k = n - k
+
+loop-holds : tie.Need-loop-holds Inv-loop μ-loop
+loop-holds c =
+    let given = c .before .before .pre in
+    row-start (given .0) (given .1) (given .2)
+
+loop-again : tie.Need-loop-again Inv-loop μ-loop
+unfolding vertexAt
+loop-again c =
+    let numbered = c .before .before in
+    let weighed = numbered .before .before in
+    let turn = weighed .before .before in
+    let so-far = turn .before .loop .inv in
+    let given = turn .before .before .before .before .pre in
+    row-next so-far (turn .loop-test .taken) refl refl (given .3) (weighed .weight-at .ensures .0) (numbered .next-chord .ensures)
+    (c .add-row .ensures (so-far .passed-size))
+
+same-length : tie.Need-same-length Inv-loop μ-loop
+same-length c = let given = c .before .before .before .before .pre in c .before .loop .inv .size ∙ sym (given .2)
+
+returns : tie.Need-returns Inv-loop μ-loop
+returns c = let given = c .before .before .before .before .pre in row-end (c .before .loop .inv) (c .loop-test .left) (given .2)
+
+pub chord-row-spec : {M : Type 1} → statement M
+chord-row-spec =
+    tie.close
+    (tie.spec
+    Inv-loop
+    μ-loop
+    (λ c. omega arith)
+    (λ c. search needs)
+    (λ c. omega arith)
+    loop-holds
+    (λ c. omega arith)
+    (λ c. search needs)
+    (λ c κs. search needs)
+    (λ c. omega arith)
+    (λ c. omega arith)
+    (λ c. omega arith)
+    (λ c. omega arith)
+    (λ c κs. search needs)
+    (λ c. omega arith)
+    (λ c. omega arith)
+    (λ c. omega arith)
+    (λ c. omega arith)
+    (λ c κs. search needs)
+    (λ c. omega arith)
+    (λ c. omega arith)
+    loop-again
+    same-length
+    returns)

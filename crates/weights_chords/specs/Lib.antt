@@ -1,0 +1,2 @@
+-- Chords: what the loops over the chords have numbered so far.
+pub mod Chords
