@@ -79,6 +79,35 @@ best-as {f = f} {g} {k} {fewest} {first} e s =
       none-yet = s .none-yet;
     }
 
+-- numbered otherwise: each number with a added is the other one with b added
+same-shift : (a b x y p q : ℕ) → x + a ≡ b + y → p + a ≡ b + q → one (eqb x p) ≡ one (eqb y q)
+same-shift a b x y p q e d =
+    elim (order x p) [
+      | less l ↦ one-ne x p (λ k. omega arith) ∙ sym (one-ne y q (λ k. omega arith))
+      | same k ↦ one-eq x p k ∙ sym (one-eq y q (omega arith))
+      | more l ↦ one-ne x p (λ k. omega arith) ∙ sym (one-ne y q (λ k. omega arith))
+    ]
+
+pub best-shifted : {top : ℕ} {f g : ℕ → ℕ} (a b : ℕ) {k fewest first number : ℕ} → ((i : ℕ) → i < k → f i + a ≡ b + g i) → 0 < k
+    → BestOf top f k fewest first number → BestOf top g k (g first) first number
+best-shifted {f = f} {g} a b {k} {fewest} {first} e some s =
+    let there = s .has some in
+    let here : fewest + a ≡ b + g first = ap (λ (x : ℕ). x + a) (sym (there .1)) ∙ e first (there .0) in
+    record {
+      below = λ i l. omega (arith, here, e i l, s .below i l);
+      has = λ l. (there .0, refl);
+      earlier = λ i l. omega (arith, here, e i (omega (arith, there .0)), s .earlier i l);
+      counted =
+          s .counted
+          ∙ sum-ext k (λ i. one (eqb (f i) fewest)) (λ i. one (eqb (g i) (g first))) (λ i l. same-shift a b (f i) (g i) fewest (g first) (e i l) here);
+      none-yet = λ z. absurd (omega arith);
+    }
+
+-- of no candidates
+pub best-none : {top : ℕ} {f : ℕ → ℕ} {k fewest first number : ℕ} → 0 ≡ k → BestOf top f k fewest first number → number ≡ 0
+unfolding sum
+best-none {f = f} {fewest = fewest} z s = s .counted ∙ ap (λ (m : ℕ). sum m (λ i. one (eqb (f i) fewest))) (sym z)
+
 -- ---- of all candidates
 
 -- the first entry that passes, by its place

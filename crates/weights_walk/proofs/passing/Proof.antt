@@ -1,0 +1,28 @@
+use borrow.Author.Needs.{needs}
+use Rattle.weights_walk.specs.Walks.{passed-made}
+use Rattle.weights_walk.proofs.passing.Statement.{statement}
+use Rattle.weights_walk.proofs.passing.Tie as tie
+
+returns : tie.Need-returns
+returns c =
+    let told = c .before in
+    let summed = told .before in
+    let weighed = summed .before in
+    let asked = weighed .before .pre in
+    passed-made (asked .3) (asked .4) (weighed .weight-at .ensures .0) (weighed .weight-at .ensures .1) (summed .row-sum .ensures .0)
+    (told .exchanged .ensures) (c .better .ensures)
+
+pub passing-spec : {M : Type 1} → statement M
+passing-spec =
+    tie.close
+    (tie.spec
+    (λ c κs. search needs)
+    (λ c κs. search needs)
+    (λ c. search needs)
+    (λ c. search needs)
+    (λ c. search needs)
+    (λ c. search needs)
+    (λ c κs. search needs)
+    (λ c. search needs)
+    (λ c κs. search needs)
+    returns)
