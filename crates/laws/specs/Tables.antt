@@ -1,7 +1,8 @@
--- Tables of weights, 64 rows of 64 bytes (document 02, Note 8): an entry, the sum of a row, rows added to numbers, the crossings counted over them, and an
--- order and a table that can be drawn.
--- Others cite tableWeight, rowWeight, rowSum, row-weight and row-products, SummedUpTo, RowsOf, AddedRow; counted (what the counter answers for any bytes),
--- counted-most and counted-crossings; Weighted.
+-- Tables of weights, 64 rows of 64 bytes (document 02, Note 8): an entry, the sum of a row, rows added to numbers or taken away (Rows), an order and a table
+-- that can be drawn (Drawn), the crossings counted over them (Counts), and the weight of open edges in greedy append as numbers (Ends).
+-- Others cite tableWeight, rowWeight, rowSum, row-weight and row-products, SummedUpTo, RowsOf, AddedRow, TakenRow; Weighted; counted (what the counter
+-- answers for any bytes), counted-most and counted-crossings; StillOpen, OpenOf, open-start, open-taken, front-open and back-open.
 pub mod Rows
 pub mod Drawn
 pub mod Counts
+pub mod Ends

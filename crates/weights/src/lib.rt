@@ -1,9 +1,9 @@
 // A table of weights (document 02, Note 8): the weight of u towards v stands at 64 * u + v. Only here is
 // the table read. Calls of other crates are total: a vertex is taken modulo 64.
 ghost use mathlib.Core.Path.{_≡_};
-ghost use Prim.Native.Nat.{_+_, _*_, _%_, _<_, _≤_};
+ghost use Prim.Native.Nat.{_+_, _*_, _-_, _%_, _<_, _≤_};
 ghost use lib.ListN.{length, take, drop};
-ghost use Rattle.laws.specs.Tables.Rows.{tableWeight, rowWeight, rowSum, mostWeight, mostSum, RowsOf, AddedRow};
+ghost use Rattle.laws.specs.Tables.Rows.{tableWeight, rowWeight, rowSum, mostWeight, mostSum, RowsOf, AddedRow, TakenRow};
 
 // The weight between two vertices.
 pub fn weight_at(weights: &[u8; 4096], u: usize, v: usize) -> u32
@@ -118,7 +118,33 @@ fn add_entries(numbers: &mut [u16; 64], weights: &[u8; 4096], v: usize)
 
 fn grown(x: u16, w: u32) -> u16
     requires { ⌜ w ≤ 255 ⌝ }
-    ensures { λ r. ⌜ r ≡ (x + w) % 65536 ⌝ }
+    ensures { λ r. ⌜ (r ≡ (x + w) % 65536) × (x < 65536) ⌝ }
 {
     ((x as u32 + w) % 65536) as u16
+}
+
+// A row taken away from 64 numbers, each modulo 2^16.
+pub fn sub_row(numbers: &mut [u16; 64], weights: &[u8; 4096], v: usize)
+    ensures { λ _. ⌜ (length (now (numbers .entry)) ≡ 64 → TakenRow (now (weights .entry)) (v % 64) (now (numbers .entry)) (now (numbers .exit))) ⌝ }
+{
+    sub_entries(numbers, weights, v % 64)
+}
+
+fn sub_entries(numbers: &mut [u16; 64], weights: &[u8; 4096], v: usize)
+    requires { ⌜ v < 64 ⌝ }
+    ensures { λ _. ⌜ (length (now (numbers .entry)) ≡ 64 → TakenRow (now (weights .entry)) v (now (numbers .entry)) (now (numbers .exit))) ⌝ }
+{
+    let mut y = 0;
+    while y < 64 {
+        let w = entry(weights, v, y);
+        numbers[y] = lessened(numbers[y], w);
+        y += 1;
+    }
+}
+
+fn lessened(x: u16, w: u32) -> u16
+    requires { ⌜ w ≤ 255 ⌝ }
+    ensures { λ r. ⌜ (r ≡ (x + (65536 - w)) % 65536) × (x < 65536) ⌝ }
+{
+    ((x as u32 + (65536 - w)) % 65536) as u16
 }

@@ -80,44 +80,75 @@ module _ {n : ℕ} (ws : List ℕ) (v : ℕ) (small : n ≤ 64) (blank : (y : �
 pub record RowsOf (ws rows : List ℕ) : Type 0 where
   pub row-is : (v : ℕ) → v < 64 → getD rows v 0 ≡ rowWeight ws v
 
--- ---- a row added to numbers of 16 bits
+-- ---- a row added to numbers of 16 bits, or taken away from them
 
 pub record AddedRow (ws : List ℕ) (v : ℕ) (xs ys : List ℕ) : Type 0 where
   pub size : length ys ≡ 64
   pub added : (y : ℕ) → y < 64 → getD ys y 0 ≡ (getD xs y 0 + tableWeight ws v y) % 65536
   pub light : (y : ℕ) → y < 64 → tableWeight ws v y ≤ 255
 
-pub record AddingUpTo (ws : List ℕ) (v : ℕ) (xs ys : List ℕ) (k : ℕ) : Type 0 where
+pub record TakenRow (ws : List ℕ) (v : ℕ) (xs ys : List ℕ) : Type 0 where
+  pub size : length ys ≡ 64
+  pub taken : (y : ℕ) → y < 64 → getD ys y 0 ≡ (getD xs y 0 + (65536 - tableWeight ws v y)) % 65536
+  pub light : (y : ℕ) → y < 64 → tableWeight ws v y ≤ 255
+  pub fits : (y : ℕ) → y < 64 → getD xs y 0 < 65536
+
+-- a number that contains the weight loses exactly that
+pub taken-exact : {ws xs ys : List ℕ} {v : ℕ} → TakenRow ws v xs ys → (y : ℕ) → y < 64 → tableWeight ws v y ≤ getD xs y 0
+    → getD ys y 0 + tableWeight ws v y ≡ getD xs y 0
+taken-exact t y l h = omega (arith, t .taken y l, t .light y l, t .fits y l)
+
+-- a loop that changes each number x by a weight w to f x w
+pub record ChangingUpTo (f : ℕ → ℕ → ℕ) (ws : List ℕ) (v : ℕ) (xs ys : List ℕ) (k : ℕ) : Type 0 where
   pub inside : k ≤ 64
   pub size : length ys ≡ 64
-  pub added : (y : ℕ) → y < k → getD ys y 0 ≡ (getD xs y 0 + tableWeight ws v y) % 65536
+  pub changed : (y : ℕ) → y < k → getD ys y 0 ≡ f (getD xs y 0) (tableWeight ws v y)
   pub light : (y : ℕ) → y < k → tableWeight ws v y ≤ 255
+  pub fits : (y : ℕ) → y < k → getD xs y 0 < 65536
   pub still : (y : ℕ) → k ≤ y → getD ys y 0 ≡ getD xs y 0
 
-module _ {ws : List ℕ} {v : ℕ} {xs : List ℕ} where
-  pub adding-start : length xs ≡ 64 → AddingUpTo ws v xs xs 0
-  adding-start e =
+abbrev pub addedTo : ℕ → ℕ → ℕ
+addedTo x w = (x + w) % 65536
+
+abbrev pub takenFrom : ℕ → ℕ → ℕ
+takenFrom x w = (x + (65536 - w)) % 65536
+
+module _ {f : ℕ → ℕ → ℕ} {ws : List ℕ} {v : ℕ} {xs : List ℕ} where
+  pub changing-start : length xs ≡ 64 → ChangingUpTo f ws v xs xs 0
+  changing-start e =
       record {
         inside = omega arith;
         size = e;
-        added = λ y l. absurd (not-suc-le-zero l);
+        changed = λ y l. absurd (not-suc-le-zero l);
         light = λ y l. absurd (not-suc-le-zero l);
+        fits = λ y l. absurd (not-suc-le-zero l);
         still = λ y l. refl;
       }
 
-  module _ {ys : List ℕ} {k : ℕ} (s : AddingUpTo ws v xs ys k) where
-    pub adding-next : k < 64 → {w x : ℕ} → w ≡ tableWeight ws v k → w ≤ 255 → x ≡ (getD ys k 0 + w) % 65536 → AddingUpTo ws v xs (set ys k x) (k + 1)
-    adding-next h {w} {x} e few made =
-        record {
-          inside = omega arith;
-          size = length-set ys k x ∙ s .size;
-          added =
-              below-more (λ y. getD (set ys k x) y 0 ≡ (getD xs y 0 + tableWeight ws v y) % 65536) k
-              (λ y l. getD-set-other ys k y x 0 (λ d. omega arith) ∙ s .added y l)
-              (getD-set-same ys k x 0 (omega (arith, s .size)) ∙ made ∙ ap₂ (λ (a b : ℕ). (a + b) % 65536) (s .still k (omega arith)) e);
-          light = below-more (λ y. tableWeight ws v y ≤ 255) k (s .light) (rw (← e) few);
-          still = λ y l. getD-set-other ys k y x 0 (λ d. omega arith) ∙ s .still y (omega arith);
-        }
+  pub changing-next : {ys : List ℕ} {k : ℕ} → ChangingUpTo f ws v xs ys k → k < 64 → {w x : ℕ} → w ≡ tableWeight ws v k → w ≤ 255
+      → x ≡ f (getD ys k 0) w → getD ys k 0 < 65536 → ChangingUpTo f ws v xs (set ys k x) (k + 1)
+  changing-next {ys} {k} s h {w} {x} e few made small =
+      record {
+        inside = omega arith;
+        size = length-set ys k x ∙ s .size;
+        changed =
+            below-more (λ y. getD (set ys k x) y 0 ≡ f (getD xs y 0) (tableWeight ws v y)) k
+            (λ y l. getD-set-other ys k y x 0 (λ d. omega arith) ∙ s .changed y l)
+            (getD-set-same ys k x 0 (omega (arith, s .size)) ∙ made ∙ ap₂ f (s .still k (omega arith)) e);
+        light = below-more (λ y. tableWeight ws v y ≤ 255) k (s .light) (rw (← e) few);
+        fits = below-more (λ y. getD xs y 0 < 65536) k (s .fits) (rw (s .still k (omega arith)) at small);
+        still = λ y l. getD-set-other ys k y x 0 (λ d. omega arith) ∙ s .still y (omega arith);
+      }
 
-    pub adding-end : 64 ≤ k → AddedRow ws v xs ys
-    adding-end h = record { size = s .size; added = λ y l. s .added y (omega arith); light = λ y l. s .light y (omega arith) }
+module _ {ws : List ℕ} {v : ℕ} {xs ys : List ℕ} {k : ℕ} where
+  pub added-end : ChangingUpTo addedTo ws v xs ys k → 64 ≤ k → AddedRow ws v xs ys
+  added-end s h = record { size = s .size; added = λ y l. s .changed y (omega arith); light = λ y l. s .light y (omega arith) }
+
+  pub taken-end : ChangingUpTo takenFrom ws v xs ys k → 64 ≤ k → TakenRow ws v xs ys
+  taken-end s h =
+      record {
+        size = s .size;
+        taken = λ y l. s .changed y (omega arith);
+        light = λ y l. s .light y (omega arith);
+        fits = λ y l. s .fits y (omega arith);
+      }
