@@ -2,49 +2,40 @@
 // the table read. Calls of other crates are total: a vertex is taken modulo 64.
 ghost use mathlib.Core.Path.{_≡_};
 ghost use Prim.Native.Nat.{_+_, _*_, _-_, _%_, _<_, _≤_};
-ghost use lib.ListN.{length, take, drop};
+ghost use lib.ListN.{length};
+ghost use Rattle.laws.specs.Sums.Numbers.{Bounded};
 ghost use Rattle.laws.specs.Tables.Rows.{tableWeight, rowWeight, rowSum, mostWeight, mostSum, RowsOf, AddedRow, TakenRow};
 
 // The weight between two vertices.
 pub fn weight_at(weights: &[u8; 4096], u: usize, v: usize) -> u32
-    ensures { λ r. ⌜ (r ≡ tableWeight (now (weights .entry)) (u % 64) (v % 64)) × (r ≤ 255) ⌝ }
+    ensures { λ r. ⌜ Bounded (tableWeight (now (weights .entry)) (u % 64) (v % 64)) 255 r ⌝ }
 {
     entry(weights, u % 64, v % 64)
 }
 
 fn entry(weights: &[u8; 4096], u: usize, v: usize) -> u32
     requires { ⌜ (u < 64) × (v < 64) ⌝ }
-    ensures { λ r. ⌜ (r ≡ tableWeight (now (weights .entry)) u v) × (r ≤ 255) ⌝ }
+    ensures { λ r. ⌜ Bounded (tableWeight (now (weights .entry)) u v) 255 r ⌝ }
 {
     wide(weights[64 * u + v])
 }
 
 fn wide(b: u8) -> u32
-    ensures { λ r. ⌜ (r ≡ b) × (r ≤ 255) ⌝ }
+    ensures { λ r. ⌜ Bounded b 255 r ⌝ }
 {
     b as u32
 }
 
-// The weights of a vertex towards each.
-pub fn row_of(weights: &[u8; 4096], u: usize) -> &[u8]
-    ensures { λ r. ⌜ now r ≡ take 64 (drop (64 * (u % 64)) (now (weights .entry))) ⌝ }
-{
-    let start = 64 * (u % 64);
-    let end = start + 64;
-    let table = &weights[..];
-    &table[start..end]
-}
-
 // The weight of a vertex: the sum of its row.
 pub fn row_weight(weights: &[u8; 4096], v: usize) -> u32
-    ensures { λ r. ⌜ (r ≡ rowWeight (now (weights .entry)) (v % 64)) × (r ≤ mostWeight) ⌝ }
+    ensures { λ r. ⌜ Bounded (rowWeight (now (weights .entry)) (v % 64)) mostWeight r ⌝ }
 {
     row_total(weights, v % 64)
 }
 
 fn row_total(weights: &[u8; 4096], v: usize) -> u32
     requires { ⌜ v < 64 ⌝ }
-    ensures { λ r. ⌜ (r ≡ rowWeight (now (weights .entry)) v) × (r ≤ mostWeight) ⌝ }
+    ensures { λ r. ⌜ Bounded (rowWeight (now (weights .entry)) v) mostWeight r ⌝ }
 {
     let mut total: u32 = 0;
     let mut i = 0;
@@ -70,14 +61,14 @@ pub fn row_weights(weights: &[u8; 4096]) -> [u16; 64]
 
 // The sum of a row, each weight times a number of 15 bits.
 pub fn row_sum(weights: &[u8; 4096], v: usize, numbers: &[u16; 64]) -> u32
-    ensures { λ r. ⌜ (r ≡ rowSum (now (weights .entry)) (v % 64) (now (numbers .entry))) × (r ≤ mostSum) ⌝ }
+    ensures { λ r. ⌜ Bounded (rowSum (now (weights .entry)) (v % 64) (now (numbers .entry))) mostSum r ⌝ }
 {
     row_products(weights, v % 64, numbers)
 }
 
 fn row_products(weights: &[u8; 4096], v: usize, numbers: &[u16; 64]) -> u32
     requires { ⌜ v < 64 ⌝ }
-    ensures { λ r. ⌜ (r ≡ rowSum (now (weights .entry)) v (now (numbers .entry))) × (r ≤ mostSum) ⌝ }
+    ensures { λ r. ⌜ Bounded (rowSum (now (weights .entry)) v (now (numbers .entry))) mostSum r ⌝ }
 {
     let mut total: u32 = 0;
     let mut i = 0;
@@ -91,7 +82,7 @@ fn row_products(weights: &[u8; 4096], v: usize, numbers: &[u16; 64]) -> u32
 // Of the number 15 bits.
 fn product(a: u32, b: u16) -> u32
     requires { ⌜ a ≤ 255 ⌝ }
-    ensures { λ r. ⌜ (r ≡ a * (b % 32768)) × (r ≤ 8355585) ⌝ }
+    ensures { λ r. ⌜ Bounded (a * (b % 32768)) 8355585 r ⌝ }
 {
     let low = b % 32768;
     a * low as u32

@@ -9,6 +9,7 @@ use lib.ListN.{length, getD, set, length-set}
 use lib.Seq.{getD-set-same, getD-set-other}
 use borrow.Author.Count.{below-more}
 use Rattle.model.specs.Lists.{upto, sumOver}
+use Rattle.laws.specs.Sums.Numbers.{Bounded}
 use Rattle.laws.specs.Sums.Ranges.{sum, sum-ext, sum-cut, sum-zero}
 use Rattle.laws.specs.Sums.Lists.{sumOver-upto}
 
@@ -47,10 +48,10 @@ module _ {f : ℕ → ℕ} {c : ℕ} where
     summed-next h e few =
         rw (add-one i) (record { inside = h; summed = ap₂ _+_ (s .summed) e; few = omega (arith, s .few) })
 
-    pub summed-end : 64 ≤ i → (total ≡ sum 64 f) × (total ≤ c * 64)
+    pub summed-end : 64 ≤ i → Bounded (sum 64 f) (c * 64) total
     summed-end h =
         let all : i ≡ 64 = omega (arith, s .inside) in
-        (s .summed ∙ ap (λ (k : ℕ). sum k f) all, omega (arith, s .few, ap (λ (k : ℕ). c * k) all))
+        record { is = s .summed ∙ ap (λ (k : ℕ). sum k f) all; small = omega (arith, s .few, ap (λ (k : ℕ). c * k) all) }
 
 -- ---- only vertices below n have weights
 

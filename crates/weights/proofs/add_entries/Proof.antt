@@ -20,7 +20,7 @@ loop-again : tie.Need-loop-again Inv-loop μ-loop
 loop-again c e =
     let told = c .before .before in
     let test = told .before in
-    changing-next (test .before .loop .inv e) (test .loop-test .taken) (told .entry .ensures .0) (told .entry .ensures .1)
+    changing-next (test .before .loop .inv e) (test .loop-test .taken) (told .entry .ensures .is) (told .entry .ensures .small)
     (c .grown .ensures .0) (c .grown .ensures .1)
 
 returns : tie.Need-returns Inv-loop μ-loop

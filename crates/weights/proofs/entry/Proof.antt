@@ -5,7 +5,7 @@ use Rattle.weights.proofs.entry.Tie as tie
 
 returns : tie.Need-returns
 unfolding tableWeight
-returns c = c .wide .ensures
+returns c = record { is = c .wide .ensures .is; small = c .wide .ensures .small }
 
 pub entry-spec : {M : Type 1} → statement M
 entry-spec =

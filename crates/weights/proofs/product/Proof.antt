@@ -13,7 +13,7 @@ mul-result : tie.Need-mul-result
 mul-result c = record { fits = omega (arith, most (c .args .a) (c .args .b % 32768) (c .pre) (omega arith)) }
 
 returns : tie.Need-returns
-returns c = (refl, most _ _ (c .pre) (omega arith))
+returns c = record { is = refl; small = most _ _ (c .pre) (omega arith) }
 
 pub product-spec : {M : Type 1} → statement M
 product-spec = tie.close (tie.spec (λ c. search needs) mul-result returns)

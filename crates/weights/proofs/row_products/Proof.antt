@@ -22,7 +22,7 @@ entry-requires c κs = (c .before .before .pre, c .loop-test .taken)
 add-total : tie.Need-add-total Inv-loop μ-loop
 add-total c =
     let inv = c .before .before .before .before .loop .inv in
-    omega (arith, inv .few, inv .inside, c .product .ensures .1)
+    omega (arith, inv .few, inv .inside, c .product .ensures .small)
 
 loop-again : tie.Need-loop-again Inv-loop μ-loop
 loop-again c =
@@ -30,7 +30,7 @@ loop-again c =
     let turn = told .before .before in
     let numbers = turn .before .args .numbers .now in
     summed-next (turn .loop .inv) (told .before .loop-test .taken)
-    (c .product .ensures .0 ∙ ap (λ (x : ℕ). x * (getD numbers (turn .loop .i) 0 % 32768)) (told .entry .ensures .0)) (c .product .ensures .1)
+    (c .product .ensures .is ∙ ap (λ (x : ℕ). x * (getD numbers (turn .loop .i) 0 % 32768)) (told .entry .ensures .is)) (c .product .ensures .small)
 
 returns : tie.Need-returns Inv-loop μ-loop
 unfolding rowSum

@@ -18,14 +18,14 @@ entry-requires : tie.Need-entry-requires Inv-loop μ-loop
 entry-requires c κs = (c .before .before .pre, c .loop-test .taken)
 
 add-total : tie.Need-add-total Inv-loop μ-loop
-add-total c = omega (arith, c .before .before .loop .inv .few, c .before .before .loop .inv .inside, c .entry .ensures .1)
+add-total c = omega (arith, c .before .before .loop .inv .few, c .before .before .loop .inv .inside, c .entry .ensures .small)
 
 loop-less : tie.Need-loop-less Inv-loop μ-loop
 loop-less c = omega (arith, c .before .loop-test .taken)
 
 loop-again : tie.Need-loop-again Inv-loop μ-loop
 loop-again c =
-    summed-next (c .before .before .loop .inv) (c .before .loop-test .taken) (c .entry .ensures .0) (c .entry .ensures .1)
+    summed-next (c .before .before .loop .inv) (c .before .loop-test .taken) (c .entry .ensures .is) (c .entry .ensures .small)
 
 returns : tie.Need-returns Inv-loop μ-loop
 unfolding rowWeight

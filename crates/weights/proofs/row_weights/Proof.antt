@@ -19,10 +19,10 @@ row-total-requires : tie.Need-row-total-requires Inv-loop μ-loop
 row-total-requires c κs = c .loop-test .taken
 
 cast-rows : tie.Need-cast-rows Inv-loop μ-loop
-cast-rows c = omega (arith, c .row-total .ensures .1)
+cast-rows c = omega (arith, c .row-total .ensures .small)
 
 loop-again : tie.Need-loop-again Inv-loop μ-loop
-loop-again c = filled-next (c .before .before .loop .inv) (c .before .loop-test .taken) (c .row-total .ensures .0)
+loop-again c = filled-next (c .before .before .loop .inv) (c .before .loop-test .taken) (c .row-total .ensures .is)
 
 returns : tie.Need-returns Inv-loop μ-loop
 returns c = record { row-is = λ v l. c .before .loop .inv .filled v (omega (arith, c .loop-test .left)) }

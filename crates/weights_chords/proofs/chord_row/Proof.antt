@@ -27,7 +27,7 @@ loop-again c =
     let turn = weighed .before .before in
     let so-far = turn .before .loop .inv in
     let given = turn .before .before .before .before .pre in
-    row-next so-far (turn .loop-test .taken) refl refl (given .3) (weighed .weight-at .ensures .0) (numbered .next-chord .ensures)
+    row-next so-far (turn .loop-test .taken) refl refl (given .3) (weighed .weight-at .ensures .is) (numbered .next-chord .ensures)
     (c .add-row .ensures (so-far .passed-size))
 
 same-length : tie.Need-same-length Inv-loop μ-loop

@@ -31,14 +31,14 @@ add-total c =
 add-beyond : tie.Need-add-beyond Inv-loop μ-loop
 add-beyond c =
     let so-far = turn (c .before) .loop .inv in
-    record { fits = omega (arith, so-far .beyond-few, so-far .small, c .weight-at .ensures .1) }
+    record { fits = omega (arith, so-far .beyond-few, so-far .small, c .weight-at .ensures .small) }
 
 loop-again : tie.Need-loop-again Inv-loop μ-loop
 unfolding vertexAt
 loop-again c =
     let pair = c .before in
-    row-next (start (turn pair) .pre .2) (turn pair .loop .inv) (later pair) (pair .product .ensures) (omega arith) (c .weight-at .ensures .0)
-    (c .weight-at .ensures .1) (omega arith) (omega arith)
+    row-next (start (turn pair) .pre .2) (turn pair .loop .inv) (later pair) (pair .product .ensures) (omega arith) (c .weight-at .ensures .is)
+    (c .weight-at .ensures .small) (omega arith) (omega arith)
 
 returns : tie.Need-returns Inv-loop μ-loop
 returns c = row-end (c .before .loop .inv) (omega (arith, c .loop-test .left))

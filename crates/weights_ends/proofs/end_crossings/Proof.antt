@@ -42,7 +42,7 @@ loop-holds c = met-start
 passed-requires : tie.Need-passed-requires Inv-loop μ-loop
 passed-requires c κs =
     let turn = c .before .before .before in
-    (so-far-small (turn .loop .inv) (short (start turn)), c .before .weight-at .ensures .1)
+    (so-far-small (turn .loop .inv) (short (start turn)), c .before .weight-at .ensures .small)
 
 loop-again : tie.Need-loop-again Inv-loop μ-loop
 loop-again c =
@@ -53,9 +53,9 @@ loop-again c =
     let W = tableWeight (s .weights .now) (s .v % 64) in
     let x = getD (s .line .places) (s .line .first % 65 + turn .loop .i) 0 in
     let again : x % 64 % 64 ≡ x % 64 = omega arith in
-    let weight : told .weight-at .result ≡ W (x % 64 % 64) = told .weight-at .ensures .0 in
+    let weight : told .weight-at .result ≡ W (x % 64 % 64) = told .weight-at .ensures .is in
     met-next (turn .loop .inv) (short (start turn)) (omega (arith, many (start turn), test .loop-test .taken))
-    (weight ∙ ap W (again ∙ entry test)) (told .weight-at .ensures .1)
+    (weight ∙ ap W (again ∙ entry test)) (told .weight-at .ensures .small)
     (ap (λ (p : ℕ). getD (s .opens .now) p 0) (entry test)) (c .passed .ensures .1)
     (c .passed .ensures .0)
 

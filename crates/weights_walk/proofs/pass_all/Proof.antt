@@ -29,7 +29,7 @@ loop-again c =
     let made = ready turn in
     let asked = start turn .pre in
     let v = there .other-at .ensures in
-    walking-next (turn .loop .inv) (asked .0) (asked .2) (v .1) (made .before .row-weight .ensures .0) (made .reaches-of .ensures)
+    walking-next (turn .loop .inv) (asked .0) (asked .2) (v .1) (made .before .row-weight .ensures .is) (made .reaches-of .ensures)
     (omega (arith, there .before .loop-test .taken)) (v .0) (passed .passing .ensures) (c .add-row .ensures)
 
 returns : tie.Need-returns Inv-loop μ-loop

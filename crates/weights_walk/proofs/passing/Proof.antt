@@ -9,7 +9,7 @@ returns c =
     let summed = told .before in
     let weighed = summed .before in
     let asked = weighed .before .pre in
-    passed-made (asked .3) (asked .4) (weighed .weight-at .ensures .0) (weighed .weight-at .ensures .1) (summed .row-sum .ensures .0)
+    passed-made (asked .3) (asked .4) (weighed .weight-at .ensures .is) (weighed .weight-at .ensures .small) (summed .row-sum .ensures .is)
     (told .exchanged .ensures) (c .better .ensures)
 
 pub passing-spec : {M : Type 1} → statement M

@@ -20,8 +20,8 @@ loop-again c =
     let turn = test .before in
     let v = c .before .other-at .ensures in
     let asked = turn .before .pre in
-    reaching-next (turn .loop .inv) (asked .0) (asked .2) (omega (arith, test .loop-test .taken)) (v .0) (v .1) (c .weight-at .ensures .0)
-    (c .weight-at .ensures .1)
+    reaching-next (turn .loop .inv) (asked .0) (asked .2) (omega (arith, test .loop-test .taken)) (v .0) (v .1) (c .weight-at .ensures .is)
+    (c .weight-at .ensures .small)
 
 returns : tie.Need-returns Inv-loop μ-loop
 returns c = reaching-end (c .before .loop .inv) (omega (arith, c .loop-test .left))
