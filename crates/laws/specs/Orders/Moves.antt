@@ -12,7 +12,6 @@ use borrow.Author.Tests.{eq-eqb, ne-eqb, lt-ltb, le-ltb, le-leb, lt-leb}
 use Rattle.model.specs.Lists.{one, keep, sumOver, occurrences, place}
 use Rattle.model.specs.Edits.{insertAfter, movedAfter}
 use Rattle.laws.specs.Sums.Indicators.{less, same, more, order, one-ne}
-use Rattle.laws.specs.Sums.Lists.{keep-append}
 use Rattle.laws.specs.Orders.Permutations.{at, occurrences-cons, occurrences-append, occurrences-split, Permutation, place-lt, place-at, at-of-place}
 use Rattle.laws.specs.Orders.Permutations.{place-below}
 
@@ -71,15 +70,6 @@ takenOut p o = take p o ++ drop (suc p) o
 
 abbrev pub putIn : ℕ → ℕ → List ℕ → List ℕ
 putIn r a xs = take r xs ++ a ∷ drop r xs
-
--- put in anywhere, what is left without a stays the same
-pub without-put : (r a : ℕ) (o : List ℕ) → without a (putIn r a (without a o)) ≡ without a o
-unfolding keep
-without-put r a o =
-    let xs = without a o in
-    keep-append (λ x. not (eqb a x)) (take r xs) (a ∷ drop r xs)
-    ∙ rw (eq-eqb a a refl)
-    (sym (keep-append (λ x. not (eqb a x)) (take r xs) (drop r xs)) ∙ ap (without a) (take-append-drop r xs) ∙ without-twice a o)
 
 pub without-place : (a : ℕ) (o : List ℕ) → occurrences a o ≡ 1 → without a o ≡ takenOut (place o a) o
 unfolding keep occurrences sumOver one place
@@ -269,21 +259,6 @@ module _ {n : ℕ} {o : List ℕ} (perm : Permutation n o) (a : ℕ) (ha : a < n
   rest-occurrences v =
       occurrences-takenOut v (place o a) o place-a
       ∙ ap (λ (x : ℕ). one (eqb v x) + occurrences v (takenOut (place o a) o)) (at-of-place perm a ha)
-
-  -- put back at any place, each vertex is still held once
-  pub put-permutation : (p : ℕ) → p < n → Permutation n (putIn p a (without a o))
-  put-permutation p l =
-      record {
-        size =
-            ap (λ (xs : List ℕ). length (putIn p a xs)) taken
-            ∙ length-putIn p a (takenOut (place o a) o) (omega (arith, rest-length))
-            ∙ rest-length;
-        once = λ v h.
-            ap (λ (xs : List ℕ). occurrences v (putIn p a xs)) taken
-            ∙ occurrences-putIn v p a (takenOut (place o a) o)
-            ∙ sym (rest-occurrences v)
-            ∙ perm .once v h;
-      }
 
   module _ (b : ℕ) (hb : b < n) (d : a ≡ b → ⊥) where
     rest-once : occurrences b (takenOut (place o a) o) ≡ 1
