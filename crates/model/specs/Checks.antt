@@ -62,6 +62,10 @@ bufferFits l size = record { passes = leb (l .n) size; code = 18 }
 
 -- ---- of calls that document 02 adds
 
+-- "25 when a weight is 0" (Note 8)
+unfoldable pub weighs : ℕ → Check
+weighs w = record { passes = ltb 0 w; code = 25 }
+
 -- what is written out, and a lent buffer: "19 when the lent buffer is shorter" (Note 1); "23 when the table has fewer entries" (Note 7)
 unfoldable pub roomFor : ℕ → List ℕ → List ℕ → Check
 roomFor short entries buffer = record { passes = leb (length entries) (length buffer); code = short }
