@@ -3,6 +3,8 @@
 -- Others cite tableWeight, rowWeight, rowSum, row-weight and row-products, SummedUpTo, RowsOf, AddedRow, TakenRow; Weighted; counted (what the counter
 -- answers for any bytes), counted-most and counted-crossings; StillOpen, OpenOf, open-start, open-taken, front-open and back-open.
 pub mod Rows
+pub mod Fits
+pub mod Edits
 pub mod Drawn
 pub mod Counts
 pub mod Ends

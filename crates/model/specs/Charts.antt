@@ -15,7 +15,7 @@ use Rattle.model.specs.declared.SizeFound.{SizeFound}
 use Rattle.model.specs.declared.SizeFound.the-variants as size
 use Rattle.model.specs.Lists.{upto, every, any, sumOver, noRepeats}
 use Rattle.model.specs.Crossings.{crossings}
-use Rattle.model.specs.Layouts.{capacity, tablePlaces, emptyLayout, eachOnce, uncounted, weight}
+use Rattle.model.specs.Layouts.{capacity, tablePlaces, emptyLayout, eachOnce, uncounted, isWeight, weight}
 use Rattle.model.specs.Checks.{Check, checked}
 use Rattle.model.specs.Edits.{bothWays}
 
@@ -143,7 +143,7 @@ weightChecks links ws =
     -- "24 when field 57 hasn't exactly one byte per link, after 8"
     record { passes = eqb (length ws) (length (edgesIn links)); code = 24 }
     -- "25 when a weight is 0, after 24 in a chart"
-    ∷ record { passes = every (ltb 0) ws; code = 25 }
+    ∷ record { passes = every isWeight ws; code = 25 }
     ∷ []
 
 -- the tags that a chart's fields are to have, and those with weights

@@ -1,6 +1,6 @@
 -- The circular layout (document 01: the ring), validity (whole), and the carried count.
 use Prim.Native.Nat.{ℕ, _+_, _*_, _-_, _%_, _^_}
-use mathlib.Core.Bool.{Bool, Bool·beq, not, _&&_}
+use mathlib.Core.Bool.{Bool, Bool·beq, not, cond, _&&_}
 use mathlib.Core.List.{List, _++_}
 use lib.ListN.{getD, take, drop, replicate}
 use lib.Dec.{eqb, leb, ltb}
@@ -28,7 +28,11 @@ vertexOrder l = take (l .n) (l .order)
 abbrev pub uncounted : ℕ → List ℕ → List ℕ → List ℕ → Layout
 uncounted n order adj ws = record { n = n; order = order; adjacency = adj; weights = ws; count = 0 }
 
--- "Each link gets a weight from 1 to 255" (document 02, Note 8). A table holds a row for each vertex: the weight of u towards v, 0 where there is no edge
+-- "Each link gets a weight from 1 to 255" (document 02, Note 8): of the bytes, each but 0
+unfoldable pub isWeight : ℕ → Bool
+isWeight w = leb 1 w && leb w 255
+
+-- a table of weights holds a row for each vertex: the weight of u towards v, 0 where there is no edge
 unfoldable pub tableWeight : List ℕ → ℕ → ℕ → ℕ
 tableWeight ws u v = getD ws (capacity * u + v) 0
 
@@ -72,7 +76,8 @@ evenWeights n ws = every (λ u. every (λ v. eqb (getD (rowOf ws u) v 0) (getD (
 
 -- "and 0 exactly where no link is"
 unfoldable pub weighsEdges : ℕ → List ℕ → List ℕ → Bool
-weighsEdges n adj ws = every (λ u. every (λ v. Bool·beq (ltb 0 (getD (rowOf ws u) v 0)) (linked adj u v)) (upto n)) (upto n)
+weighsEdges n adj ws =
+    every (λ u. every (λ v. let w = getD (rowOf ws u) v 0 in cond (linked adj u v) (isWeight w) (eqb w 0)) (upto n)) (upto n)
 
 -- no link is at a device that is not there: towards those at or above n, and in their rows, every weight is 0
 unfoldable pub blankFrom : ℕ → List ℕ → Bool

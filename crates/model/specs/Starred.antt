@@ -11,7 +11,7 @@ use Rattle.model.specs.declared.Appended.{Appended}
 use Rattle.model.specs.Lists.{one, upto, every, any, keep, firstWith, sumOver, sumPairs, noRepeats, member, occurrences, place}
 use Rattle.model.specs.Crossings.{bit, linked, edges, between, alternate, crosses, adjacent, weightedEdges, crossingWeight, crossings}
 use Rattle.model.specs.Layouts.{vertexOrder, tableWeight, weight, crossingsOf, eachOnce, zeroFrom, symmetric, loopless, bitsBelow}
-use Rattle.model.specs.Layouts.{rowOf, evenWeights, weighsEdges, blankFrom, weightsFit, valid, carried, changed, reordered}
+use Rattle.model.specs.Layouts.{rowOf, isWeight, evenWeights, weighsEdges, blankFrom, weightsFit, valid, carried, changed, reordered}
 use Rattle.model.specs.Checks.{refusal, byRefusal, checked, isValid, isVertex, differ, limitFits}
 use Rattle.model.specs.Edits.{bothWays, changedOr, insertAfter, movedAfter, moveChecks, moveOf}
 use Rattle.model.specs.Reading.{pairWith, orElse, firstPair, firstCrossingOf}
@@ -240,7 +240,7 @@ holds l (settleOptima limit k) = let r = settleOf l limit in eqb (r .refusal) 0 
 pub starred-holds : T (every (λ row. every (holds (layoutOf (row .ring))) (row .claims)) (starred ++ withIsolated ++ withOptima ++ withTally)
     && every (λ row. every (holds (weightedLayoutOf (row .ring) (row .weights))) (row .claims)) withLinkWeights)
 unfolding starred withIsolated withOptima withTally withLinkWeights first complete _to_ weightedLayoutOf layoutOf sameEdges gives lays holds
-    rowOf evenWeights weighsEdges blankFrom weightsFit tableWeight withWeights tableIn bothWays one upto every any keep firstWith sumOver
+    rowOf isWeight evenWeights weighsEdges blankFrom weightsFit tableWeight withWeights tableIn bothWays one upto every any keep firstWith sumOver
     sumPairs noRepeats member occurrences place bit linked edges between alternate crosses adjacent weightedEdges crossingWeight crossings vertexOrder
     weight crossingsOf eachOnce zeroFrom symmetric loopless bitsBelow valid carried changed reordered refusal byRefusal checked isValid isVertex
     differ limitFits changedOr insertAfter movedAfter moveChecks moveOf pairWith orElse firstPair firstCrossingOf unplaced waiting isolated hasEdges

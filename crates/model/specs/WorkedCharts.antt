@@ -8,7 +8,7 @@ use Rattle.model.specs.declared.Layout.{Layout}
 use Rattle.model.specs.Lists.{one, upto, every, any, keep, sumOver, sumPairs, noRepeats, occurrences, place}
 use Rattle.model.specs.Crossings.{bit, linked, edges, between, alternate, crosses, adjacent, weightedEdges, crossingWeight, crossings}
 use Rattle.model.specs.Layouts.{vertexOrder, weight, eachOnce, zeroFrom, symmetric, loopless, bitsBelow, valid}
-use Rattle.model.specs.Layouts.{rowOf, evenWeights, weighsEdges, blankFrom, weightsFit, tableWeight}
+use Rattle.model.specs.Layouts.{rowOf, isWeight, evenWeights, weighsEdges, blankFrom, weightsFit, tableWeight}
 use Rattle.model.specs.Checks.{refusal, byRefusal, checked, isValid, roomFor}
 use Rattle.model.specs.Charts.{fieldsIn, fieldsOf, bodyOf, bodyLength, startsWithField, firstField, chartSize, edgesIn, chartEdges, chartOrder}
 use Rattle.model.specs.Charts.{sameList, sameEdge, joins, wordIn, hasWeights, chartWeights, withWeights, tableIn, chartLayout}
@@ -43,7 +43,7 @@ pub worked-writes : let first : List ℕ = 0 ∷ 2 ∷ 1 ∷ 3 ∷ [] in
     && writesInto l 20 0 (chartWithLinks first)
     && writesInto invalid 0 11 []
     && writesInto invalid 20 11 [])
-unfolding rowOf evenWeights weighsEdges blankFrom weightsFit tableWeight withWeights tableIn bothWays weight hasWeights chartWeights weightsOf unitWeighted weightField
+unfolding rowOf isWeight evenWeights weighsEdges blankFrom weightsFit tableWeight withWeights tableIn bothWays weight hasWeights chartWeights weightsOf unitWeighted weightField
     chartWithLinks writesLinks writesInto chartOf fieldBytes edgeBytes writeOf writtenBytes chartLayout chartSize chartEdges chartOrder bodyOf
     fieldsOf fieldsIn startsWithField bodyLength firstField edgesIn wordIn joins sameEdge sameList adjacent weightedEdges crossingWeight crossings
     crosses edges linked bit between alternate upto every any keep one sumOver sumPairs noRepeats occurrences place refusal byRefusal checked isValid
