@@ -6,6 +6,7 @@
 pub mod Fields
 pub mod Ends
 pub mod Words
+pub mod Weights
 pub mod Padded
 pub mod Layouts
 pub mod Passes

@@ -397,7 +397,7 @@ module _ (l : Layout) (s : ℕ) where
 
     -- all steps together count each crossing of the layout once
     pub lay-once : sum steps firstIn ≡ crossingsOf (reordered l (laidOut l s .placed))
-    unfolding placeAll placeLinked
+    unfolding placeAll placeLinked alone
     lay-once =
         summed steps (le-refl steps)
         ∙ sym (ap (λ (p : Placing). p .tally) (isolated-at-back (weight-within-words l t) (after steps)

@@ -93,7 +93,7 @@ module _ (n : ℕ) (adj : List ℕ) (s : Symmetric n (unitWeight adj)) where
       upto-every (λ u. every (λ v. Bool·beq (linked adj u v) (linked adj v u)) (upto n)) n
       (λ u a. upto-every (λ v. Bool·beq (linked adj u v) (linked adj v u)) n (λ v b. one-same (linked adj u v) (linked adj v u) (s .swap u v a b)))
 
-  weight-loopless : T (loopless n adj)
+  pub weight-loopless : T (loopless n adj)
   unfolding loopless
   weight-loopless = upto-every (λ v. not (linked adj v v)) n (λ v a. not-zero (linked adj v v) (s .diagonal v a))
 
