@@ -7,3 +7,6 @@ pub mod Choices
 pub mod Unseen
 pub mod Runs
 pub mod AsFormerly
+pub mod Units
+pub mod Forgetting
+pub mod AsBefore
