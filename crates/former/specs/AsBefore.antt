@@ -28,7 +28,7 @@ use Rattle.model.specs.Sifting.{ring, reduction, siftChecks, siftAnswer, siftRe
 use Rattle.model.specs.Sifting.{siftsOfRound, settled, roundsUpTo, settleChecks, settleRefused, settleOf}
 use Rattle.model.specs.WrittenCharts.{unitWeighted}
 use Rattle.model.specs.Histories.{Start, Step, steps, played, ringCalls, ofAdded, ofChanged, ofAppended, ofSifted, ofRounded, ofConverged, answerOf}
-use Rattle.model.specs.Runs.{StepOf, stepsFrom, playedFrom}
+use Rattle.model.specs.Runs.{StepOf, stepAt, stepsFrom, playedFrom}
 use Rattle.model.specs.Former.{FormerLayout, FormerOutcome, formerOutcome, formerOrder, formerCrossings, formerValid, formerChanged, formerReordered}
 use Rattle.model.specs.Former.{formerlyChecked, wasValid, wasVertex, wasUnlinked, wasLinked, formerAdd, formerLink, formerUnlink, formerMove, formerLay, formerRing}
 use Rattle.model.specs.Former.{formerOptima, formerSift, formerRound, formerSettle, formerAnswer, formerCalls}
@@ -228,22 +228,30 @@ pub record AsBefore (start : Layout) (calls : List Call) : Type 0 where
   -- the former definitions, from the start with its weights forgotten, take the same steps: the same refusals, answers and layouts, the count modulo 2^32
   pub same-steps : stepsFrom formerCalls (forget start) calls ≡ map forgetStep (steps start calls)
   pub same-end : playedFrom formerCalls (forget start) calls ≡ forget (played start calls)
-  -- and each weight is still 1
+  -- and each weight is 1 throughout, so that what only reads does what it did (`reads-as-before`, Reads)
+  pub each-one : All (λ (s : Step). OfWeightOne (s .before)) (steps start calls)
+  pub end-one : OfWeightOne (played start calls)
   pub still-one : T (unitWeighted (played start calls))
 
 -- from every start whose weights are 1, and for every list of calls in which each link has weight 1
 pub as-before : {start : Layout} → Start start → T (unitWeighted start) → {calls : List Call} → All UnitCall calls → AsBefore start calls
-unfolding playedFrom
+unfolding playedFrom stepsFrom
 as-before {start} s w {calls} ks =
     let r = start-right s in
     let o : OfWeightOne start = record { right = r; unit = unit-weighted start (r .is-valid) (r .sized) w } in
-    let end = end-one start o ks in
+    let end = kept-one start o ks in
     record {
       same-steps = steps-shown ringCalls formerCalls forget forgetOutcome OfWeightOne UnitCall keeps-one call-alike (λ a. refl) start o ks;
       same-end = played-shown ringCalls formerCalls forget forgetOutcome OfWeightOne UnitCall keeps-one call-alike (λ a. refl) start o ks;
+      each-one = all-one start o ks;
+      end-one = end;
       still-one = agrees-unit (played start calls) (unit-agrees (played start calls) (end .right .is-valid) (end .unit));
     }
   where
-    end-one : (l : Layout) → OfWeightOne l → {cs : List Call} → All UnitCall cs → OfWeightOne (played l cs)
-    end-one l o none = o
-    end-one l o (also {x = c} k more) = end-one (answerOf l c .layout) (keeps-one l c o k) more
+    kept-one : (l : Layout) → OfWeightOne l → {cs : List Call} → All UnitCall cs → OfWeightOne (played l cs)
+    kept-one l o none = o
+    kept-one l o (also {x = c} k more) = kept-one (answerOf l c .layout) (keeps-one l c o k) more
+
+    all-one : (l : Layout) → OfWeightOne l → {cs : List Call} → All UnitCall cs → All (λ (x : Step). OfWeightOne (x .before)) (steps l cs)
+    all-one l o none = none
+    all-one l o (also {x = c} {xs = cs} k more) = also {x = stepAt ringCalls l c} o (all-one (answerOf l c .layout) (keeps-one l c o k) more)

@@ -10,3 +10,5 @@ pub mod AsFormerly
 pub mod Units
 pub mod Forgetting
 pub mod AsBefore
+pub mod Reads
+pub mod Starts

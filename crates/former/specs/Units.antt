@@ -85,7 +85,7 @@ pub agrees-unit : (l : Layout) → Agreeing l → T (unitWeighted l)
 unfolding unitWeighted weightsOf weight
 agrees-unit l a = subst T (sym (all-ones a (edges-below (l .n) (l .adjacency)) (unit-weights (l .n) (l .adjacency)))) tt
 
-ones-all : (f : Edge → ℕ) (es : List Edge) → every (eqb 1) (map f es) ≡ true → All (λ e. f e ≡ 1) es
+pub ones-all : (f : Edge → ℕ) (es : List Edge) → every (eqb 1) (map f es) ≡ true → All (λ e. f e ≡ 1) es
 unfolding every
 ones-all f [] t = none
 ones-all f (e ∷ es) t =
@@ -109,7 +109,7 @@ module _ (l : Layout) (t : T (valid l)) (z : Sized l) (w : T (unitWeighted l)) w
       let s = sound l t in
       let there = joined-linked u v (lt-of-lt-of-le h (s .small)) (lt-of-lt-of-le k (s .small)) ∙ e in
       let one-there = joined-has (λ x. x ≡ 1) (tableWeight (l .weights)) u v
-          (ones-all (edgeWeight (tableWeight (l .weights))) listed (T-true (unitWeighted l) w)) there in
+      (ones-all (edgeWeight (tableWeight (l .weights))) listed (T-true (unitWeighted l) w)) there in
       either-way (order u v) one-there
     where
       either-way : Order u v → tableWeight (l .weights) (min u v) (max u v) ≡ 1 → tableWeight (l .weights) u v ≡ 1
