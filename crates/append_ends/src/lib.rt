@@ -3,8 +3,8 @@
 // 64, which changes nothing for 64 vertices or fewer around the middle (append_line).
 ghost use mathlib.Core.Path.{_≡_};
 ghost use Prim.Native.Nat.{_%_, _≤_};
-ghost use Rattle.weights_ends.specs.Ends.{vertices, endsOf, mostAtEnd};
-ghost use Rattle.weights_ends.specs.Passes.{passedOf, Small};
+ghost use Rattle.append_ends.specs.Ends.{vertices, endsOf, mostAtEnd};
+ghost use Rattle.append_ends.specs.Passes.{passedOf, Small};
 use append_line::Line;
 
 // A closing edge crosses an open one: at the front where the open one starts before the other, and at the
