@@ -1,16 +1,16 @@
 use borrow.Author.Needs.{needs}
-use Rattle.append.specs.Calls.{words-valid, laid-right}
+use Rattle.append.specs.Calls.{graph-valid, laid-right}
 use Rattle.append.proofs.appending.append_from.Statement.{statement}
 use Rattle.append.proofs.appending.append_from.Tie as tie
 
 -- from the moment when those with edges are placed to the start
 abbrev start : tie.After-place-linked → tie.Start
-start c = c .before .before .before .before
+start c = c .before .before .before .before .before
 
 place-linked-requires : tie.Need-place-linked-requires
 place-linked-requires c κs =
-    let start = c .before .before .before in
-    (words-valid (start .args .l) (start .pre .0), start .pre .1)
+    let start = c .before .before .before .before in
+    (graph-valid (start .args .l) (start .pre .0), start .pre .1)
 
 returns : tie.Need-returns
 returns c =
