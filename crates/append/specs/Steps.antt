@@ -1,6 +1,6 @@
 -- A step of the code is a step of the definition, and as many as there are vertices with edges place them all.
 use Prim.Native.Nat.{ℕ, suc, _+_, _*_, _%_, _^_, _≤_, _<_}
-use native.Mathlib.Nat.{lt-of-lt-of-le, mod-eq-of-lt}
+use native.Mathlib.Nat.{mod-eq-of-lt}
 use native.Mathlib.Omega.{arith}
 use mathlib.Core.Path.{_≡_, refl, sym, ap, ap₂, _∙_, subst}
 use mathlib.Core.Bool.{Bool, cond}
@@ -13,7 +13,6 @@ use Rattle.model.specs.GreedyAppend.{Placing, waiting, hasEdges, nextVertex, fr
 use Rattle.model.specs.GreedyAppend.{alone, placeFront, placeBack, placeVertex, placeMore, placeLinked}
 use Rattle.laws.specs.Sums.Bits.{set-lt}
 use Rattle.laws.specs.Sums.Indicators.{less, same, more, order}
-use Rattle.laws.specs.Sums.Lists.{All, all-mono}
 use Rattle.laws.specs.Sums.Pairs.{Symmetric}
 use Rattle.laws.specs.Orders.Permutations.{occurrences-nil}
 use Rattle.laws.specs.Tables.Rows.{tableWeight, RowsOf, TakenRow}

@@ -1,9 +1,8 @@
 use borrow.Author.Needs.{needs}
-use Prim.Native.Nat.{_-_, _%_, _<_}
+use Prim.Native.Nat.{_-_, _<_}
 use native.Mathlib.Omega.{arith}
 use borrow.Author.Tests.{le-leb}
 use Rattle.laws.specs.Sums.Bits.{set-within}
-use Rattle.laws.specs.Tables.Rows.{TakenRow}
 use Rattle.append.specs.Steps.{PlacedUpTo, place-start, next-fits, place-less, place-next, place-end}
 use Rattle.append.proofs.steps.place_linked.Statement.{statement}
 use Rattle.append.proofs.steps.place_linked.Tie as tie
@@ -14,54 +13,56 @@ Inv-loop n adjacency weights s so-far₀ opens₀ v₀ so-far opens v = PlacedUp
 abbrev μ-loop : tie.MeasureT-loop
 μ-loop n adjacency weights s so-far₀ opens₀ v₀ so-far opens v = n - so-far .line .size
 
--- the moments: the first is placed, the weights of all rows are there, and the start
-abbrev start : tie.After-set Inv-loop μ-loop → tie.Start Inv-loop μ-loop
-start c = c .before .before
+-- the moments before the loop: the weights of all rows are there, and the start
+abbrev rows : tie.After-next-vertex Inv-loop μ-loop → tie.After-row-weights Inv-loop μ-loop
+rows c = c .before .before .before
+
+abbrev start : tie.After-row-weights Inv-loop μ-loop → tie.Start Inv-loop μ-loop
+start c = c .before .before .before
 
 loop-holds : tie.Need-loop-holds Inv-loop μ-loop
 loop-holds c =
-    let taken = c .before in
-    let rows = taken .before .before in
-    let marked = rows .before in
-    let asked = start marked .pre in
+    let marked = rows c .before in
+    let asked = start (rows c) .pre in
     place-start (asked .0) (asked .1) (marked .before .alone .ensures) (marked .set .ok)
     (set-within _ _ (omega (arith, asked .0 .words .small)) (marked .set .ensures))
-    (rows .row-weights .ensures) (taken .sub-row .ensures (search needs))
+    (rows c .row-weights .ensures) (c .before .sub-row .ensures (search needs))
     (rw (le-leb _ 64 (asked .0 .words .small)) at (c .next-vertex .ensures))
 
--- from the loop to the start
+-- those of a turn: the row of its vertex is taken away, the test, and the start
+abbrev taken : tie.After-next-vertex2 Inv-loop μ-loop → tie.After-sub-row2 Inv-loop μ-loop
+taken c = c .before .before .before
+
+abbrev test : tie.After-sub-row2 Inv-loop μ-loop → tie.In-loop Inv-loop μ-loop
+test c = c .before .before
+
 abbrev entry : tie.At-loop Inv-loop μ-loop → tie.Start Inv-loop μ-loop
-entry c = start (c .before .before .before .before .before)
+entry c = start (rows (c .before))
 
 -- a turn has a vertex to place
 vertex : (c : tie.In-loop Inv-loop μ-loop) → c .before .loop .v < entry (c .before) .args .n
 vertex c = omega (arith, c .loop-test .taken)
 
 place-requires : tie.Need-place-requires Inv-loop μ-loop
-place-requires c κs =
-    let test = c .before .before .before in
-    next-fits (entry (test .before) .pre .0) (test .before .loop .inv) (vertex test)
+place-requires c κs = let turn = test (c .before) in next-fits (entry (turn .before) .pre .0) (turn .before .loop .inv) (vertex turn)
 
 loop-less : tie.Need-loop-less Inv-loop μ-loop
 loop-less c =
-    let placed = c .before in
-    let taken = placed .before .before in
-    let test = taken .before .before in
-    let turn = test .before in
-    let inv = turn .loop .inv in
-    let less = place-less (entry turn .pre .0) inv (vertex test) (taken .sub-row2 .ensures (inv .underway .size)) (placed .place .ensures .0) in
+    let row = taken c in
+    let turn = test row in
+    let inv = turn .before .loop .inv in
+    let less = place-less (entry (turn .before) .pre .0) inv (vertex turn) (row .sub-row2 .ensures (inv .underway .size)) (c .before .place .ensures .0) in
     omega (arith, less .0, less .1)
 
 loop-again : tie.Need-loop-again Inv-loop μ-loop
 loop-again c =
-    let placed = c .before in
-    let taken = placed .before .before in
-    let test = taken .before .before in
-    let turn = test .before in
-    let inv = turn .loop .inv in
-    let g = entry turn .pre .0 in
-    place-next g inv (vertex test) (taken .sub-row2 .ensures (inv .underway .size)) (placed .place .ensures .0) (placed .place .ensures .1)
-    (rw (le-leb _ 64 (g .words .small)) at (c .next-vertex2 .ensures))
+    let row = taken c in
+    let turn = test row in
+    let inv = turn .before .loop .inv in
+    let graph = entry (turn .before) .pre .0 in
+    let placed = c .before .place .ensures in
+    place-next graph inv (vertex turn) (row .sub-row2 .ensures (inv .underway .size)) (placed .0) (placed .1)
+    (rw (le-leb _ 64 (graph .words .small)) at (c .next-vertex2 .ensures))
 
 returns : tie.Need-returns Inv-loop μ-loop
 returns c = place-end (entry (c .before) .pre .0) (c .before .loop .inv) (omega (arith, c .loop-test .left))
