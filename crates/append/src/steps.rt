@@ -1,5 +1,5 @@
-// The steps of greedy append: each puts the next vertex at the end where it makes fewer crossings, by
-// weight (document 02, Note 8).
+// The steps of greedy append: each puts the next vertex at the end where it makes fewer crossings,
+// counted by weight (document 02, Note 8).
 ghost use mathlib.Core.Path.{_≡_};
 ghost use Prim.Native.Nat.{_+_, _<_, _≤_};
 ghost use Rattle.append_ends.specs.Ends.{mostAtEnd};
