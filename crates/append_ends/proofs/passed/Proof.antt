@@ -2,9 +2,9 @@ use borrow.Author.Needs.{needs}
 use native.Mathlib.Omega.{arith}
 use Prim.Native.Nat.{_*_, _≤_}
 use mathlib.Core.Path.{refl}
-use Rattle.weights_ends.specs.Passes.{passedOf, front-adds, back-adds}
-use Rattle.weights_ends.proofs.passed.Statement.{statement}
-use Rattle.weights_ends.proofs.passed.Tie as tie
+use Rattle.append_ends.specs.Passes.{passedOf, front-adds, back-adds}
+use Rattle.append_ends.proofs.passed.Statement.{statement}
+use Rattle.append_ends.proofs.passed.Tie as tie
 
 -- what the vertex adds at either end
 front : (s : tie.Start) → s .args .closing * s .args .met .opening ≤ 1069531200

@@ -1,14 +1,15 @@
-// The weighted crossings that the next vertex of greedy append makes at either end of the list of placed
-// vertices (document 02, Note 8). Holds for any line: its start and its size are taken modulo 65 and a vertex modulo
-// 64, which changes nothing for 64 vertices or fewer around the middle (append_line).
+// The weighted crossings that the next vertex of greedy append makes at either end of the list of
+// placed vertices (document 02, Note 8). Holds for any line: its start and its size are taken modulo
+// 65 and a vertex modulo 64, which changes nothing for 64 vertices or fewer around the middle
+// (append_line).
 ghost use mathlib.Core.Path.{_≡_};
 ghost use Prim.Native.Nat.{_%_, _≤_};
-ghost use Rattle.weights_ends.specs.Ends.{vertices, endsOf, mostAtEnd};
-ghost use Rattle.weights_ends.specs.Passes.{passedOf, Small};
+ghost use Rattle.append_ends.specs.Ends.{vertices, endsOf, mostAtEnd};
+ghost use Rattle.append_ends.specs.Passes.{passedOf, Small};
 use append_line::Line;
 
-// A closing edge crosses an open one: at the front where the open one starts before the other, and at the
-// back where it starts behind.
+// A closing edge crosses an open one: at the front where the open one starts before the other, and at
+// the back where it starts behind.
 pub struct Ends {
     pub front: u64,
     pub back: u64,
@@ -22,8 +23,8 @@ struct Met {
     opening: u64,
 }
 
-// Goes once through the placed vertices. opens has for each vertex the weight of its open edges, those to
-// vertices that are neither placed nor v.
+// Goes once through the placed vertices. opens has for each vertex the weight of its open edges, those
+// to vertices that are neither placed nor v.
 pub fn end_crossings(line: Line, weights: &[u8; 4096], opens: &[u16; 64], v: usize) -> Ends
     ensures { λ r. ⌜ (r ≡ endsOf (now (weights .entry)) (now (opens .entry)) (v % 64) (vertices line)) × ((r .front ≤ mostAtEnd) × (r .back ≤ mostAtEnd)) ⌝ }
 {

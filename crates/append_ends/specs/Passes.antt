@@ -10,8 +10,8 @@ use lib.Seq.{take-suc, take-all}
 use Rattle.model.specs.Lists.{sumOver, sumPairs}
 use Rattle.laws.specs.Sums.Lists.{sumOver-scale, sumOver-scale-right, sumOver-last, sumPairs-last}
 use Rattle.laws.specs.Tables.Rows.{tableWeight}
-use Rattle.weights_ends.specs.declared.Met.{Met}
-use Rattle.weights_ends.specs.Ends.{endsOf, mostAtEnd}
+use Rattle.append_ends.specs.declared.Met.{Met}
+use Rattle.append_ends.specs.Ends.{endsOf, mostAtEnd}
 
 -- ---- the pass
 

@@ -13,7 +13,7 @@ use Rattle.laws.specs.Tables.Rows.{tableWeight}
 use Rattle.laws.specs.Tables.Ends.{OpenOf, front-open, back-open}
 use Rattle.append_line.specs.declared.Line.{Line}
 use Rattle.append_line.specs.Lines.{entries, Centred}
-use Rattle.weights_ends.specs.declared.Ends.{Ends}
+use Rattle.append_ends.specs.declared.Ends.{Ends}
 
 -- ---- the list of any line
 

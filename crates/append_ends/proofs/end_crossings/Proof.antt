@@ -4,10 +4,10 @@ use native.Mathlib.Omega.{arith}
 use mathlib.Core.Path.{_≡_, ap, _∙_}
 use lib.ListN.{length, getD}
 use Rattle.laws.specs.Tables.Rows.{tableWeight}
-use Rattle.weights_ends.specs.Ends.{verticesFrom, vertices, vertices-length, vertex-at}
-use Rattle.weights_ends.specs.Passes.{MetUpTo, met-start, so-far-small, met-next, met-end}
-use Rattle.weights_ends.proofs.end_crossings.Statement.{statement}
-use Rattle.weights_ends.proofs.end_crossings.Tie as tie
+use Rattle.append_ends.specs.Ends.{verticesFrom, vertices, vertices-length, vertex-at}
+use Rattle.append_ends.specs.Passes.{MetUpTo, met-start, so-far-small, met-next, met-end}
+use Rattle.append_ends.proofs.end_crossings.Statement.{statement}
+use Rattle.append_ends.proofs.end_crossings.Tie as tie
 
 abbrev Inv-loop : tie.InvT-loop
 Inv-loop weights opens v places first size met₀ i₀ met i = MetUpTo weights opens (v % 64) (verticesFrom places first size) met i
