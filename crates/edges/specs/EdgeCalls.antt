@@ -1,11 +1,10 @@
 -- Link and unlink as one call: a change of one bit at both ends and of the weight between them, behind more checks than a move has.
 use Prim.Native.Nat.{ℕ, _%_, _≤_, _<_}
 use native.Mathlib.Omega.{arith}
-use mathlib.Core.Path.{_≡_, sym, ap, ap₂, _∙_}
+use mathlib.Core.Path.{_≡_, refl, sym, ap, ap₂, _∙_}
 use mathlib.Core.Bool.{Bool, true, false, not, cond}
 use mathlib.Core.List.{List}
 use lib.ListN.{length}
-use lib.Dec.{leb}
 use borrow.Author.Tests.{le-leb, lt-leb}
 use Rattle.model.specs.declared.Layout.{Layout}
 use Rattle.model.specs.Crossings.{linked}
@@ -52,11 +51,11 @@ unlinking =
     }
 
 -- a byte is a weight where it is not 0
-byte-weight : (w : ℕ) → w ≤ 255 → (w ≡ 0 → ⊥) → isWeight w ≡ true
+pub byte-weight : (w : ℕ) → w ≤ 255 → (w ≡ 0 → ⊥) → isWeight w ≡ true
 unfolding isWeight
 byte-weight w h d = rw (le-leb 1 w (omega arith), le-leb w 255 h)
 
-no-weight : (w : ℕ) → w ≡ 0 → isWeight w ≡ false
+pub no-weight : (w : ℕ) → w ≡ 0 → isWeight w ≡ false
 unfolding isWeight
 no-weight w e = rw (lt-leb 1 w (omega arith))
 
@@ -67,14 +66,16 @@ module _ (l : Layout) (a b : ℕ) where
 
   -- then the last checks tell
   module _ {r : ℕ} (e : r ≡ refusal (moveChecks l a b)) (z : r ≡ 0) {t : Bool} (s : t ≡ linked (l .adjacency) a b) where
-    pub joined-already : (w : ℕ) → t ≡ true → 14 ≡ refusal (linkChecks l a b w)
-    joined-already w d = sym (link-last l a b w {light = isWeight w} (sym e ∙ z) (ap not (sym s ∙ d)) (λ i. isWeight w))
-
-    pub weighs-nothing : (w : ℕ) → t ≡ false → w ≡ 0 → 25 ≡ refusal (linkChecks l a b w)
-    weighs-nothing w d n = sym (link-last l a b w (sym e ∙ z) (ap not (sym s ∙ d)) (no-weight w n))
-
-    pub may-join : (w : ℕ) → t ≡ false → w ≤ 255 → (w ≡ 0 → ⊥) → 0 ≡ refusal (linkChecks l a b w)
-    may-join w d few n = sym (link-last l a b w (sym e ∙ z) (ap not (sym s ∙ d)) (byte-weight w few n))
+    pub may-join : (w : ℕ) {k : ℕ} → k ≡ cond t 14 (cond (isWeight w) 0 25) → k ≡ refusal (linkChecks l a b w)
+    may-join w told =
+        told
+        ∙ turned t
+        ∙ ap (λ (x : Bool). cond (not x) (cond (isWeight w) 0 25) 14) s
+        ∙ sym (link-last l a b w {joined = not (linked (l .adjacency) a b)} {light = isWeight w} (sym e ∙ z) refl refl)
+      where
+        turned : (x : Bool) → _≡_ {A = ℕ} (cond x 14 (cond (isWeight w) 0 25)) (cond (not x) (cond (isWeight w) 0 25) 14)
+        turned true = refl
+        turned false = refl
 
     pub may-part : {v : Bool} → t ≡ v → cond v 0 15 ≡ refusal (unlinkChecks l a b)
     may-part d = ap (λ (x : Bool). cond x 0 15) (sym d ∙ s) ∙ sym (unlink-last l a b (sym e ∙ z))

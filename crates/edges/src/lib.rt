@@ -1,5 +1,7 @@
 // Adding and removing an edge (document 01: link, unlink), with its weight (document 02, Note 8).
 ghost use mathlib.Core.Path.{_≡_};
+ghost use mathlib.Core.Bool.{cond};
+ghost use Rattle.model.specs.Layouts.{isWeight};
 ghost use Rattle.model.specs.Checks.{refusal};
 ghost use Rattle.model.specs.Edits.{linkChecks, unlinkChecks, linkOf, unlinkOf};
 use carrying::recounted;
@@ -54,7 +56,14 @@ fn add_refusal(l: Layout, a: usize, b: usize, weight: u8) -> u8
         return refusal;
     }
     let adjacency = l.adjacency;
-    if words::is_set(adjacency[a], b) {
+    last_refusal(words::is_set(adjacency[a], b), weight)
+}
+
+// The last checks of adding an edge.
+fn last_refusal(joined: bool, weight: u8) -> u8
+    ensures { λ r. ⌜ r ≡ cond joined 14 (cond (isWeight weight) 0 25) ⌝ }
+{
+    if joined {
         return 14;
     }
     if weight == 0 {

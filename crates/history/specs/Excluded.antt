@@ -31,7 +31,7 @@ unfolding tableWeight withWeights tableIn bothWays weightedLayoutOf firstRing la
 one-crossing = refl
 
 moved-none : crossingsOf (moveOf firstRing 0 1 .layout) ≡ 0
-unfolding rowOf isWeight evenWeights weighsEdges blankFrom weightsFit tableWeight withWeights tableIn bothWays weightedLayoutOf 
+unfolding rowOf isWeight evenWeights weighsEdges blankFrom weightsFit tableWeight withWeights tableIn bothWays weightedLayoutOf
     firstRing layoutOf first _to_ one upto every any keep sumPairs sumOver noRepeats occurrences place bit linked between alternate crosses adjacent
     weightedEdges crossingWeight crossings vertexOrder weight crossingsOf eachOnce zeroFrom symmetric loopless bitsBelow valid changed reordered refusal
     byRefusal checked isValid isVertex differ changedOr insertAfter movedAfter moveChecks moveOf sameEdge joins wordIn flatMap xor

@@ -6,6 +6,7 @@ pub mod Indicators
 pub mod Ranges
 pub mod Lists
 pub mod Every
+pub mod Below
 pub mod Any
 pub mod Pairs
 pub mod Bits
