@@ -9,7 +9,7 @@ use lib.ListN.{length, getD, set, length-set}
 use lib.Seq.{getD-set-same, getD-set-other}
 use borrow.Author.Count.{below-more}
 use Rattle.model.specs.Lists.{upto, sumOver}
-pub use Rattle.model.specs.Layouts.{tableWeight}
+unfoldable pub use Rattle.model.specs.Layouts.{tableWeight}
 use Rattle.laws.specs.Sums.Numbers.{Bounded}
 use Rattle.laws.specs.Sums.Ranges.{sum, sum-ext, sum-cut, sum-zero}
 use Rattle.laws.specs.Sums.Lists.{sumOver-upto}

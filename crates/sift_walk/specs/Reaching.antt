@@ -16,7 +16,7 @@ use Rattle.laws.specs.Orders.Permutations.{at}
 use Rattle.laws.specs.Tables.Rows.{tableWeight}
 use Rattle.laws.specs.Crossings.Reaches.{Reaches}
 use Rattle.laws.specs.Sifting.Walk.{other-at}
-use Rattle.weights_walk.specs.Seats.{otherAt, Seated, othersOf, small, perm, below, others-length, other-right, distinct, taken-next}
+use Rattle.sift_walk.specs.Seats.{otherAt, Seated, othersOf, small, perm, below, others-length, other-right, distinct, taken-next}
 
 pub record ReachesOf (n : ℕ) (places ws : List ℕ) (u : ℕ) (rs : List ℕ) : Type 0 where
   pub reached : Reaches (tableWeight ws u) (othersOf n places u) (λ y. getD rs y 0)

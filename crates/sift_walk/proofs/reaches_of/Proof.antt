@@ -1,9 +1,9 @@
 use borrow.Author.Needs.{needs}
 use Prim.Native.Nat.{_-_}
 use native.Mathlib.Omega.{arith}
-use Rattle.weights_walk.specs.Reaching.{ReachingUpTo, reaching-start, reaching-next, reaching-end}
-use Rattle.weights_walk.proofs.reaches_of.Statement.{statement}
-use Rattle.weights_walk.proofs.reaches_of.Tie as tie
+use Rattle.sift_walk.specs.Reaching.{ReachingUpTo, reaching-start, reaching-next, reaching-end}
+use Rattle.sift_walk.proofs.reaches_of.Statement.{statement}
+use Rattle.sift_walk.proofs.reaches_of.Tie as tie
 
 abbrev Inv-loop : tie.InvT-loop
 Inv-loop n p order weights u reaches₀ met₀ i₀ reaches met i = ReachingUpTo n p order weights u reaches met i
