@@ -54,16 +54,17 @@ accepted-weights s e = from (all-pass (numbered s) (sym (read-number s) ∙ e))
     from : All (λ c. c .passes ≡ true) (chartChecks s)
         → Accepted (chartSize s) (chartEdges s) (chartWeight s) (chartOrder s) × (chartWeights s ≡ map (edgeWeight (chartWeight s)) (chartEdges s))
     from (also _ (also _ (also _ (also size (also _ (also ends (also once (also places (also many (also weights none)))))))))) =
-        let long = eqb-true (length (chartWeights s)) (length (edgesIn (bodyOf s 1))) many in
-        (record {
-          few = leb-true (chartSize s) 64 (both-right (eqb (length (bodyOf s 0)) 1) (leb (chartSize s) 64) size);
-          within = ends;
-          long = eqb-true (length (bodyOf s 2)) (chartSize s)
-              (both-left (eqb (length (bodyOf s 2)) (chartSize s)) (eachOnce (chartSize s) (bodyOf s 2)) places);
-          each = both-right (eqb (length (bodyOf s 2)) (chartSize s)) (eachOnce (chartSize s) (bodyOf s 2)) places;
-          weighs = listed-weigh (chartEdges s) (chartWeights s) long once weights;
-        },
-        listed-weights (chartEdges s) (chartWeights s) long once)
+        let long = eqb-true (length (chartWeights s)) (length (edgesIn (bodyOf s 1))) many in (
+          record {
+            few = leb-true (chartSize s) 64 (both-right (eqb (length (bodyOf s 0)) 1) (leb (chartSize s) 64) size);
+            within = ends;
+            long = eqb-true (length (bodyOf s 2)) (chartSize s)
+                (both-left (eqb (length (bodyOf s 2)) (chartSize s)) (eachOnce (chartSize s) (bodyOf s 2)) places);
+            each = both-right (eqb (length (bodyOf s 2)) (chartSize s)) (eachOnce (chartSize s) (bodyOf s 2)) places;
+            weighs = listed-weigh (chartEdges s) (chartWeights s) long once weights;
+          },
+          listed-weights (chartEdges s) (chartWeights s) long once,
+        )
 
 pub layout-listed : (s : List ℕ) → readOf s .refusal ≡ 0
     → chartLayout s ≡ layoutWith (chartSize s) (chartEdges s) (map (edgeWeight (chartWeight s)) (chartEdges s)) (chartOrder s)

@@ -133,7 +133,7 @@ module _ (f : ℕ → ℕ → ℕ) (adj : List ℕ) (a b : ℕ) (first : a < len
 
 -- the layout of an accepted link or unlink: x is the bit of both ends then, and w their weight
 module _ {l : Layout} {a b : ℕ} (f : ℕ → ℕ → ℕ) {x w : ℕ} (change : ChangesOne f x) (weighs : WeighsAs x w) (p : Pair l a b)
-  (size : length (l .adjacency) ≡ capacity) (room : length (l .weights) ≡ tablePlaces) where
+    (size : length (l .adjacency) ≡ capacity) (room : length (l .weights) ≡ tablePlaces) where
   abbrev words : List ℕ
   words = atBothEnds f (l .adjacency) a b
 

@@ -2,8 +2,8 @@ use borrow.Author.Needs.{needs}
 use native.Mathlib.Omega.{arith}
 use native.Mathlib.Nat.{mul-le-mul}
 use Prim.Native.Nat.{_*_, _≤_}
-use Rattle.weights_counting.proofs.product.Statement.{statement}
-use Rattle.weights_counting.proofs.product.Tie as tie
+use Rattle.counting.proofs.product.Statement.{statement}
+use Rattle.counting.proofs.product.Tie as tie
 
 most : (c : tie.Start) → c .args .a * c .args .b ≤ 65535 * 4294967295
 most c = mul-le-mul {n₂ = 65535} {m₂ = 4294967295} (omega arith) (omega arith)
