@@ -3,6 +3,9 @@ use Rattle.sift_walk.specs.Walks.{passed-made}
 use Rattle.sift_walk.proofs.passing.Statement.{statement}
 use Rattle.sift_walk.proofs.passing.Tie as tie
 
+better-requires : tie.Need-better-requires
+better-requires c κs = search needs
+
 returns : tie.Need-returns
 returns c =
     let told = c .before in
@@ -24,5 +27,5 @@ passing-spec =
     (λ c. search needs)
     (λ c κs. search needs)
     (λ c. search needs)
-    (λ c κs. search needs)
+    better-requires
     returns)
