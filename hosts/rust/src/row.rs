@@ -14,9 +14,9 @@ pub struct Row {
     pub vertices: usize,
     pub edges: usize,
     /// The crossings before the first round.
-    pub before: u32,
+    pub before: u64,
     /// The crossings after the last round.
-    pub after: u32,
+    pub after: u64,
     /// The rounds run, the last one included.
     pub rounds: u32,
     /// Whether the last round moved no vertex.
