@@ -126,7 +126,7 @@ static inline const char *rl_refusal_text(uint8_t refusal)
     case RL_GRAPH6_PADDING: return "are the padding bits of the graph6 all 0?";
     case RL_TABLE_TOO_SHORT: return "has the table an entry for each edge?";
     case RL_CHART_WEIGHTS: return "has the body of field 57 one byte for each edge?";
-    case RL_WEIGHT_OUT_OF_RANGE: return "is each weight from 1 to 255?";
+    case RL_WEIGHT_OUT_OF_RANGE: return "is each weight a whole number from 1 to 255?";
     case RL_GRAPH6_WEIGHTS: return "does each edge weigh 1 (a graph6 has no weights)?";
     default: return "unknown";
     }

@@ -711,7 +711,7 @@ static void texts(void)
     HOLDS(strcmp(rl_refusal_text(RL_ACCEPTED), "accepted") == 0);
     HOLDS(strcmp(rl_refusal_text(9), "unknown") == 0);
     HOLDS(strcmp(rl_refusal_text(RL_NO_ROOM), "is there room for another (there are 64 vertices already)?") == 0);
-    HOLDS(strcmp(rl_refusal_text(RL_WEIGHT_OUT_OF_RANGE), "is each weight from 1 to 255?") == 0);
+    HOLDS(strcmp(rl_refusal_text(RL_WEIGHT_OUT_OF_RANGE), "is each weight a whole number from 1 to 255?") == 0);
 }
 
 int main(void)

@@ -69,7 +69,7 @@ refusals! {
     Graph6Padding 22 "are the padding bits of the graph6 all 0?"
     TableTooShort 23 "has the table an entry for each edge?"
     ChartWeights 24 "has the body of field 57 one byte for each edge?"
-    WeightOutOfRange 25 "is each weight from 1 to 255?"
+    WeightOutOfRange 25 "is each weight a whole number from 1 to 255?"
     Graph6Weights 26 "does each edge weigh 1 (a graph6 has no weights)?"
 }
 
