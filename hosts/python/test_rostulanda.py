@@ -19,8 +19,9 @@ except ImportError:
     networkx = None
     print("networkx is not installed: the tests of its graphs were not run")
 
-CHART = pathlib.Path(__file__).resolve().parents[2].joinpath("charts", "first.chart").read_bytes()
+CHARTS = pathlib.Path(__file__).resolve().parents[2] / "charts"
 
+CHART = CHARTS.joinpath("first.chart").read_bytes()
 
 #: The same in graph6: 0-2 is the second pair, 1-3 the fifth.
 GRAPH6 = bytes([4 + 63, 0b010010 + 63])
@@ -679,6 +680,17 @@ class ChartAndListTest(unittest.TestCase):
         self.assertEqual(row.order, [1, 0, 2, 3])
         self.assertTrue(str(Layout().row()).endswith("\norder"))
         self.assertEqual(rostulanda.list_chart(b""), "refused 3\n")
+
+    def test_a_row_goes_by_weights(self):
+        chart = CHARTS.joinpath("weighted.chart").read_bytes()
+        layout = Layout.from_chart(chart)
+        row = layout.copy().row()
+        self.assertEqual(f"{row}\n", rostulanda.list_chart(chart))
+        self.assertEqual((row.before, row.after, row.rounds, row.order), (18, 3, 2, [1, 0, 2, 3, 4]))
+        self.assertEqual(rostulanda.layout(layout.weighted_edges(), vertices=range(5)), row)
+        # Without weights its order cannot be bettered.
+        row = rostulanda.layout(layout.edges(), vertices=range(5))
+        self.assertEqual((row.before, row.after, row.rounds), (1, 1, 1))
 
     def test_a_list_is_its_calls_one_after_another(self):
         calls = [

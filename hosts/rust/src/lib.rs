@@ -54,6 +54,10 @@ pub use row::{list_chart, Row};
 #[cfg(test)]
 const FIRST_CHART: &[u8] = include_bytes!("../../../charts/first.chart");
 
-/// The same in graph6: 0-2 is the second pair, 1-3 the fifth.
+/// Five vertices and seven edges with weights: one crossing, of 9 · 2.
+#[cfg(test)]
+const WEIGHTED_CHART: &[u8] = include_bytes!("../../../charts/weighted.chart");
+
+/// The first one in graph6: 0-2 is the second pair, 1-3 the fifth.
 #[cfg(test)]
 const FIRST_GRAPH6: &[u8] = &[4 + 63, 0b010010 + 63];
