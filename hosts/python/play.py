@@ -9,7 +9,7 @@ from array import array
 from typing import Callable, Dict, Iterator, List, Optional, Sequence, Tuple
 
 import rostulanda
-from rostulanda import PLACES, Layout
+from rostulanda import PLACES, Fields, Layout
 
 #: Bytes in a record; a chart or graph6 is padded to a multiple of it.
 RECORD = 32
@@ -30,9 +30,17 @@ def numbers(values: List[int]) -> str:
     return "".join([f" {value}" for value in values])
 
 
-def changed(now: Sequence[int], before: Sequence[int]) -> List[Tuple[int, int]]:
-    """Each entry that differs from the one before, with its number."""
-    return [(i, entry) for i, (entry, former) in enumerate(zip(now, before)) if entry != former]
+def changed(now: Sequence[int], before: Sequence[int]) -> Iterator[Tuple[int, int]]:
+    """The number and the value of each entry that differs from the one before."""
+    return ((i, entry) for i, (entry, former) in enumerate(zip(now, before)) if entry != former)
+
+
+def layout_text(now: Fields, before: Fields) -> str:
+    """The layout, with the adjacency words and weights that differ from those before."""
+    words = "".join(f" {v} {word}" for v, word in changed(now.adjacency[:], before.adjacency[:]))
+    entries = changed(bytes(now.weights), bytes(before.weights))
+    weights = "".join(f" {i // PLACES} {i % PLACES} {weight}" for i, weight in entries)
+    return f" n {now.n} order{numbers(now.order[:])} count {now.count} words{words} weights{weights}\n"
 
 
 def first_crossing(layout: Layout) -> str:
@@ -153,7 +161,7 @@ class Player:
     def lines(self) -> Iterator[str]:
         """All answer lines."""
         while self.at < len(self.list):
-            before = self.layout.fields.adjacency[:], bytes(self.layout.fields.weights)
+            before = self.layout.copy()
             try:
                 record = struct.unpack("<4Q", self.take(RECORD))
                 if self.set_field(*record):
@@ -162,11 +170,7 @@ class Player:
             except CallsEnd:
                 yield "end\n"
                 return
-            now = self.layout.fields
-            words = numbers([number for change in changed(now.adjacency[:], before[0]) for number in change])
-            places = [(*divmod(i, PLACES), weight) for i, weight in changed(bytes(now.weights), before[1])]
-            weights = numbers([number for change in places for number in change])
-            yield f"{told} n {now.n} order{numbers(now.order[:])} count {now.count} words{words} weights{weights}\n"
+            yield told + layout_text(self.layout.fields, before.fields)
 
 
 def main() -> None:
