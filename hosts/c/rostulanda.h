@@ -44,7 +44,7 @@ extern "C" {
 /* Every chart of more bytes is refused. */
 #define RL_CHART_BYTES 8192
 
-/* The most bytes that rl_write_chart writes. */
+/* The most bytes that rl_write_chart writes, and that an accepted chart has. */
 #define RL_WRITTEN_CHART_BYTES 6125
 
 /* The most bytes that rl_export_graph6 writes. */
