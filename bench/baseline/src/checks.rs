@@ -45,7 +45,7 @@ fn adjacency_is_valid(layout: &Layout) -> bool {
 
 /// Each weight is 0 exactly where there is no edge.
 fn weights_match(layout: &Layout) -> bool {
-    let rows = layout.weights.as_chunks().0.iter().map(non_zero);
+    let rows = layout.weights.iter().map(non_zero);
     let words = rows.zip(layout.adjacency);
     words.fold(0, |wrong, (row, word)| wrong | row ^ word) == 0
 }
@@ -66,6 +66,6 @@ fn weights_are_symmetric(layout: &Layout) -> bool {
 
 /// The weights in the i-th eight rows and the j-th eight columns, each row a word.
 fn square(layout: &Layout, i: usize, j: usize) -> [u64; 8] {
-    let words = layout.weights.as_chunks().0;
-    std::array::from_fn(|row| u64::from_le_bytes(words[8 * (8 * i + row) + j]))
+    let word = |row: usize| layout.weights[8 * i + row].as_chunks().0[j];
+    std::array::from_fn(|row| u64::from_le_bytes(word(row)))
 }

@@ -89,7 +89,8 @@ mod tests {
     #[test]
     fn all_pairs_of_short_lists() {
         let order: Vec<u8> = (0..10).collect();
-        let table: Table = std::array::from_fn(|i| 255 - (i % 251) as u8);
+        let weight = |v: usize, w: usize| 255 - (7 * v + 31 * w) as u8 % 251;
+        let table: Table = std::array::from_fn(|v| std::array::from_fn(|w| weight(v, w)));
         let ranks = Ranks::new(0, &order, &table);
         let (of_u, of_v) = (&ranks.weights(0), &ranks.weights(1));
         for (a, b) in (0..128).flat_map(|a| (0..128).map(move |b| (a, b))) {

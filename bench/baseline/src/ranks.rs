@@ -4,8 +4,8 @@ use second::layout::PLACES;
 
 use crate::words::bits_below;
 
-/// A table of weights: entry 64 v + w is that of the edge between v and w, or 0.
-pub type Table = [u8; PLACES * PLACES];
+/// The weights of each vertex towards each other.
+pub type Table = [[u8; PLACES]; PLACES];
 
 /// The others have the ranks 0, 1, 2 and so on, clockwise from the vertex.
 pub struct Ranks<'a> {
@@ -13,7 +13,8 @@ pub struct Ranks<'a> {
     pub place: usize,
     /// How many others there are: what a full turn adds to a rank.
     pub turn: usize,
-    /// Where in the table the row of each begins, and again a full turn later.
+    /// Where in the table, taken as one list, the row of each begins, and again a
+    /// full turn later.
     rows: [u16; 256],
     table: &'a Table,
 }
@@ -59,10 +60,11 @@ impl<'a> Ranks<'a> {
         }
     }
 
+    /// The weights of v.
     pub fn weights(&self, v: usize) -> Weights<'_> {
         Weights {
             rows: &self.rows,
-            column: &self.table[v..],
+            column: &self.table.as_flattened()[v..],
         }
     }
 }
@@ -73,9 +75,10 @@ fn write_rows(vertices: &[u8], rows: &mut [u16]) {
     }
 }
 
-/// The weights of a vertex.
+/// The weights of a vertex, read from the rows of the others.
 pub struct Weights<'a> {
     rows: &'a [u16; 256],
+    /// The table as one list, from where its first row has the vertex on.
     column: &'a [u8],
 }
 

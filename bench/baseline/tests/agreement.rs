@@ -1,7 +1,7 @@
 //! The baseline answers as the second program does, but for the optima.
 
 use baseline::WithoutOptima;
-use layouts::{join, most_edges, Random, Weights};
+use layouts::{most_edges, Random, Weights};
 use second::calls;
 use second::layout::Layout;
 
@@ -80,12 +80,12 @@ fn layouts_that_are_not_valid() {
         changed[0].n = random.below(70) as u64;
         changed[1].order[random.below(64)] = random.below(70) as u8;
         changed[2].adjacency[a] ^= 1 << b;
-        changed[3].weights[64 * a + b] = random.below(256) as u8;
-        changed[4].weights[64 * a + b] ^= 1;
-        changed[4].weights[64 * b + a] ^= 1;
+        changed[3].weights[a][b] = random.below(256) as u8;
+        changed[4].weights[a][b] ^= 1;
+        changed[4].weights[b][a] ^= 1;
         changed[5].adjacency[a] ^= 1 << b;
         changed[5].adjacency[b] ^= 1 << a;
-        join(&mut changed[6], a, b, random.below(3) as u8);
+        changed[6].put_edge(a, b, random.below(3) as u8);
         for layout in changed {
             round_agrees(layout);
         }

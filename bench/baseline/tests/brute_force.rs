@@ -2,7 +2,7 @@
 //! candidate pair by pair.
 
 use baseline::{Convergence, Round};
-use layouts::{join, most_edges, Random, Weights};
+use layouts::{most_edges, Random, Weights};
 use second::calls::Answer;
 use second::layout::Layout;
 
@@ -11,7 +11,7 @@ type Edge = (u8, u8, u64);
 
 fn edges(layout: &Layout) -> Vec<Edge> {
     let pairs = (0..64).flat_map(|a| (0..a).map(move |b| (a, b)));
-    let weight = |a, b| layout.weights[64 * usize::from(a) + usize::from(b)].into();
+    let weight = |a: u8, b: u8| layout.weights[usize::from(a)][usize::from(b)].into();
     let edges = pairs.map(|(a, b)| (a, b, weight(a, b)));
     edges.filter(|&(_, _, weight)| weight > 0).collect()
 }
@@ -152,7 +152,7 @@ fn large_layouts() {
 fn heaviest_edges() {
     let mut layout = Random(255).layout(64, most_edges(64), Weights::Ones);
     for (a, b) in (0..64).flat_map(|a| (0..a).map(move |b| (a, b))) {
-        join(&mut layout, a, b, if a == 40 { (b + 1) as u8 } else { 255 });
+        layout.put_edge(a, b, if a == 40 { (b + 1) as u8 } else { 255 });
     }
     sift_agrees(layout, 40);
     sift_agrees(layout, 39);
@@ -162,7 +162,7 @@ fn heaviest_edges() {
 /// all vertices, with 0 in the unused places.
 fn is_valid(layout: &Layout) -> bool {
     let n = layout.n.min(65) as usize;
-    let weight = |v, w| layout.weights[64 * v + w];
+    let weight = |v: usize, w: usize| layout.weights[v][w];
     let joined = |v: usize, w: usize| layout.adjacency[v] >> w & 1 == 1;
     let pair_is_valid = |(v, w)| {
         let there = v < n && w < n && v != w;
@@ -187,12 +187,12 @@ fn validity_of_weights() {
         let layout = random.layout(n, most_edges(n) / 2, Weights::Any);
         for _ in 0..2000 {
             let [a, b] = [64, 64].map(|bound| random.below(bound));
-            let by = [1, 128, layout.weights[64 * a + b]][random.below(3)];
+            let by = [1, 128, layout.weights[a][b]][random.below(3)];
             let mut changed = [layout; 3];
-            changed[0].weights[64 * a + b] ^= by;
-            changed[1].weights[64 * a + b] ^= by;
-            changed[1].weights[64 * b + a] ^= by;
-            changed[2].weights[64 * a + b] ^= by;
+            changed[0].weights[a][b] ^= by;
+            changed[1].weights[a][b] ^= by;
+            changed[1].weights[b][a] ^= by;
+            changed[2].weights[a][b] ^= by;
             changed[2].adjacency[a] ^= 1 << b;
             for layout in changed {
                 let refusal = if is_valid(&layout) { 17 } else { 11 };

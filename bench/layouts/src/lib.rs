@@ -1,10 +1,9 @@
 //! Layouts from a seed, alike in every run.
 
 pub use second::chart::bytes as chart;
-use second::circle::Circle;
-use second::crossings::crossings;
+use second::crossings::counted;
 pub use second::graph6::bytes as graph6;
-use second::layout::{Layout, PLACES};
+use second::layout::{Layout, WeightedEdge};
 
 /// The weights of a layout's edges (document 02, Note 8).
 #[derive(Clone, Copy, Debug, PartialEq, Eq)]
@@ -32,16 +31,8 @@ pub fn fan() -> Layout {
     let order: Vec<u8> = (0..64).collect();
     let all = (1..64).map(|v| (0, v));
     let next = (1..63).map(|v| (v, v + 1));
-    Random(64).joined(&order, all.chain(next), Weights::Any)
-}
-
-/// Joins two vertices by an edge of some weight, or by none if it is 0.
-pub fn join(layout: &mut Layout, a: usize, b: usize, weight: u8) {
-    for (a, b) in [(a, b), (b, a)] {
-        layout.adjacency[a] &= !(1 << b);
-        layout.adjacency[a] |= u64::from(weight != 0) << b;
-        layout.weights[PLACES * a + b] = weight;
-    }
+    let edges: Vec<(u8, u8)> = all.chain(next).collect();
+    Layout::new(&order, &Random(64).weighted(&edges, Weights::Any))
 }
 
 /// A layout with vertices without edges behind the others, up to 64.
@@ -94,31 +85,16 @@ impl Random {
         let mut all: Vec<(u8, u8)> = (0..n).flat_map(pairs).collect();
         self.shuffle(&mut all);
         all.truncate(edges);
-        let mut layout = self.joined(&order, all.into_iter(), weights);
-        layout.count = crossings(&Circle::new(&layout));
-        layout
+        counted(&order, &self.weighted(&all, weights))
     }
 
-    /// A layout of the vertices in this order, with these edges, that carries 0.
-    fn joined(
-        &mut self,
-        order: &[u8],
-        edges: impl Iterator<Item = (u8, u8)>,
-        weights: Weights,
-    ) -> Layout {
-        let mut layout = Layout {
-            n: order.len() as u64,
-            ..Layout::EMPTY
+    /// The edges, each with a weight.
+    fn weighted(&mut self, edges: &[(u8, u8)], weights: Weights) -> Vec<WeightedEdge> {
+        let mut weight = || match weights {
+            Weights::Ones => 1,
+            Weights::Any => self.weight(),
         };
-        layout.order[..order.len()].copy_from_slice(order);
-        for (a, b) in edges {
-            let weight = match weights {
-                Weights::Ones => 1,
-                Weights::Any => self.weight(),
-            };
-            join(&mut layout, a.into(), b.into(), weight);
-        }
-        layout
+        edges.iter().map(|&(a, b)| (a, b, weight())).collect()
     }
 
     pub fn shuffle<T>(&mut self, items: &mut [T]) {
