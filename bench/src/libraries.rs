@@ -1,7 +1,5 @@
 //! A library that is loaded, with the functions that it declares.
 
-use std::fmt::Debug;
-
 use layouts::Weights;
 use rostulanda::ffi::{self, EdgesCounted, Written};
 use rostulanda::{Fields, MOST_EDGES, PLACES, WRITTEN_CHART_BYTES};
@@ -184,10 +182,7 @@ impl<D: Declared> Library<D> {
 }
 
 /// A call on a fresh copy of a layout each time.
-fn side<'a, L: Lent + 'a, R: Report<Value: Debug>>(
-    l: L,
-    call: impl Fn(&mut L) -> R + 'a,
-) -> Side<'a> {
+fn side<'a, L: Lent + 'a, R: Report>(l: L, call: impl Fn(&mut L) -> R + 'a) -> Side<'a> {
     let made = move || lend(&l, &call);
     Side {
         answer: format!("{:?}", made().told()),

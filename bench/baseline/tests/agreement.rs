@@ -57,6 +57,18 @@ fn converging() {
     }
 }
 
+/// Vertices that are joined if both are even or both odd, in rising order.
+#[test]
+fn reductions_of_more_than_32_bits() {
+    let order: Vec<u8> = (0..64).collect();
+    let mut layout = Layout::new(&order, &[]);
+    for (a, b) in (0..64).flat_map(|a| (a + 2..64).step_by(2).map(move |b| (a, b))) {
+        layout.put_edge(a, b, 255);
+    }
+    run_agrees(layout, 50);
+    assert!(baseline::converge(layout, 50).value.reduction > 1 << 32);
+}
+
 #[test]
 fn refused_arguments() {
     for layout in layouts() {
