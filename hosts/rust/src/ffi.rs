@@ -111,7 +111,7 @@ unsafe extern "C" {
 
     pub unsafe fn rl_read_chart(l: &mut Fields, chart: *const u8, length: usize) -> u8;
     unsafe fn rl_import_graph6(l: &mut Fields, graph6: *const u8, length: usize) -> u8;
-    unsafe fn rl_order(l: &Fields, buffer: *mut u8, length: usize) -> u8;
+    pub unsafe fn rl_order(l: &Fields, buffer: *mut u8, length: usize) -> u8;
     pub unsafe fn rl_write_chart(l: &Fields, buffer: *mut u8, length: usize) -> Written;
     pub unsafe fn rl_export_graph6(l: &Fields, buffer: *mut u8, length: usize) -> Written;
     pub unsafe fn rl_edge_crossings(l: &Fields, table: *mut u64, length: usize) -> EdgesCounted;
