@@ -1,7 +1,6 @@
-use borrow.Author.Needs.{needs}
 use Prim.Native.Nat.{ℕ, _-_}
 use native.Mathlib.Omega.{arith}
-use mathlib.Core.Path.{ap, refl}
+use mathlib.Core.Path.{ap}
 use mathlib.Core.Bool.{Bool}
 use mathlib.Core.List.{List}
 use borrow.Author.Tests.{eq-eqb, ne-eqb}
@@ -28,12 +27,18 @@ returns : tie.Need-returns Inv-loop μ-loop
 unfolding bitsFit
 returns c =
     let turn = c .before .before .before in
-    failed-at (turn .before .loop .inv) (turn .loop-test .taken) (ap (eqb _) (c .before .byte-of .ensures)) (ne-eqb _ _ (c .if1 .taken))
+    let bits = getD (turn .before .before .args .bits .now) (turn .before .loop .v) 0 in
+    let byte = c .before .byte-of .result in
+    failed-at (turn .before .loop .inv) (turn .loop-test .taken) (ap (eqb bits) (c .before .byte-of .ensures))
+    (ne-eqb bits byte (λ e. omega (arith, c .if1 .taken)))
 
 loop-again : tie.Need-loop-again Inv-loop μ-loop
 loop-again c =
     let turn = c .before .before .before in
-    passed-next (turn .before .loop .inv) (turn .loop-test .taken) (ap (eqb _) (c .before .byte-of .ensures)) (eq-eqb _ _ (c .if1 .left))
+    let bits = getD (turn .before .before .args .bits .now) (turn .before .loop .v) 0 in
+    let byte = c .before .byte-of .result in
+    passed-next (turn .before .loop .inv) (turn .loop-test .taken) (ap (eqb bits) (c .before .byte-of .ensures))
+    (eq-eqb bits byte (omega (arith, c .if1 .left)))
 
 returns-2 : tie.Need-returns-2 Inv-loop μ-loop
 unfolding bitsFit

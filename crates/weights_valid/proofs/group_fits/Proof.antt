@@ -1,4 +1,3 @@
-use borrow.Author.Needs.{needs}
 use native.Mathlib.Omega.{arith}
 use mathlib.Core.Path.{sym}
 use Rattle.weights_valid.specs.Bytes.{BitsFrom, bits-start, bits-few, bits-next, bits-group}
