@@ -7,3 +7,8 @@ pub mod Choices
 pub mod Unseen
 pub mod Runs
 pub mod AsFormerly
+pub mod Units
+pub mod Forgetting
+pub mod AsBefore
+pub mod Reads
+pub mod Starts

@@ -5,5 +5,6 @@
 pub mod Order
 pub mod Crossings
 pub mod Isolated
+pub mod Agreeing
 pub mod Calls
 pub mod Once

@@ -10,6 +10,7 @@ pub mod Alternation
 pub mod Counting
 pub mod Edges
 pub mod Units
+pub mod Agreeing
 pub mod Lists
 pub mod Exchange
 pub mod Reaches

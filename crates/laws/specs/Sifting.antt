@@ -8,6 +8,7 @@ pub mod LocalSearch
 pub mod Keeping
 pub mod Sweeps
 pub mod Runs
+pub mod Images
 pub mod Candidates
 pub mod Walk
 pub mod Circles

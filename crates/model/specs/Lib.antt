@@ -17,6 +17,7 @@ pub mod Graph6
 pub mod EdgeCrossings
 pub mod Reports
 pub mod Histories
+pub mod Former
 pub mod Playing
 pub mod Listing
 pub mod Starred

@@ -1,5 +1,8 @@
 // A table of weights (document 02, Note 8): the weight of u towards v stands at 64 * u + v. Only here is
 // the table read. Calls of other crates are total: a vertex is taken modulo 64.
+mod units;
+
+pub use units::unit_weights;
 ghost use mathlib.Core.Path.{_≡_};
 ghost use Prim.Native.Nat.{_+_, _*_, _-_, _%_, _<_, _≤_};
 ghost use lib.ListN.{length};

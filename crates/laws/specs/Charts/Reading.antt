@@ -37,9 +37,9 @@ pub read-is : (s : List ℕ) → readOf s .refusal ≡ 0 → readOf s ≡ accept
 unfolding readOf
 read-is s e = read-as-accepted (chartChecks s) (chartLayout s) e
 
-numbered : (s : List ℕ) → Numbered (chartChecks s)
+pub chart-numbered : (s : List ℕ) → Numbered (chartChecks s)
 unfolding chartChecks sizeChecks endChecks repeatChecks placeChecks weightChecks
-numbered s = also (lit< tt) (also (lit< tt) (also (lit< tt) (also (lit< tt) (also (lit< tt) (also (lit< tt) (also (lit< tt) (also (lit< tt) (also (lit< tt) (also (lit< tt) none)))))))))
+chart-numbered s = also (lit< tt) (also (lit< tt) (also (lit< tt) (also (lit< tt) (also (lit< tt) (also (lit< tt) (also (lit< tt) (also (lit< tt) (also (lit< tt) (also (lit< tt) none)))))))))
 
 -- the weight of an edge of the chart, by its ends
 abbrev pub chartWeight : List ℕ → ℕ → ℕ → ℕ
@@ -49,7 +49,7 @@ chartWeight s = listedWeight (chartEdges s) (chartWeights s)
 pub accepted-weights : (s : List ℕ) → readOf s .refusal ≡ 0
     → Accepted (chartSize s) (chartEdges s) (chartWeight s) (chartOrder s) × (chartWeights s ≡ map (edgeWeight (chartWeight s)) (chartEdges s))
 unfolding chartChecks sizeChecks endChecks repeatChecks placeChecks weightChecks chartEdges chartOrder chartSize
-accepted-weights s e = from (all-pass (numbered s) (sym (read-number s) ∙ e))
+accepted-weights s e = from (all-pass (chart-numbered s) (sym (read-number s) ∙ e))
   where
     from : All (λ c. c .passes ≡ true) (chartChecks s)
         → Accepted (chartSize s) (chartEdges s) (chartWeight s) (chartOrder s) × (chartWeights s ≡ map (edgeWeight (chartWeight s)) (chartEdges s))
@@ -74,7 +74,7 @@ layout-listed s e = ap (λ (ws : List ℕ). layoutWith (chartSize s) (chartEdges
 -- no edge is written twice
 pub accepted-once : (s : List ℕ) → readOf s .refusal ≡ 0 → noRepeats sameEdge (chartEdges s) ≡ true
 unfolding chartChecks sizeChecks endChecks repeatChecks placeChecks weightChecks chartEdges
-accepted-once s e = from (all-pass (numbered s) (sym (read-number s) ∙ e))
+accepted-once s e = from (all-pass (chart-numbered s) (sym (read-number s) ∙ e))
   where
     from : All (λ c. c .passes ≡ true) (chartChecks s) → noRepeats sameEdge (chartEdges s) ≡ true
     from (also _ (also _ (also _ (also _ (also _ (also _ (also once _))))))) = once

@@ -163,7 +163,7 @@ pub same-tables : (U W : ℕ → ℕ → ℕ) (es fs : List Edge) → every (edg
 same-tables U W es fs p q edges weights = weighed-same (table-weighed {W = U} es p) (table-weighed {W = W} fs q) edges weights
 
 -- what each edge's weight has, the weight of two that are joined has
-joined-has : (P : ℕ → Type 0) (W : ℕ → ℕ → ℕ) (u v : ℕ) {es : List Edge} → All (λ e. P (edgeWeight W e)) es → any (joins u v) es ≡ true
+pub joined-has : (P : ℕ → Type 0) (W : ℕ → ℕ → ℕ) (u v : ℕ) {es : List Edge} → All (λ e. P (edgeWeight W e)) es → any (joins u v) es ≡ true
     → P (W (min u v) (max u v))
 unfolding any joins sameEdge
 joined-has P W u v none t = absurd (false≢true t)

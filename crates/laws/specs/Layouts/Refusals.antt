@@ -70,6 +70,12 @@ pub one-more-rest : (cs : List Check) (c : Check) → refusal cs ≡ 0 → Numbe
 unfolding refusal
 one-more-rest cs c z p = one-more c p z
 
+-- a check that passes behind others tells nothing
+pub behind-passes : (cs : List Check) (c : Check) → c .passes ≡ true → refusal (cs ++ (c ∷ [])) ≡ refusal cs
+unfolding refusal
+behind-passes [] c p = rw p
+behind-passes (d ∷ cs) c p = ap (λ (r : ℕ). cond (d .passes) r (d .code)) (behind-passes cs c p)
+
 -- where no check fails, none of the first ones does
 pub passed-before : (cs : List Check) (c : Check) → refusal (cs ++ (c ∷ [])) ≡ 0 → refusal cs ≡ 0
 passed-before cs c e = elim (ℕ-discrete (refusal cs) 0) [ yes z ↦ z | no n ↦ sym (failed-before cs c n) ∙ e ]
