@@ -155,7 +155,10 @@ pub struct Outcome {
 // How many numbers an answer takes in the table of a list of calls: its refusal code, and those of its outcome.
 pub const ANSWER_WIDTH: usize = 5;
 
-// A call read from four numbers, or the end of the list.
+// How many numbers a call takes in a list: which one, what it names, and the weight of an edge.
+pub const CALL_WIDTH: usize = 4;
+
+// A call read from its numbers, or the end of the list.
 pub enum Decoded {
     Next(Call),
     End,
