@@ -6,8 +6,8 @@ use lib.ListN.{getD}
 use Rattle.model.specs.Crossings.{bit}
 use Rattle.laws.specs.Sums.Loops.{FilledUpTo, filled-start, filled-next, filled-end}
 use Rattle.weights.specs.Units.{unitTable}
-use Rattle.weights.proofs.units.unit_weights.Statement.{statement}
-use Rattle.weights.proofs.units.unit_weights.Tie as tie
+use Rattle.weights.proofs.units.unit_table.Statement.{statement}
+use Rattle.weights.proofs.units.unit_table.Tie as tie
 
 abbrev Inv-loop : tie.InvT-loop
 Inv-loop adjacency weights₀ i₀ weights i = FilledUpTo (λ k. bit (getD adjacency (k / 64) 0) (k % 64)) 4096 weights i
@@ -28,8 +28,8 @@ returns : tie.Need-returns Inv-loop μ-loop
 unfolding unitTable
 returns c = filled-end (c .before .loop .inv) (omega (arith, c .loop-test .left))
 
-pub unit-weights-spec : {M : Type 1} → statement M
-unit-weights-spec =
+pub unit-table-spec : {M : Type 1} → statement M
+unit-table-spec =
     tie.close
     (tie.spec
     Inv-loop
