@@ -4,7 +4,7 @@
 use crate::entries::Entry;
 use crate::followed::Step;
 use crate::naive::chart::read;
-use crate::naive::layout::{crossings, edges, list, valid, Layout};
+use crate::naive::layout::{crossings, edges, list, valid, weighted, Layout};
 
 /// The calls whose first answer is the saving.
 const SAVING: [&str; 3] = ["sift", "round", "settle"];
@@ -42,8 +42,8 @@ fn check_call(name: &str, step: &Step) -> Result<(), String> {
 }
 
 /// The crossings of a valid layout, whatever count it carries.
-pub fn true_count(layout: &Layout) -> u32 {
-    crossings(&list(layout), &edges(layout))
+pub fn true_count(layout: &Layout) -> u64 {
+    crossings(&list(layout), &weighted(layout))
 }
 
 /// Whether a listing has the edges and the crossings of its chart, and the
@@ -53,8 +53,7 @@ pub fn check_listing(chart: &[u8], listing: &str) -> Result<(), String> {
     if refusal != 0 {
         return Ok(());
     }
-    let edges = edges(&ring);
-    let before = crossings(&list(&ring), &edges);
+    let before = true_count(&ring);
     let order = listing
         .lines()
         .last()
@@ -69,8 +68,8 @@ pub fn check_listing(chart: &[u8], listing: &str) -> Result<(), String> {
     if !valid(&ring) {
         return Err("an order without some vertex".to_string());
     }
-    let after = crossings(&list(&ring), &edges);
-    let (n, m) = (ring.n, edges.len());
+    let after = true_count(&ring);
+    let (n, m) = (ring.n, edges(&ring).len());
     let due = format!("devices {n}\nlinks {m}\nbefore {before}\nafter {after}\nrounds ");
     if listing.starts_with(&due) {
         Ok(())
@@ -99,7 +98,7 @@ mod tests {
     /// The chart of document 01's first ring.
     fn square() -> Vec<u8> {
         let (edges, order) = (vec![(0, 2), (1, 3)], vec![0, 1, 2, 3]);
-        Chart::of(&Graph { edges, order }).bytes()
+        Chart::of(&Graph::of(edges, order)).bytes()
     }
 
     #[test]

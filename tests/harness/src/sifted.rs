@@ -8,12 +8,12 @@ use crate::followed::Step;
 use crate::make::density::possible;
 use crate::make::ops::{ROUND, SETTLE, SIFT};
 use crate::naive::calls::sift;
-use crate::naive::layout::isolated;
+use crate::naive::layout::{isolated, weighted, Layout};
 
 /// What an accepted call that sifts answers.
 #[derive(Debug, PartialEq)]
 pub struct Answers {
-    pub saving: u32,
+    pub saving: u64,
     /// The rounds run; 1 where the call doesn't answer them.
     pub rounds: u32,
     /// Whether it says `yes`.
@@ -72,10 +72,11 @@ fn check_accepted(step: &Step) -> Result<(), String> {
 }
 
 /// How many places can be best in so many rounds: for each sift one or more,
-/// for an isolated vertex, and where all edges are there, every place.
+/// for an isolated vertex, and where all edges are there and weigh the same,
+/// every place.
 fn possible_optima(step: &Step, rounds: u32) -> RangeInclusive<u64> {
     let n = step.n();
-    let free = if step.m() == possible(n) {
+    let free = if is_even(&step.before) {
         (0..n).collect()
     } else {
         isolated(&step.before)
@@ -88,6 +89,13 @@ fn possible_optima(step: &Step, rounds: u32) -> RangeInclusive<u64> {
     let of_each_round = [sifts - free + free * places, sifts * places];
     let [least, most] = of_each_round.map(|optima| u64::from(rounds) * optima as u64);
     least..=most
+}
+
+/// Whether a layout has all edges, and they all have one weight.
+fn is_even(layout: &Layout) -> bool {
+    let edges = weighted(layout);
+    let even = edges.windows(2).all(|two| two[0].1 == two[1].1);
+    even && edges.len() == possible(layout.n as usize)
 }
 
 /// Whether a sift is what the naive model makes of the layout before it.
@@ -140,7 +148,7 @@ mod tests {
     /// Calls on vertices in rising order, and what is printed.
     fn played(n: usize, edges: &[Edge], calls: &[Record]) -> (Vec<u8>, String) {
         let (edges, order) = (edges.to_vec(), vertices(n));
-        let mut list = records::chart(&Chart::of(&Graph { edges, order }).bytes());
+        let mut list = records::chart(&Chart::of(&Graph::of(edges, order)).bytes());
         list.extend(calls.iter().flat_map(|&call| records::bytes(call)));
         let lines = play(&list);
         (list, lines)

@@ -85,6 +85,23 @@ impl Maker {
         self.rng.pick(&[(a.into(), b.into()), (b.into(), a.into())])
     }
 
+    /// A weight for a link: in a list with weights any byte, in others 1; now and
+    /// then 0, or a larger number that stands for the same byte.
+    pub fn weight(&mut self) -> u64 {
+        let any = self.rng.within(1, 255) as u64;
+        let byte = match self.rng.below(10) {
+            0 => 0,
+            1..=6 if self.weighs => self.rng.pick(&[2, 255, any]),
+            _ => 1,
+        };
+        let over = self.rng.pick(&[1, 2, 255, 1 << 24, (1 << 56) - 1]);
+        if self.rng.once_in(8) {
+            byte + 256 * over
+        } else {
+            byte
+        }
+    }
+
     fn limit(&mut self) -> u64 {
         let any = self.rng.within(1, 1000) as u64;
         let wide = 1 << 32;
