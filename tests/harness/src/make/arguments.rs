@@ -135,3 +135,28 @@ impl Maker {
         self.rng.pick(&lengths)
     }
 }
+
+#[cfg(test)]
+mod tests {
+    use super::*;
+    use crate::rng::Rng;
+    use std::collections::BTreeSet;
+
+    /// The bytes that the weights of links in a list stand for, and whether a
+    /// larger number does.
+    fn bytes(weighs: bool) -> (BTreeSet<u64>, bool) {
+        let mut maker = Maker::new(Rng::new(1, "weights of links", 0), &Known::all());
+        maker.weighs = weighs;
+        let numbers: Vec<u64> = (0..20_000).map(|_| maker.weight()).collect();
+        let bytes = numbers.iter().map(|number| number % 256).collect();
+        (bytes, numbers.iter().any(|&number| number > 255))
+    }
+
+    #[test]
+    fn links_have_every_weight_or_1_and_now_and_then_0() {
+        let (all, over) = bytes(true);
+        assert!(over && all.into_iter().eq(0..256));
+        let (ones, over) = bytes(false);
+        assert!(over && ones.into_iter().eq([0, 1]));
+    }
+}

@@ -275,9 +275,11 @@ impl Maker {
 #[cfg(test)]
 mod tests {
     use super::*;
+    use crate::counted::true_count;
     use crate::entries::{entries, Entry};
     use crate::followed::{steps, Step};
-    use crate::make::density::quarter;
+    use crate::make::density::{possible, quarter};
+    use crate::make::records;
     use crate::naive::chart::{read, written};
     use crate::naive::graph6::import;
     use crate::naive::layout::{empty, isolated};
@@ -476,6 +478,46 @@ mod tests {
         let starts = made.map(|made| starts(&made.bytes));
         let sizes: BTreeSet<usize> = starts.flatten().map(|(n, _)| n).collect();
         assert!((0..=64).all(|n| sizes.contains(&n)), "{sizes:?}");
+    }
+
+    /// How many valid layouts with edges calls are made on, and how many of them
+    /// have weights other than 1.
+    fn weighted(list: &[u8]) -> (usize, usize) {
+        let lines = play(list);
+        let has_edges = |step: &Step| step.m() > 0 && step.answer().is_some_and(|a| a.1 != 11);
+        let steps: Vec<Step> = steps(list, &lines).filter(has_edges).collect();
+        let weighted = steps.iter().filter(|step| step.is_weighted());
+        (steps.len(), weighted.count())
+    }
+
+    /// One list in three has no weights but in what takes its turn.
+    #[test]
+    fn lists_have_weights_and_have_none() {
+        let made = (0..60).map(|index| list(2, index, &Known::all()));
+        let naive = made.filter(|made| made.naive);
+        let shares: Vec<(usize, usize)> = naive.map(|made| weighted(&made.bytes)).collect();
+        let few = shares.iter().filter(|(all, some)| 4 * some < *all).count();
+        let many = shares.iter().filter(|(all, some)| 2 * some > *all).count();
+        assert!(4 * few > shares.len(), "{few} of {}", shares.len());
+        assert!(4 * many > shares.len(), "{many} of {}", shares.len());
+    }
+
+    /// Two complete graphs of 32 vertices cross least when they stand apart. What
+    /// is left then, and what is saved, 32 bits can't tell.
+    #[test]
+    fn heavy_cliques_need_wide_numbers() {
+        let mut maker = Maker::new(Rng::new(1, "cliques", 0), &Known::all());
+        maker.heavy_cliques();
+        let calls = ["settle with limit 1000", "lay from 0"].map(String::from);
+        let texts: Vec<String> = entries(&maker.bytes).iter().map(Entry::text).collect();
+        assert!(texts.ends_with(&calls));
+        let started = &maker.bytes[..maker.bytes.len() - 64];
+        let count = [started, &records::bytes([COUNT, 0, 0, 0])].concat();
+        let lines = play(&count);
+        let step = steps(&count, &lines).last().expect("a count");
+        assert_eq!((step.n(), step.m()), (64, 2 * possible(32)));
+        let (in_turn, apart) = (true_count(&step.after), 65_025 * 2 * 35_960);
+        assert!(apart >= 1 << 32 && in_turn >= apart + (1 << 32));
     }
 
     #[test]

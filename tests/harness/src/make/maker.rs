@@ -24,6 +24,9 @@ const NAIVE: u64 = 1 << 28;
 /// that are chosen by it.
 const PROVED: u64 = 150_000_000;
 
+/// More edges than these are many.
+const MANY: usize = 300;
+
 /// A list in the making. What is held of the layout is what it is if it was
 /// valid at its start, and otherwise good enough to name vertices and edges by.
 pub struct Maker {
@@ -155,9 +158,11 @@ impl Maker {
         self.weights.push(kind);
     }
 
-    /// Starts from a graph in its order, in one way or the other.
+    /// Starts from a graph in its order, in one way or the other. One with many
+    /// edges, each of which takes two records for its weight, is mostly a chart.
     pub fn write_graph(&mut self, graph: &Graph) {
-        if self.known.has(CHART) && self.rng.once_in(2) {
+        let fields = if graph.edges.len() > MANY { 5 } else { 2 };
+        if self.known.has(CHART) && !self.rng.once_in(fields) {
             self.write_chart(graph);
         } else {
             self.write_fields(graph);

@@ -217,3 +217,154 @@ pub fn is_alike(four: &[Step]) -> bool {
     let weighed = charts::length(four[0].n(), four[0].m(), true) as usize;
     !four[0].is_weighted() && (one.len() == weighed) != (other.len() == weighed)
 }
+
+#[cfg(test)]
+mod tests {
+    use super::*;
+    use crate::followed::steps;
+    use crate::make::charts::Chart;
+    use crate::make::graph::{all_pairs, vertices, Edge, Graph};
+    use crate::make::records;
+    use crate::naive::play::play;
+
+    /// Vertices in rising order with edges of some weights.
+    fn graph(n: usize, edges: &[Edge], weights: &[u8]) -> Graph {
+        let mut graph = Graph::of(edges.to_vec(), vertices(n));
+        graph.weights = Some(weights.to_vec());
+        graph
+    }
+
+    /// What occurs in the last line of a list that starts from a graph.
+    fn last(graph: &Graph, records: &[Record]) -> Vec<String> {
+        let mut list = records::chart(&Chart::of(graph).bytes());
+        list.extend(records.iter().flat_map(|&record| records::bytes(record)));
+        let lines = play(&list);
+        let step = steps(&list, &lines).last().expect("a line");
+        let (name, refusal) = step.answer().expect("an answer");
+        met(&step, name, refusal)
+    }
+
+    /// The first ring of document 01.
+    const FIRST: [Edge; 2] = [(0, 2), (1, 3)];
+
+    #[test]
+    fn charts_with_weights_are_told() {
+        let chart = |n, edges: &[Edge], weights: &[u8]| last(&graph(n, edges, weights), &[]);
+        assert_eq!(chart(4, &FIRST, &[1, 1]), [ONES]);
+        assert_eq!(
+            chart(4, &FIRST, &[1, 2]),
+            ["chart with weights other than 1"]
+        );
+        assert_eq!(chart(4, &[], &[]), [NO_EDGES]);
+        let all = chart(64, &all_pairs(64), &[[1].repeat(2015), vec![2]].concat());
+        assert_eq!(all, ["chart with weights other than 1", LONGEST]);
+        assert!(last(&graph(4, &FIRST, &[1, 1]).unweighted(), &[]).is_empty());
+        assert!(chart(4, &FIRST, &[1, 0]).is_empty());
+    }
+
+    #[test]
+    fn links_and_exports_with_weights_are_told() {
+        let square = graph(4, &FIRST, &[1, 1]);
+        let link = |weight| last(&square, &[[LINK, 0, 1, weight]]);
+        assert_eq!(link(1), [LINK_OF_1]);
+        assert_eq!(link(257), [LINK_OF_1, LINK_OVER]);
+        assert!(link(0).is_empty() && link(256).is_empty());
+        let named = |sorts: &[&str]| -> Vec<String> {
+            let with = "link with weights other than 1";
+            [&[with], sorts]
+                .concat()
+                .into_iter()
+                .map(String::from)
+                .collect()
+        };
+        assert_eq!(link(2), named(&[LINK_OF_2]));
+        assert_eq!(link(255), named(&[LINK_OF_255]));
+        assert_eq!(link(7), named(&[LINK_OF_ANY]));
+        assert_eq!(link(u64::MAX), named(&[LINK_OF_255, LINK_OVER]));
+        let heavy = graph(4, &FIRST, &[1, 2]);
+        let export = |length| last(&heavy, &[[EXPORT, length, 0, 0]]);
+        assert_eq!(export(1), [EXPORT_SHORT]);
+        assert_eq!(export(2), [EXPORT_LONG]);
+        assert!(last(&square, &[[EXPORT, 1, 0, 0]]).is_empty());
+    }
+
+    /// All edges of four vertices: without weights no sift moves any, and a lay
+    /// from 2 takes another end.
+    #[test]
+    fn what_weights_decide_is_told() {
+        let four = |weights: [u8; 6]| graph(4, &all_pairs(4), &weights);
+        let heavy = four([1, 2, 1, 2, 3, 1]);
+        let sift = ["sift with weights other than 1", OTHER_SIFT];
+        assert_eq!(last(&heavy, &[[SIFT, 0, 0, 0]]), sift);
+        let lay = ["lay with weights other than 1", OTHER_LAY];
+        assert_eq!(last(&heavy, &[[LAY, 2, 0, 0]]), lay);
+        let even = four([3; 6]);
+        assert_eq!(last(&even, &[[SIFT, 0, 0, 0]]), sift[..1]);
+        assert_eq!(last(&even, &[[LAY, 2, 0, 0]]), lay[..1]);
+        assert!(last(&four([1; 6]), &[[LAY, 2, 0, 0]]).is_empty());
+        assert!(last(&heavy, &[[LAY, 4, 0, 0]]).is_empty());
+    }
+
+    #[test]
+    fn wide_numbers_are_told() {
+        let all = graph(64, &all_pairs(64), &[255; 2016]);
+        let has = |records: &[Record], name: &str| last(&all, records).contains(&name.to_string());
+        assert!(has(&[[LAY, 0, 0, 0]], WIDE_TALLY));
+        assert!(has(&[[PERLINK, 2016, 0, 0]], HEAVIEST));
+        assert!(has(&[[WRITE, 6125, 0, 0]], LONGEST_WRITTEN));
+        assert!(has(&[[COUNT, 0, 0, 0]], WIDE_COUNT));
+        assert!(!has(&[[SET_COUNT, 9, 0, 0], [COUNT, 0, 0, 0]], WIDE_COUNT));
+        assert!(!has(&[[PERLINK, 2015, 0, 0]], HEAVIEST));
+        let cliques: Vec<Edge> = all_pairs(64);
+        let cliques: Vec<Edge> = cliques
+            .into_iter()
+            .filter(|(a, b)| a % 2 == b % 2)
+            .collect();
+        let heavy = graph(64, &cliques, &vec![255; cliques.len()]);
+        let saved = |saving: &str| {
+            let list = records::chart(&Chart::of(&heavy).bytes());
+            let list = [list, records::bytes([ROUND, 0, 0, 0])].concat();
+            let lines = format!("chart 0 n 64\nround 0 {saving} 1 64 n 64\n");
+            let step = steps(&list, &lines).last().expect("a round");
+            met(&step, "round", 0).contains(&WIDE_SAVING.to_string())
+        };
+        assert!(saved("4294967296") && !saved("4294967295"));
+    }
+
+    #[test]
+    fn counts_that_go_round_are_told() {
+        let square = graph(4, &FIRST, &[1, 1]);
+        let counted = |count, call| last(&square, &[[SET_COUNT, count, 0, 0], call]);
+        let (link, move_away) = ([MOVE, 0, 2, 0], [MOVE, 0, 1, 0]);
+        assert_eq!(counted(0, move_away), [WIDE_COUNT, BELOW_0]);
+        assert!(counted(1, move_away).is_empty());
+        assert!(counted(0, link).contains(&BELOW_0.to_string()));
+        let turned = graph(4, &[(0, 1), (2, 3)], &[1, 1]);
+        let up = |count| last(&turned, &[[SET_COUNT, count, 0, 0], [MOVE, 0, 2, 0]]);
+        assert_eq!(up(u64::MAX), [OVER_THE_TOP]);
+        assert_eq!(up(u64::MAX - 1), [WIDE_COUNT]);
+        assert!(up(0).is_empty());
+    }
+
+    /// Whether the first of four lines, and the last, write the same.
+    fn alike_charts(one: &Graph, other: &Graph) -> bool {
+        let part = |graph: &Graph| {
+            let start = records::chart(&Chart::of(graph).bytes());
+            [start, records::bytes([WRITE, 100, 0, 0])].concat()
+        };
+        let list = [part(one), part(other)].concat();
+        let lines = play(&list);
+        let steps: Vec<Step> = steps(&list, &lines).collect();
+        is_alike(&steps)
+    }
+
+    #[test]
+    fn charts_of_the_same_layout_are_told() {
+        let ones = graph(4, &FIRST, &[1, 1]);
+        let without = ones.unweighted();
+        assert!(alike_charts(&ones, &without) && alike_charts(&without, &ones));
+        assert!(!alike_charts(&ones, &ones) && !alike_charts(&without, &without));
+        let heavy = graph(4, &FIRST, &[1, 2]);
+        assert!(!alike_charts(&heavy, &without) && !alike_charts(&heavy, &heavy));
+    }
+}
