@@ -113,8 +113,8 @@ impl Step<'_> {
     /// Whether some edge has another weight than 1 behind the line, in a valid
     /// layout.
     pub fn is_weighted(&self) -> bool {
-        let weights = self.after.weights.iter().flatten();
-        weights.into_iter().any(|&weight| weight > 1)
+        let mut weights = self.after.weights.iter().flatten();
+        weights.any(|&weight| weight > 1)
     }
 }
 

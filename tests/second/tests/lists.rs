@@ -95,6 +95,22 @@ fn the_worked_example_of_crossings_of_each_edge() {
 }
 
 #[test]
+fn the_worked_example_of_weights() {
+    let weighted = common::weighted_chart(&[4], &[0, 2, 1, 3], &rising(4), &[2, 3]);
+    let calls = [&[17, 0, 1, 5][..], &[30, 3, 7], &[6, 0, 1, 1], &[24]];
+    let list = [chart(&weighted), records(&calls)].concat();
+    assert_eq!(list.len(), 192);
+    let rest = format!("n 4 order {} count 6 words", places("0 1 2 3"));
+    let due = format!(
+        "chart 0 {rest} 0 4 1 8 2 1 3 2 weights 0 2 2 1 3 3 2 0 2 3 1 3\n\
+         link 0 {rest} 0 6 1 9 weights 0 1 5 1 0 5\n\
+         perlink 0 3 table 0 6 6 {rest} weights\n\
+         count 11 0 {rest} weights\n"
+    );
+    assert_eq!(play(&list), due);
+}
+
+#[test]
 fn each_call_has_its_answers() {
     let order = places("0 1 2 3");
     let rest = format!("n 4 order {order} count 1 words weights");

@@ -315,32 +315,22 @@ mod tests {
         assert!(has(&[[COUNT, 0, 0, 0]], WIDE_COUNT));
         assert!(!has(&[[SET_COUNT, 9, 0, 0], [COUNT, 0, 0, 0]], WIDE_COUNT));
         assert!(!has(&[[PERLINK, 2015, 0, 0]], HEAVIEST));
-        let cliques: Vec<Edge> = all_pairs(64);
-        let cliques: Vec<Edge> = cliques
-            .into_iter()
-            .filter(|(a, b)| a % 2 == b % 2)
-            .collect();
-        let heavy = graph(64, &cliques, &vec![255; cliques.len()]);
-        let saved = |saving: &str| {
-            let list = records::chart(&Chart::of(&heavy).bytes());
-            let list = [list, records::bytes([ROUND, 0, 0, 0])].concat();
-            let lines = format!("chart 0 n 64\nround 0 {saving} 1 64 n 64\n");
-            let step = steps(&list, &lines).last().expect("a round");
-            met(&step, "round", 0).contains(&WIDE_SAVING.to_string())
-        };
-        assert!(saved("4294967296") && !saved("4294967295"));
+        for (saving, due) in [(WIDE, true), (WIDE - 1, false)] {
+            let list = records::bytes([ROUND, 0, 0, 0]);
+            let lines = format!("round 0 {saving} 1 64 n 64\n");
+            let step = steps(&list, &lines).next().expect("a round");
+            assert_eq!(met(&step, "round", 0) == [WIDE_SAVING], due);
+        }
     }
 
     #[test]
     fn counts_that_go_round_are_told() {
         let square = graph(4, &FIRST, &[1, 1]);
-        let counted = |count, call| last(&square, &[[SET_COUNT, count, 0, 0], call]);
-        let (link, move_away) = ([MOVE, 0, 2, 0], [MOVE, 0, 1, 0]);
-        assert_eq!(counted(0, move_away), [WIDE_COUNT, BELOW_0]);
-        assert!(counted(1, move_away).is_empty());
-        assert!(counted(0, link).contains(&BELOW_0.to_string()));
-        let turned = graph(4, &[(0, 1), (2, 3)], &[1, 1]);
-        let up = |count| last(&turned, &[[SET_COUNT, count, 0, 0], [MOVE, 0, 2, 0]]);
+        let down = |count| last(&square, &[[SET_COUNT, count, 0, 0], [MOVE, 0, 1, 0]]);
+        assert_eq!(down(0), [WIDE_COUNT, BELOW_0]);
+        assert!(down(1).is_empty());
+        let apart = graph(4, &[(0, 1), (2, 3)], &[1, 1]);
+        let up = |count| last(&apart, &[[SET_COUNT, count, 0, 0], [MOVE, 0, 2, 0]]);
         assert_eq!(up(u64::MAX), [OVER_THE_TOP]);
         assert_eq!(up(u64::MAX - 1), [WIDE_COUNT]);
         assert!(up(0).is_empty());
