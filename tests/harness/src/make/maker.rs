@@ -161,8 +161,8 @@ impl Maker {
     /// Starts from a graph in its order, in one way or the other. One with many
     /// edges, each of which takes two records for its weight, is mostly a chart.
     pub fn write_graph(&mut self, graph: &Graph) {
-        let fields = if graph.edges.len() > MANY { 5 } else { 2 };
-        if self.known.has(CHART) && !self.rng.once_in(fields) {
+        let one_in = if graph.edges.len() > MANY { 5 } else { 2 };
+        if self.known.has(CHART) && !self.rng.once_in(one_in) {
             self.write_chart(graph);
         } else {
             self.write_fields(graph);

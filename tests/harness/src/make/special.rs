@@ -36,7 +36,7 @@ pub const fn any(kind: &'static str, make: fn(&mut Rng) -> Vec<u8>) -> Special {
 /// So many of them are dear to settle; they stand first.
 pub const DEAR: usize = 2;
 
-pub const SPECIALS: [Special; 54] = [
+pub const SPECIALS: [Special; 55] = [
     accepted("64 vertices, all 2,016 edges", |_| {
         Chart::of(&Graph::of(all_pairs(64), vertices(64))).bytes()
     }),
@@ -218,17 +218,20 @@ pub const SPECIALS: [Special; 54] = [
             weights[last] = 0;
         })
     }),
-    refused(8, "a bad order and bad weights", |rng| {
-        spoilt_weights(rng, |chart| chart.order[0] = chart.order[1])
+    refused(8, "a bad order and a wrong number of weights", |rng| {
+        spoilt(rng, &[-1, 1], |chart| chart.order[0] = chart.order[1])
+    }),
+    refused(8, "a bad order and weights of 0", |rng| {
+        spoilt(rng, &[0], |chart| chart.order[0] = chart.order[1])
     }),
     refused(7, "a pair twice and bad weights", |rng| {
-        spoilt_weights(rng, |chart| {
+        spoilt(rng, &[-1, 0, 1, 2], |chart| {
             chart.edges.extend([chart.edges[1], chart.edges[0]])
         })
     }),
     refused(3, "a field of weights twice", |rng| {
         let weights = field(0x57, &[1, 1]);
-        [base(rng).bytes(), weights.clone(), weights].concat()
+        [unweighted(rng).bytes(), weights.clone(), weights].concat()
     }),
     refused(3, "a field of weights elsewhere", |rng| {
         let mut fields = unweighted(rng).fields();
@@ -319,13 +322,12 @@ fn any_weights(rng: &mut Rng, m: usize) -> Vec<u8> {
     (0..m).map(|_| rng.within(1, 255) as u8).collect()
 }
 
-/// An accepted chart with weights that are refused, changed so that something
-/// before them is.
-fn spoilt_weights(rng: &mut Rng, change: fn(&mut Chart)) -> Vec<u8> {
+/// An accepted chart with weights of 0, by some number more or fewer than there
+/// are edges, changed so that something before them is refused.
+fn spoilt(rng: &mut Rng, more: &[isize], change: fn(&mut Chart)) -> Vec<u8> {
     let mut chart = unweighted(rng);
     let m = chart.edges.len() / 2;
-    let length = rng.pick(&[0, 1, m, m + 1]);
-    chart.weights = Some(vec![0; length]);
+    chart.weights = Some(vec![0; m.saturating_add_signed(rng.pick(more))]);
     change(&mut chart);
     chart.bytes()
 }
