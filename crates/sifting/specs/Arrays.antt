@@ -1,13 +1,13 @@
 -- The ring as arrays alone: the first n places of an array hold the order, and a table holds the weights. A sift looks at nothing else of a layout.
-use Prim.Native.Nat.{ℕ, suc, _+_, _-_, _≤_, _<_}
+use Prim.Native.Nat.{ℕ, _-_, _≤_, _<_}
 use native.Mathlib.Nat.{le-trans, le-of-eq, lt-of-lt-of-le}
 use native.Mathlib.Omega.{arith}
-use mathlib.Core.Path.{_≡_, refl, sym, ap, ap₂, _∙_}
-use mathlib.Core.Bool.{Bool, cond}
+use mathlib.Core.Path.{_≡_, refl, sym, ap, _∙_}
+use mathlib.Core.Bool.{cond}
 use mathlib.Core.List.{List, [], _∷_, _++_, map}
 use lib.ListN.{length, take, drop, length-map, take-append-drop}
 use lib.Seq.{take-at, length-front}
-use lib.Dec.{eqb, ltb}
+use lib.Dec.{eqb}
 use borrow.Author.Tests.{lt-ltb, le-ltb, eq-eqb, ne-eqb}
 use Rattle.model.specs.Lists.{one}
 use Rattle.model.specs.Crossings.{crossings}
@@ -31,13 +31,15 @@ use Rattle.sift_walk.specs.Finding.{Found}
 use Rattle.sift_walk.specs.Seats.{Walker}
 
 module _ (n : ℕ) (ws : List ℕ) where
+  -- the crossings of the order in the first n places
   abbrev pub arrayCrossings : List ℕ → ℕ
   arrayCrossings places = crossings n (take n places) (tableWeight ws)
 
-  -- another order put in
+  -- another order put in, the unused places kept
   abbrev pub reordered : List ℕ → List ℕ → List ℕ
   reordered places o = o ++ drop n places
 
+  -- as what is searched: like `ring` (`model`, Sifting)
   abbrev pub arrays : Search (List ℕ)
   arrays =
       record {
@@ -129,8 +131,7 @@ module _ {n : ℕ} {ws places : List ℕ} (d : Drawn n ws places) where
     as-crossings : All (λ c. arrayCrossings n ws (reordered n ws places c) ≡ crossings n c W) (candidates u o)
     as-crossings =
         all-mono (all-candidates perm u h)
-        (λ c k.
-        ap (λ (x : List ℕ). crossings n x W) (take-at c (drop n places) n (candidate-permutation perm u h k .size)))
+        (λ c k. ap (λ (x : List ℕ). crossings n x W) (take-at c (drop n places) n (candidate-permutation perm u h k .size)))
 
     least-order : leastCost (arrayCrossings n ws) places (arrays n ws .candidates u places) ≡ leastCrossings n W u o
     unfolding leastCrossings

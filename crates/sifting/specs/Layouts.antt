@@ -2,8 +2,7 @@
 use Prim.Native.Nat.{ℕ, _+_, _-_, _%_, _<_}
 use native.Mathlib.Omega.{arith}
 use mathlib.Core.Path.{_≡_, refl, sym, ap, ap₂, _∙_}
-use mathlib.Core.Bool.{Bool}
-use mathlib.Core.List.{List, [], _∷_, _++_, map, flatMap}
+use mathlib.Core.List.{List, [], _∷_, _++_, map}
 use lib.ListN.{length, take, drop, length-map}
 use lib.Dec.{T}
 use Rattle.model.specs.declared.Layout.{Layout}
@@ -12,23 +11,24 @@ use Rattle.model.specs.declared.Converged.{Converged}
 use Rattle.model.specs.Lists.{All, none, also}
 use Rattle.model.specs.Layouts.{vertexOrder, valid, weight, crossingsOf, modulus, carried, changed, reordered}
 use Rattle.model.specs.Edits.{movedAfter}
-use Rattle.model.specs.Search.{Sift, Round, siftBest, siftsOfAll}
-use Rattle.model.specs.Sifting.{ring, clockwiseFrom, candidateLayouts, sifted, reduction, optimaIn, siftAnswer, swept, siftRound, roundsFrom, settled, roundsUpTo}
+use Rattle.model.specs.Search.{siftBest, siftsOfAll}
+use Rattle.model.specs.Sifting.{ring, clockwiseFrom, candidateLayouts, sifted, reduction, siftAnswer}
+use Rattle.model.specs.Sifting.{optimaIn, swept, siftRound, roundsFrom, settled, roundsUpTo}
+use Rattle.laws.specs.Layouts.Weights.{weighted}
 use Rattle.laws.specs.Layouts.Recount.{carried-wrapping}
 use Rattle.laws.specs.Layouts.Reordering.{crossings-fit}
 use Rattle.laws.specs.Sifting.Sweeps.{sift-lowers}
 use Rattle.laws.specs.Sifting.Candidates.{Rearranged, sifted-rearranged}
 use Rattle.laws.specs.Sifting.Rounds.{Valid, proper-sift, round-reduced, settled-rearranged, settled-exact}
-use Rattle.laws.specs.Sifting.Images.{Shows, shownSift, shownRound, sift-shown, sift-good, best-shown, all-shown, all-good, sifts-reach, saved-shown}
+use Rattle.laws.specs.Sifting.Images.{Shows, shownRound, sift-shown, sift-good, best-shown, all-shown, all-good, sifts-reach, saved-shown}
 use Rattle.laws.specs.Sifting.Images.{moved-shown, bests-shown, rounds-shown, rounds-good, rounds-reach, swept-shown, swept-good, last-shown}
 use Rattle.sift_walk.specs.declared.Walk.{Walk}
 use Rattle.sift_walk.specs.Finding.{Found}
-use Rattle.laws.specs.Layouts.Weights.{weighted}
 use Rattle.sifting.specs.declared.rounds.Swept.{Swept}
 use Rattle.sifting.specs.declared.convergence.Settled.{Settled}
 use Rattle.sifting.specs.Arrays.{arrays, Drawn, map-map, found-order, found-saving, found-optima}
-use Rattle.sifting.specs.Sweeps.{sweptBy, sweptRound, bestAt}
-use Rattle.sifting.specs.Settling.{settledBy, settledWithin, siftsIn}
+use Rattle.sifting.specs.Sweeps.{sweptBy, sweptRound}
+use Rattle.sifting.specs.Settling.{settledBy, settledWithin}
 
 -- ---- the layout that sifts lead to
 
@@ -114,7 +114,7 @@ module _ (l : Layout) where
   abbrev seen : Shows ring (arrays n ws) places-of (Weighs n ws)
   seen = shows n ws
 
-  -- a round
+  -- a round of the array is one of the layout
   round-seen : sweptRound n ws (l .order) ≡ numbersOf (siftRound l)
   unfolding sweptRound sweptBy siftRound swept optimaIn
   round-seen =
@@ -122,7 +122,7 @@ module _ (l : Layout) where
       ap (sweptBy n ws (l .order)) (all-shown seen l itself)
       ∙ rw (sifts-reach seen l xs, saved-shown seen (all-good seen l itself), moved-shown seen xs, bests-shown seen (all-good seen l itself)) refl
 
-  -- rounds up to a limit
+  -- and so are rounds up to a limit
   rounds-seen : (limit : ℕ) → settledWithin n ws limit (l .order) ≡ settledOf (roundsUpTo limit l)
   unfolding settledWithin settledBy roundsUpTo settled optimaIn
   rounds-seen limit =
@@ -145,7 +145,8 @@ module _ (l : Layout) where
   layout-drawn t size = record { size = size; weighted = weighted l t }
 
   module _ (t : T (valid l)) (fits : l .count < modulus) where
-    pub sift-answered : length (l .order) ≡ 64 → {u : ℕ} → u < n → {best : Walk} → Found n (l .order) ws u best → {m : Layout} → m ≡ relaid l (best .order) (best .saving)
+    pub sift-answered : length (l .order) ≡ 64 → {u : ℕ} → u < n → {best : Walk} → Found n (l .order) ws u best
+        → {m : Layout} → m ≡ relaid l (best .order) (best .saving)
         → record { refusal = 0; layout = m; reduction = best .saving; optima = best .optima } ≡ siftAnswer l u
     unfolding reduction
     sift-answered size {u} h {best} found e =

@@ -1,16 +1,15 @@
 -- Settling over arrays, as a loop over rounds.
 use Prim.Native.Nat.{ℕ, suc, _+_, _-_, _*_, _≤_, _<_}
 use native.Mathlib.Nat.{add-zero, sub-zero, sub-eq-zero-of-le}
-use native.Mathlib.Numerals.{add-one}
 use native.Mathlib.Omega.{arith}
 use mathlib.Core.Path.{_≡_, refl, sym, ap, _∙_}
-use mathlib.Core.Bool.{Bool, true, false}
+use mathlib.Core.Bool.{true, false}
 use mathlib.Core.List.{List, [], _∷_, _++_, flatMap, append-assoc, append-nil}
 use lib.ListN.{length, length-append}
 use lib.Dec.{eqb}
 use borrow.Author.Tests.{eqb-true, eqb-false}
 use Rattle.model.specs.Lists.{sumOver}
-use Rattle.model.specs.Search.{Sift, Round, reached, movedIn, lastStill, savedIn, siftsOfAll, roundBy, roundAt, roundsWithin}
+use Rattle.model.specs.Search.{Sift, Round, reached, lastStill, savedIn, siftsOfAll, roundBy, roundAt, roundsWithin}
 use Rattle.laws.specs.Sums.Lists.{flatMap-append, sumOver-append}
 use Rattle.laws.specs.Crossings.Bound.{mostWeighted}
 use Rattle.laws.specs.Sifting.Optima.{mostOptima}

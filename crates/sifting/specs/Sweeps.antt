@@ -3,7 +3,7 @@ use Prim.Native.Nat.{ℕ, suc, _+_, _-_, _*_, _≤_, _<_}
 use native.Mathlib.Omega.{arith}
 use mathlib.Core.Path.{_≡_, refl, sym, ap, _∙_}
 use mathlib.Core.Bool.{cond}
-use mathlib.Core.List.{List, [], _∷_, _++_}
+use mathlib.Core.List.{List}
 use lib.Dec.{eqb}
 use Rattle.model.specs.Lists.{one, upto, sumOver}
 use Rattle.model.specs.Search.{Sift, reached, movedIn, siftBest, siftMoves, siftAt, bestCandidates, siftsThrough, savedIn, siftsOfAll}
@@ -16,7 +16,8 @@ use Rattle.laws.specs.Sifting.Sweeps.{sifts-chain, sifts-snoc, sifts-length, re
 use Rattle.sift_walk.specs.declared.Walk.{Walk}
 use Rattle.sift_walk.specs.Finding.{Found}
 use Rattle.sifting.specs.declared.rounds.Swept.{Swept}
-use Rattle.sifting.specs.Arrays.{arrayCrossings, arrays, Drawn, arrays-lawful, drawn-bound, best-few, found-order, found-saving, found-moved, found-optima}
+use Rattle.sifting.specs.Arrays.{arrayCrossings, arrays, Drawn, arrays-lawful, drawn-bound, best-few}
+use Rattle.sifting.specs.Arrays.{found-order, found-saving, found-moved, found-optima}
 
 module _ (n : ℕ) (ws : List ℕ) where
   -- how many of its candidate places were best, and the sum over sifts

@@ -92,10 +92,9 @@ fn sift_next(s: Swept, best: Walk) -> Swept
 {
     let order = best.order;
     let saving = best.saving;
-    let one = moved_by(saving);
     let reduction = s.reduction + saving;
-    let moved = s.moved + one;
     let optima = s.optima + best.optima;
+    let moved = s.moved + moved_by(saving);
     Swept {
         order,
         reduction,

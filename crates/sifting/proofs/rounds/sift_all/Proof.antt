@@ -1,5 +1,5 @@
 use borrow.Author.Needs.{needs}
-use Prim.Native.Nat.{_-_}
+use Prim.Native.Nat.{_-_, _<_}
 use native.Mathlib.Omega.{arith}
 use mathlib.Core.Path.{refl, _∙_}
 use Rattle.laws.specs.Sums.Loops.{MadeUpTo, made-start, made-next, made-end}
@@ -28,25 +28,27 @@ turn c = test c .before
 abbrev start : tie.After-best-order Inv-loop μ-loop → tie.Start Inv-loop μ-loop
 start c = turn c .before
 
+below : (c : tie.After-best-order Inv-loop μ-loop) → turn c .loop .u < start c .args .n
+below c = omega (arith, test c .loop-test .taken)
+
 -- what the walk finds
 found : (c : tie.After-best-order Inv-loop μ-loop)
     → let s = start c .args in let now = turn c .loop in Found (s .n) (now .state .order) (s .weights .now) (now .u) (c .best-order .result)
 found c =
     let now = ready (start c .pre .0) (turn c .loop .inv) in
-    c .best-order .ensures (walker (now .drawn) (test c .loop-test .taken)) (start c .pre .1)
+    c .best-order .ensures (walker (now .drawn) (below c)) (start c .pre .1)
 
 sift-next-requires : tie.Need-sift-next-requires Inv-loop μ-loop
-sift-next-requires c κs = swept-bounds (start c .pre .0) (turn c .loop .inv) (test c .loop-test .taken) (found c)
+sift-next-requires c κs = swept-bounds (start c .pre .0) (turn c .loop .inv) (below c) (found c)
 
 loop-again : tie.Need-loop-again Inv-loop μ-loop
 loop-again c =
     let walked = c .before in
-    let below = test walked .loop-test .taken in
     let inv = turn walked .loop .inv in
-    made-next inv below (swept-next (start walked .pre .0) inv below (found walked) (c .sift-next .ensures))
+    made-next inv (below walked) (swept-next (start walked .pre .0) inv (below walked) (found walked) (c .sift-next .ensures))
 
 returns : tie.Need-returns Inv-loop μ-loop
-returns c = made-end (c .before .loop .inv) (c .loop-test .left) refl ∙ round-is _ _ _
+returns c = made-end (c .before .loop .inv) (omega (arith, c .loop-test .left)) refl ∙ round-is _ _ _
 
 pub sift-all-spec : {M : Type 1} → statement M
 sift-all-spec =

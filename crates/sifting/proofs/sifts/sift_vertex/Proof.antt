@@ -3,7 +3,6 @@ use Prim.Native.Nat.{_<_}
 use mathlib.Core.Path.{_≡_}
 use lib.ListN.{length}
 use Rattle.model.specs.Layouts.{modulus}
-use Rattle.sift_walk.specs.Finding.{Found}
 use Rattle.sifting.specs.Arrays.{walker}
 use Rattle.sifting.specs.Layouts.{layout-drawn, sift-answered}
 use Rattle.sifting.proofs.sifts.sift_vertex.Statement.{statement}
