@@ -63,7 +63,8 @@ fn put_each(
     count: usize,
 ) -> usize
     requires { ⌜ (2 * count ≤ length (now ends)) × (count ≤ length (now table)) ⌝ }
-    ensures { λ r. ⌜ Written (now (table .entry)) 0 (numbered (now (chords .entry)) (now (places .entry)) (now (weights .entry)) (now (ends .entry)) count) (now (table .exit)) r ⌝ }
+    ensures { λ r. let all = numbered (now (chords .entry)) (now (places .entry)) (now (weights .entry)) (now (ends .entry)) count in
+        ⌜ Written (now (table .entry)) 0 all (now (table .exit)) r ⌝ }
 {
     let mut i = 0;
     while i < count {

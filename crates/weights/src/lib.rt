@@ -2,7 +2,7 @@
 // the table read. Calls of other crates are total: a vertex is taken modulo 64.
 mod units;
 
-pub use units::unit_weights;
+pub use units::unit_table;
 ghost use mathlib.Core.Path.{_≡_};
 ghost use Prim.Native.Nat.{_+_, _*_, _-_, _%_, _<_, _≤_};
 ghost use lib.ListN.{length};

@@ -2,7 +2,7 @@
 ghost use mathlib.Core.Path.{_≡_};
 ghost use Rattle.weights.specs.Units.{unitTable};
 
-pub fn unit_weights(adjacency: &[u64; 64]) -> [u8; 4096]
+pub fn unit_table(adjacency: &[u64; 64]) -> [u8; 4096]
     ensures { λ r. ⌜ r ≡ unitTable (now (adjacency .entry)) ⌝ }
 {
     let mut weights = [0u8; 4096];
