@@ -76,7 +76,11 @@ fn play_op(l: Layout, op: u64, a: u64, b: u64, c: u64, line: &mut [u8]) -> Playe
         27 => play_views::write(l, Format::Chart, a, b, line),
         29 => play_views::write(l, Format::Graph6, a, b, line),
         30 => play_tables::edge_crossings(l, a, b, line),
-        _ => play_decoded(l, calls_encoding::call_of(op, a as usize, b as usize, c), line),
+        _ => play_decoded(
+            l,
+            calls_encoding::call_of(op, a as usize, b as usize, c),
+            line,
+        ),
     }
 }
 

@@ -1,12 +1,13 @@
 -- Two weights that agree on all vertices give the same edges and the same crossings.
 use Prim.Native.Nat.{ℕ, _*_, _<_}
 use mathlib.Core.Path.{_≡_, ap, ap₂, _∙_}
-use mathlib.Core.Bool.{Bool, _&&_}
+use mathlib.Core.Bool.{Bool, true, _&&_}
 use mathlib.Core.List.{List, map, flatMap}
 use lib.Dec.{ltb}
 use Rattle.model.specs.declared.Edge.{Edge}
 use Rattle.model.specs.Lists.{one, upto, keep, sumPairs}
 use Rattle.model.specs.Crossings.{linked, edges, crosses, adjacent, weightedEdges, edgeWeight, crossingWeight, crossings}
+use Rattle.laws.specs.Sums.Indicators.{both-right}
 use Rattle.laws.specs.Sums.Lists.{All, all-upto, all-kept, all-map, all-flatMap, sumPairs-ext, flatMap-ext, keep-ext}
 use Rattle.laws.specs.Crossings.Edges.{edge}
 
@@ -25,6 +26,17 @@ ends-by n to =
 pub edges-below : (n : ℕ) (adj : List ℕ) → All (EndsBelow n) (edges n adj)
 unfolding edges
 edges-below n adj = ends-by n (linked adj)
+
+-- the words hold each edge
+pub edges-linked : (n : ℕ) (adj : List ℕ) → All (λ e. linked adj (e .low) (e .high) ≡ true) (edges n adj)
+unfolding edges
+edges-linked n adj =
+    all-flatMap (λ a. map (edge a) (keep (higher a) (upto n))) (all-upto n)
+    (λ a l. all-map (λ e. linked adj (e .low) (e .high) ≡ true) (edge a) (all-kept (higher a) (all-upto n))
+    (λ b h. both-right (ltb a b) (linked adj a b) (h .1)))
+  where
+    higher : ℕ → ℕ → Bool
+    higher a b = ltb a b && linked adj a b
 
 pub weighted-below : (n : ℕ) (W : ℕ → ℕ → ℕ) → All (EndsBelow n) (weightedEdges n W)
 unfolding weightedEdges
