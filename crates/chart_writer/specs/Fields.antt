@@ -113,8 +113,9 @@ module _ {n : ℕ} {adj : List ℕ} {unit : Bool} {start : List ℕ} (f : ChartF
     pub weights-room : at + weightRoom unit (length (edges n adj)) ≤ length bytes
     weights-room = omega (arith, f .room, at-is, written-size fields (omega (arith, f .room, at-is)))
 
-    pub all-put : {last next : List ℕ} {end : ℕ} → Written bytes at last next end → Written start 0 (chartWith n (edges n adj) o last) next end
-    all-put {last} w = rw (← (chart-last n (edges n adj) o last)) (behind fields w (omega (arith, f .room, at-is)))
+    pub all-put : (W : ℕ → ℕ → ℕ) {next : List ℕ} {end : ℕ} → Written bytes at (weightBytes unit W (edges n adj)) next end
+        → Written start 0 (chartWith n (edges n adj) o (weightBytes unit W (edges n adj))) next end
+    all-put W w = rw (← (chart-last n (edges n adj) o (weightBytes unit W (edges n adj)))) (behind fields w (omega (arith, f .room, at-is)))
 
 module _ {n : ℕ} {adj start : List ℕ} (f : FieldsFit n adj start) {bytes : List ℕ} {at : ℕ}
     (size : Written start 0 (fieldBytes 0x44 (n ∷ [])) bytes at) where

@@ -22,5 +22,6 @@ pub mod Playing
 pub mod Listing
 pub mod Starred
 pub mod WorkedCharts
+pub mod WorkedWeights
 pub mod WorkedGraphs
 pub mod WorkedTables

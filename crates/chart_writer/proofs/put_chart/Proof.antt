@@ -25,7 +25,7 @@ returns : tie.Need-returns
 returns c =
     let put = c .before .before in
     let three = fields (put .before) in
-    all-put (start (three .before) .pre) _ refl (three .put-fields .ensures) (put .put-weights .ensures)
+    all-put (start (three .before) .pre) _ refl (three .put-fields .ensures) _ (put .put-weights .ensures)
 
 pub put-chart-spec : {M : Type 1} → statement M
 put-chart-spec = tie.close (tie.spec put-fields-requires put-weights-requires (λ c. search needs) returns)
