@@ -4,8 +4,8 @@ use native.Mathlib.Nat.{mul-mod-right, le-of-lt}
 use native.Mathlib.Omega.{arith}
 use mathlib.Core.Path.{_≡_, refl, sym, ap, _∙_, subst}
 use mathlib.Core.Bool.{true, cond, _||_}
-use mathlib.Core.List.{List, [], _∷_, map, flatMap, append-assoc, append-nil}
-use lib.ListN.{length, getD, replicate, length-append, length-replicate}
+use mathlib.Core.List.{List, [], _∷_, map, flatMap, append-assoc}
+use lib.ListN.{length, getD, replicate, length-append}
 use lib.Dec.{T, leb}
 use borrow.Author.Tests.{le-leb, eq-eqb}
 use Rattle.model.specs.declared.Edge.{Edge}

@@ -1,13 +1,12 @@
 -- "a ring whose weights are and stay 1 behaves as before but for the wider numbers and modulus" (document 02, Note 8), over every list of calls: `as-before`.
 -- The former definitions are those of `model`, Former.
-use Prim.Native.Nat.{ℕ, zero, suc, _-_, _%_, _<_}
-use mathlib.Core.Path.{_≡_, refl, sym, ap, ap₂, _∙_, subst}
-use mathlib.Core.Bool.{Bool, true, cond, _&&_}
+use Prim.Native.Nat.{ℕ, zero, suc, _-_, _<_}
+use mathlib.Core.Path.{_≡_, refl, sym, ap, _∙_, subst}
+use mathlib.Core.Bool.{Bool, true}
 use mathlib.Core.List.{List, [], _∷_, _++_, map, flatMap}
 use lib.ListN.{length, set, length-map}
-use lib.Dec.{T, ltb}
+use lib.Dec.{T}
 use Rattle.model.specs.declared.Layout.{Layout}
-use Rattle.model.specs.declared.Outcome.{Outcome}
 use Rattle.model.specs.declared.Added.{Added}
 use Rattle.model.specs.declared.Changed.{Changed}
 use Rattle.model.specs.declared.Appended.{Appended}
@@ -17,19 +16,19 @@ use Rattle.model.specs.declared.Converged.{Converged}
 use Rattle.model.specs.declared.Call.{Call}
 use Rattle.model.specs.declared.Call.the-variants as call
 use Rattle.model.specs.Lists.{one, sumOver, All, none, also}
-use Rattle.model.specs.Crossings.{linked, unitWeight}
-use Rattle.model.specs.Layouts.{capacity, vertexOrder, tableWeight, weight, crossingsOf, weightsFit, valid, changed, reordered, isWeight}
+use Rattle.model.specs.Crossings.{unitWeight}
+use Rattle.model.specs.Layouts.{vertexOrder, weight, weightsFit, valid, changed, reordered, isWeight}
 use Rattle.model.specs.Checks.{Check, refusal, byRefusal, checked, differ, limitFits, isValid, isVertex, isUnlinked, isLinked, hasRoom, weighs}
 use Rattle.model.specs.Edits.{added, addChecks, addAnswer, addRefused, addOf, withBit, withoutBit, atBothEnds, bothWays, withEdges}
-use Rattle.model.specs.Edits.{changedTo, changeRefused, changedOr, linkChecks, linkOf, unlinkChecks, unlinkOf, movedAfter, moveChecks, moveOf}
-use Rattle.model.specs.GreedyAppend.{Placing, placeAll, layChecks, layAnswer, layRefused, layOf}
+use Rattle.model.specs.Edits.{changedOr, linkChecks, linkOf, unlinkChecks, unlinkOf, movedAfter, moveChecks, moveOf}
+use Rattle.model.specs.GreedyAppend.{Placing, placeAll, layChecks, layAnswer, layOf}
 use Rattle.model.specs.Search.{Sift, Round, siftBest, siftsOfAll, roundsWithin, reached, savedIn, movedIn, lastStill, bestCandidates}
-use Rattle.model.specs.Sifting.{ring, reduction, siftChecks, siftAnswer, siftRefused, siftOf, optimaIn, swept, siftRound, roundRefused, roundOf}
-use Rattle.model.specs.Sifting.{siftsOfRound, settled, roundsUpTo, settleChecks, settleRefused, settleOf}
+use Rattle.model.specs.Sifting.{ring, reduction, siftChecks, siftOf, optimaIn, swept, siftRound, roundOf}
+use Rattle.model.specs.Sifting.{settled, roundsUpTo, settleChecks, settleOf}
 use Rattle.model.specs.WrittenCharts.{unitWeighted}
 use Rattle.model.specs.Histories.{Start, Step, steps, played, ringCalls, ofAdded, ofChanged, ofAppended, ofSifted, ofRounded, ofConverged, answerOf}
 use Rattle.model.specs.Runs.{StepOf, stepAt, stepsFrom, playedFrom}
-use Rattle.model.specs.Former.{FormerLayout, FormerOutcome, formerOutcome, formerOrder, formerCrossings, formerValid, formerChanged, formerReordered}
+use Rattle.model.specs.Former.{FormerLayout, FormerOutcome, formerOutcome, formerCrossings, formerValid, formerChanged, formerReordered}
 use Rattle.model.specs.Former.{formerlyChecked, wasValid, wasVertex, wasUnlinked, wasLinked, formerAdd, formerLink, formerUnlink, formerMove, formerLay, formerRing}
 use Rattle.model.specs.Former.{formerOptima, formerSift, formerRound, formerSettle, formerAnswer, formerCalls}
 use Rattle.laws.specs.Sums.Indicators.{T-true, and-left}
@@ -38,7 +37,7 @@ use Rattle.laws.specs.Append.Agreeing.{all-same}
 use Rattle.laws.specs.Sifting.Images.{shownRound, sift-shown, sift-good, best-shown, all-shown, all-good, moved-shown, saved-shown, bests-shown, sifts-reach}
 use Rattle.laws.specs.Sifting.Images.{rounds-shown, rounds-good, rounds-reach, last-shown, swept-shown, swept-good, steps-shown, played-shown}
 use Rattle.history.specs.StepLaws.{Right, start-right, call-keeps}
-use Rattle.former.specs.Units.{Unit, Agrees, Agreeing, unit-agrees, agrees-unit, unit-weighted, UnitCall, adding, linking, unlinking, moving, laying, sifting, sifting-round, converging, call-unit}
+use Rattle.former.specs.Units.{Unit, Agreeing, unit-agrees, agrees-unit, unit-weighted, UnitCall, adding, linking, unlinking, moving, laying, sifting, sifting-round, converging, call-unit}
 use Rattle.former.specs.Forgetting.{forget, forgetOutcome, forgotten-crossings, forgotten-changed, forgotten-reordered, shows}
 
 -- ---- checks that are the same

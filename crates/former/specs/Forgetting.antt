@@ -1,16 +1,15 @@
 -- A layout with its weights forgotten, and its count modulo 2^32: what it is made of by an edit or a sift is what the former definitions make of it, where its
 -- weights agree with its words.
-use Prim.Native.Nat.{ℕ, _+_, _-_, _%_, _≤_, _<_}
+use Prim.Native.Nat.{ℕ, _+_, _-_, _%_}
 use native.Mathlib.Omega.{arith}
 use mathlib.Core.Path.{_≡_, refl, sym, ap, ap₂, _∙_}
 use mathlib.Core.List.{List, [], _∷_, _++_, map}
 use lib.ListN.{take, drop}
-use lib.Dec.{T}
 use Rattle.model.specs.declared.Layout.{Layout}
 use Rattle.model.specs.declared.Outcome.{Outcome}
 use Rattle.model.specs.Lists.{All, none, also}
 use Rattle.model.specs.Crossings.{crossingPairs, unitWeight, crossings}
-use Rattle.model.specs.Layouts.{vertexOrder, tableWeight, weight, crossingsOf, modulus, carried, changed, reordered, uncounted}
+use Rattle.model.specs.Layouts.{vertexOrder, tableWeight, weight, crossingsOf, modulus, carried, changed, reordered}
 use Rattle.model.specs.Edits.{movedAfter}
 use Rattle.model.specs.Sifting.{clockwiseFrom, candidateLayouts, ring}
 use Rattle.model.specs.Former.{FormerLayout, FormerOutcome, formerOutcome, formerOrder, formerCrossings, formerModulus, formerCarried, formerChanged}

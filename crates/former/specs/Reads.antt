@@ -1,24 +1,21 @@
 -- The calls that only read, the writer, the exporter and the readers, on what weighs 1: call by call as formerly.
-use Prim.Native.Nat.{ℕ, zero, suc, _*_, _%_, _≤_, _<_, min, max}
-use native.Mathlib.Nat.{le-trans, le-of-eq, lt-of-lt-of-le, mod-eq-of-lt, mul-one}
-use native.Mathlib.Omega.{arith}
-use mathlib.Core.Path.{_≡_, refl, sym, ap, ap₂, _∙_, subst}
-use mathlib.Core.Bool.{Bool, true, false, cond, _&&_, _||_}
+use Prim.Native.Nat.{ℕ, _*_, _%_}
+use native.Mathlib.Nat.{mul-one}
+use mathlib.Core.Path.{_≡_, refl, ap, ap₂, _∙_}
+use mathlib.Core.Bool.{true, cond}
 use mathlib.Core.List.{List, [], _∷_, _++_, map, append-nil}
-use lib.ListN.{length, drop, replicate}
-use lib.Dec.{T, eqb, leb}
-use borrow.Author.Tests.{eq-eqb}
+use lib.ListN.{length, drop}
+use lib.Dec.{leb}
 use Rattle.model.specs.declared.Layout.{Layout}
 use Rattle.model.specs.declared.Edge.{Edge}
 use Rattle.model.specs.declared.Counted.{Counted}
-use Rattle.model.specs.Lists.{one, every, any, sumOver}
+use Rattle.model.specs.Lists.{one, sumOver}
 use Rattle.model.specs.Crossings.{edges, crosses, unitWeight, edgeWeight, crossingWeight}
-use Rattle.model.specs.Layouts.{vertexOrder, tableWeight, weight, crossingsOf, valid}
-use Rattle.model.specs.Checks.{Check, refusal, checked, isValid, bufferFits, roomFor}
-use Rattle.model.specs.Reading.{Shown, countOf, orderChecks, orderRefusal, orderBytes, firstPair, firstCrossingOf}
-use Rattle.model.specs.Charts.{joins}
+use Rattle.model.specs.Layouts.{vertexOrder, tableWeight, weight, valid}
+use Rattle.model.specs.Checks.{Check, refusal, isValid, bufferFits, roomFor}
+use Rattle.model.specs.Reading.{Shown, countOf, orderChecks, orderRefusal, orderBytes, firstCrossingOf}
 use Rattle.model.specs.Writing.{Format, fillChecks, fillAnswer, filled, writeAnswer, writeOf, writtenBytes}
-use Rattle.model.specs.WrittenCharts.{fieldBytes, weightsOf, unitWeighted, weightField, chartOf, chartFormat}
+use Rattle.model.specs.WrittenCharts.{unitWeighted, weightField, chartOf, chartFormat}
 use Rattle.model.specs.Graph6.{graph6Of, exportChecks, graph6Format}
 use Rattle.model.specs.EdgeCrossings.{crossingsWith, edgeCrossings, tableFormat, countAnswer, edgeCrossingsOf, crossingTable}
 use Rattle.model.specs.Former.{formerModulus, formerValid, wasValid, formerCount, formerOrderChecks, formerOrderBytes, formerFirstCrossing}

@@ -1,35 +1,35 @@
 -- The starts of weight 1: the empty layout, a chart without field 57 or with ones in it, an imported graph. And reading a chart without field 57, or a graph
 -- in graph6, gives what it gave formerly, refusals too.
-use Prim.Native.Nat.{ℕ, zero, suc, _*_, _%_, _≤_, _<_, min, max}
-use native.Mathlib.Nat.{le-trans, le-of-eq, lt-of-lt-of-le, mod-eq-of-lt}
+use Prim.Native.Nat.{ℕ, zero, suc, _≤_, _<_, min, max}
+use native.Mathlib.Nat.{le-of-eq, lt-of-lt-of-le, mod-eq-of-lt}
 use native.Mathlib.Omega.{arith}
-use mathlib.Core.Path.{_≡_, refl, sym, ap, ap₂, _∙_, subst}
-use mathlib.Core.Bool.{Bool, true, false, cond, _&&_, _||_, or-false, false≢true}
-use mathlib.Core.List.{List, [], _∷_, _++_, map, flatMap}
+use mathlib.Core.Path.{_≡_, refl, sym, ap, _∙_, subst}
+use mathlib.Core.Bool.{Bool, true, false, cond, _||_, or-false, false≢true}
+use mathlib.Core.List.{List, [], _∷_, map, flatMap}
 use lib.ListN.{length, replicate, length-map, length-replicate}
-use lib.Dec.{T, eqb, leb}
+use lib.Dec.{T, eqb}
 use borrow.Author.Tests.{eq-eqb, lt-leb}
 use Rattle.model.specs.declared.Layout.{Layout}
 use Rattle.model.specs.declared.LayoutRead.{LayoutRead}
 use Rattle.model.specs.declared.Edge.{Edge}
-use Rattle.model.specs.Lists.{one, upto, every, any, keep}
-use Rattle.model.specs.Crossings.{edges, crossingPairs, edgeWeight, crossings}
-use Rattle.model.specs.Layouts.{emptyLayout, vertexOrder, tableWeight, weight, crossingsOf, valid, isWeight}
-use Rattle.model.specs.Checks.{Check, refusal, byRefusal, checked}
+use Rattle.model.specs.Lists.{upto, every, any}
+use Rattle.model.specs.Crossings.{edges, edgeWeight}
+use Rattle.model.specs.Layouts.{emptyLayout, vertexOrder, weight, crossingsOf, isWeight}
+use Rattle.model.specs.Checks.{refusal}
 use Rattle.model.specs.Charts.{fieldsOf, tagsOf, bodyOf, chartSize, chartEdges, chartOrder, hasWeights, chartWeights, sameList, chartTags, weightedTags}
 use Rattle.model.specs.Charts.{sizeChecks, endChecks, repeatChecks, placeChecks, weightChecks, edgesIn, chartChecks, joins, layoutWith, chartLayout, readOf}
 use Rattle.model.specs.WrittenCharts.{weightsOf, unitWeighted}
 use Rattle.model.specs.Graph6.{graph6Size, graph6Data, graph6Edges, graph6Checks, graph6Layout, importOf}
-use Rattle.model.specs.Former.{FormerLayout, FormerRead, formerModulus, formerEmpty, formerReadAs, formerLayoutWith, formerChartChecks, formerReadOf, formerImportOf}
+use Rattle.model.specs.Former.{FormerLayout, FormerRead, formerModulus, formerEmpty, formerLayoutWith, formerChartChecks, formerReadOf, formerImportOf}
 use Rattle.laws.specs.Sums.Indicators.{both-right}
 use Rattle.laws.specs.Sums.Lists.{All, none, also}
-use Rattle.laws.specs.Crossings.Bound.{mostCrossings, crossingSum-bound}
+use Rattle.laws.specs.Crossings.Bound.{crossingSum-bound}
 use Rattle.laws.specs.Orders.Permutations.{at, at-lt}
 use Rattle.laws.specs.Layouts.Validity.{sound, placeWeight, crossings-rising}
 use Rattle.laws.specs.Layouts.Refusals.{all-pass}
 use Rattle.laws.specs.Charts.Ends.{within-mono}
 use Rattle.laws.specs.Charts.Weights.{WeighedBy, table-weighed, joined-has}
-use Rattle.laws.specs.Charts.Layouts.{Accepted, front, valid-read, count-true}
+use Rattle.laws.specs.Charts.Layouts.{Accepted, valid-read, count-true}
 use Rattle.laws.specs.Charts.Reading.{read-is, read-number, chart-numbered, accepted, accepted-weights, chartWeight, layout-listed}
 use Rattle.laws.specs.Graph6.Imports.{import-number, import-is, imported-graph6, edges-accepted, unit, unit-listed}
 use Rattle.former.specs.Units.{Unit, Agreeing, unit-agrees, agrees-unit, ones-all}

@@ -40,7 +40,7 @@ use Rattle.laws.specs.Sifting.Candidates.{sifted-rearranged}
 use Rattle.laws.specs.Sifting.Rounds.{round-reduced, settled-rearranged}
 use Rattle.laws.specs.Sifting.Calls.{sift-either, round-either, settle-either}
 use Rattle.laws.specs.Charts.Weights.{joined-has}
-use Rattle.laws.specs.Charts.Words.{adjacencyOf, adjacency-linked}
+use Rattle.laws.specs.Charts.Words.{adjacency-linked}
 use Rattle.laws.specs.Charts.EdgeLists.{edges-words}
 use Rattle.history.specs.StepLaws.{Right}
 

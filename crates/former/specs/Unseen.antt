@@ -7,7 +7,7 @@ use mathlib.Core.List.{List}
 use lib.Dec.{eqb}
 use Rattle.model.specs.Lists.{upto, keep, sumOver, member}
 use Rattle.model.specs.Crossings.{unitWeight}
-use Rattle.model.specs.GreedyAppend.{unplaced, waiting, isolated, hasEdges, degreeIn, preferred, bestOf, nextVertex}
+use Rattle.model.specs.GreedyAppend.{unplaced, waiting, hasEdges, degreeIn, preferred, bestOf, nextVertex}
 use Rattle.model.specs.GreedyAppend.{closing, open′, frontCrossings, backCrossings}
 use Rattle.laws.specs.Sums.Lists.{All, none, also, all-keep, all-upto, sumPairs-ext, keep-keep, keep-swap, keep-true}
 use Rattle.laws.specs.Sums.Pairs.{Symmetric}

@@ -1,6 +1,6 @@
 -- Edges and crossings. Everywhere n is the number of vertices, o the vertices in their order round the circle, adj the adjacency words, and W the
 -- weight of the edge between two vertices, 0 where there is none.
-use Prim.Native.Nat.{ℕ, _*_, _-_, _/_, _%_, _^_}
+use Prim.Native.Nat.{ℕ, _*_, _/_, _%_, _^_}
 use mathlib.Core.Bool.{Bool, xor, _&&_, _||_}
 use mathlib.Core.List.{List, [], _∷_, map, flatMap}
 use lib.ListN.{getD}

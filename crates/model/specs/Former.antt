@@ -7,8 +7,6 @@ use mathlib.Core.List.{List, [], _∷_, _++_, map, flatMap}
 use lib.ListN.{length, take, drop, set, replicate}
 use lib.Dec.{eqb, leb, ltb}
 use Rattle.model.specs.declared.Edge.{Edge}
-use Rattle.model.specs.declared.LayoutWritten.{LayoutWritten}
-use Rattle.model.specs.declared.EdgesCounted.{EdgesCounted}
 use Rattle.model.specs.declared.Call.{Call}
 use Rattle.model.specs.declared.Call.the-variants as call
 use Rattle.model.specs.Lists.{one, upto, sumOver}
@@ -17,16 +15,14 @@ use Rattle.model.specs.Layouts.{capacity, eachOnce, zeroFrom, symmetric,
 use Rattle.model.specs.Checks.{Check, refusal, checked, differ, limitFits, roomFor}
 use Rattle.model.specs.Edits.{withBit, withoutBit, atBothEnds, movedAfter}
 use Rattle.model.specs.Reading.{Shown, firstPair}
-use Rattle.model.specs.GreedyAppend.{Placing, placeAll}
+use Rattle.model.specs.GreedyAppend.{placeAll}
 use Rattle.model.specs.Search.{Search, Sift, Round, siftBest, bestCandidates, siftsOfAll, roundsWithin, reached, savedIn, movedIn, lastStill}
 use Rattle.model.specs.Runs.{Calls}
 use Rattle.model.specs.Sifting.{clockwiseFrom}
 use Rattle.model.specs.Charts.{fieldsOf, tagsOf, bodyOf, chartSize, chartEdges, chartOrder, sameList, chartTags, wordIn, padded}
 use Rattle.model.specs.Charts.{sizeChecks, endChecks, repeatChecks, placeChecks}
-use Rattle.model.specs.Writing.{writeAnswer}
 use Rattle.model.specs.WrittenCharts.{fieldBytes, edgeBytes}
 use Rattle.model.specs.Graph6.{sizePart, packed, pairBits, graph6Size, graph6Data, graph6Edges, graph6Checks}
-use Rattle.model.specs.EdgeCrossings.{countAnswer}
 use Rattle.model.specs.Histories.{sweepOf}
 
 -- ---- the ring

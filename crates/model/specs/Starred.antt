@@ -2,7 +2,7 @@
 -- (Note 3), lays that leave crossings (Note 6), and rings whose links weigh (Note 8): five tables, and one theorem about the definitions that covers them.
 use Prim.Native.Nat.{ℕ, _-_, _^_}
 use mathlib.Core.Bool.{Bool, true, false, Bool·beq, xor, _&&_}
-use mathlib.Core.List.{List, [], _∷_, _++_, map, flatMap}
+use mathlib.Core.List.{List, [], _∷_, _++_, flatMap}
 use lib.ListN.{length, replicate}
 use lib.Dec.{T, eqb}
 use Rattle.model.specs.declared.Edge.{Edge}

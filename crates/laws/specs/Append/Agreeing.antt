@@ -1,16 +1,15 @@
 -- Two weights that agree on all vertices: greedy append places alike by either.
 use Prim.Native.Nat.{ℕ, zero, suc, _+_, _*_, _<_}
 use native.Mathlib.Omega.{arith}
-use mathlib.Core.Path.{_≡_, refl, sym, ap, ap₂, _∙_, subst}
-use mathlib.Core.Bool.{Bool, true, false, not, cond}
+use mathlib.Core.Path.{_≡_, refl, ap, ap₂, _∙_}
+use mathlib.Core.Bool.{Bool, not, cond}
 use mathlib.Core.List.{List, [], _∷_, _++_}
 use lib.ListN.{length}
 use lib.Dec.{eqb, ltb}
-use Rattle.model.specs.Lists.{keep, sumOver, sumPairs}
-use Rattle.model.specs.GreedyAppend.{unplaced, waiting, isolated, hasEdges, bestOf, nextVertex, closing, open′, frontCrossings, backCrossings}
+use Rattle.model.specs.GreedyAppend.{waiting, isolated, hasEdges, nextVertex, closing, open′, frontCrossings, backCrossings}
 use Rattle.model.specs.GreedyAppend.{Placing, alone, placeFront, placeBack, placeVertex, placeAtBack, placeMore, placeLinked, placeAll}
 use Rattle.laws.specs.Sums.Lists.{All, none, also, all-append, all-mono, all-keep, sumOver-ext, sumPairs-ext}
-use Rattle.laws.specs.Append.Order.{Waiting, all-waiting, all-unplaced, next-among}
+use Rattle.laws.specs.Append.Order.{all-waiting, all-unplaced, next-among}
 use Rattle.laws.specs.Append.Calls.{either-end}
 
 module _ {n : ℕ} {U W : ℕ → ℕ → ℕ} (agree : (a b : ℕ) → a < n → b < n → U a b ≡ W a b) where

@@ -5,7 +5,7 @@ use native.Mathlib.Omega.{arith}
 use mathlib.Core.Path.{_≡_, sym, ap, ap₂, _∙_}
 use mathlib.Core.Bool.{false, not}
 use mathlib.Core.List.{List, _∷_, [], _++_, append-nil, append-assoc}
-use Rattle.model.specs.Lists.{sumOver, sumPairs}
+use Rattle.model.specs.Lists.{sumOver}
 use Rattle.model.specs.GreedyAppend.{waiting, isolated, hasEdges, closing, open′, frontCrossings, backCrossings, Placing, placeBack, placeAtBack}
 use Rattle.laws.specs.Sums.Lists.{All, none, also, all-append, all-mono, sumOver-ext, sumOver-scale, sumPairs-ext, sumPairs-scale}
 use Rattle.laws.specs.Layouts.Weights.{WithinWords}

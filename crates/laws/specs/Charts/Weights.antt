@@ -1,10 +1,10 @@
 -- The table of weights that listed edges give, where the weights are W of their ends; and that weights listed beside edges are such.
-use Prim.Native.Nat.{ℕ, zero, suc, _+_, _*_, _/_, _%_, _≤_, _<_, min, max}
+use Prim.Native.Nat.{ℕ, _+_, _*_, _/_, _%_, _≤_, _<_, min, max}
 use native.Mathlib.Nat.{min-comm, max-comm, min-eq-left, min-eq-right, max-eq-left, max-eq-right, le-of-lt, lt-of-lt-of-le}
 use native.Mathlib.Decide.{ℕ-discrete}
 use native.Mathlib.Omega.{arith}
 use mathlib.Core.Path.{_≡_, refl, sym, ap, ap₂, _∙_, subst}
-use mathlib.Core.Bool.{Bool, true, false, not, cond, _&&_, _||_, true≢false, false≢true}
+use mathlib.Core.Bool.{Bool, true, false, not, cond, _||_, false≢true}
 use mathlib.Core.List.{List, [], _∷_, _++_, map, append-nil, append-assoc}
 use lib.ListN.{length, getD, replicate, length-set, length-replicate, getD-replicate}
 use lib.Seq.{ext-getD}
@@ -12,7 +12,7 @@ use lib.Dec.{T, eqb, ltb}
 use borrow.Author.Tests.{ltb-true, eqb-true, eq-eqb, lt-ltb, not-true}
 use Rattle.model.specs.declared.Edge.{Edge}
 use Rattle.model.specs.Lists.{every, any, noRepeats}
-use Rattle.model.specs.Crossings.{linked, edgeWeight}
+use Rattle.model.specs.Crossings.{edgeWeight}
 use Rattle.model.specs.Layouts.{tablePlaces, tableWeight, isWeight}
 use Rattle.model.specs.Edits.{bothWays}
 use Rattle.model.specs.Charts.{sameEdge, edgeWithin, joins, withWeights, tableIn}
@@ -24,7 +24,7 @@ use Rattle.laws.specs.Tables.Fits.{Fits, IsWeight, is-weight}
 use Rattle.laws.specs.Tables.Edits.{both-size, both-there, both-back, both-other}
 use Rattle.laws.specs.Layouts.EdgeEdits.{both}
 use Rattle.laws.specs.Layouts.FirstCrossing.{self-same}
-use Rattle.laws.specs.Charts.Ends.{Ends, joins-none, joins-swap, within-mono}
+use Rattle.laws.specs.Charts.Ends.{Ends, joins-none, joins-swap}
 use Rattle.laws.specs.Charts.Words.{adjacencyOf, adjacency-linked}
 
 -- ---- the table, entry by entry

@@ -6,7 +6,7 @@ use mathlib.Core.List.{List, map, flatMap}
 use lib.Dec.{ltb}
 use Rattle.model.specs.declared.Edge.{Edge}
 use Rattle.model.specs.Lists.{one, upto, keep, sumPairs}
-use Rattle.model.specs.Crossings.{linked, edges, crosses, adjacent, weightedEdges, edgeWeight, crossingWeight, crossings}
+use Rattle.model.specs.Crossings.{linked, edges, crosses, adjacent, weightedEdges, crossingWeight, crossings}
 use Rattle.laws.specs.Sums.Indicators.{both-right}
 use Rattle.laws.specs.Sums.Lists.{All, all-upto, all-kept, all-map, all-flatMap, sumPairs-ext, flatMap-ext, keep-ext}
 use Rattle.laws.specs.Crossings.Edges.{edge}

@@ -51,10 +51,6 @@ mostCrossings = 635376
 abbrev pub mostWeighted : ℕ
 mostWeighted = 41315324400
 
--- what one place, or one step of greedy append, can add at most: 64 times 64 for each of 64
-abbrev pub mostOfPlace : ℕ
-mostOfPlace = 262144
-
 pub quadruples-most : quadruples 64 ≡ mostCrossings
 unfolding quadruples pairSum sum one
 quadruples-most = refl

@@ -9,7 +9,6 @@ use lib.Seq.{length-front, getD-drop, take-at}
 use lib.Dec.{T}
 use Rattle.model.specs.declared.Layout.{Layout}
 use Rattle.model.specs.declared.Changed.{Changed}
-use Rattle.model.specs.Lists.{one}
 use Rattle.model.specs.Crossings.{crossings}
 use Rattle.model.specs.Layouts.{vertexOrder, weight, crossingsOf, valid, modulus, carried, changed, reordered, uncounted}
 use Rattle.model.specs.Checks.{refusal}

@@ -2,11 +2,11 @@
 -- weight-most (Validity).
 use Prim.Native.Nat.{ℕ, _<_}
 use native.Mathlib.Omega.{arith}
-use mathlib.Core.Path.{_≡_, sym, ap, _∙_}
-use mathlib.Core.Bool.{Bool, true, false}
+use mathlib.Core.Path.{_≡_, ap, _∙_}
+use mathlib.Core.Bool.{false}
 use mathlib.Core.List.{List}
 use lib.ListN.{getD}
-use lib.Dec.{T, eqb, ltb}
+use lib.Dec.{T, eqb}
 use borrow.Author.Tests.{eqb-true, not-false, ltb-false}
 use Rattle.model.specs.declared.Layout.{Layout}
 use Rattle.model.specs.Lists.{one}

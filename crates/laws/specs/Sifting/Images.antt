@@ -1,10 +1,9 @@
 -- One kind of layout seen as another: where a function keeps the size, the cost and the candidates, it keeps sifts, rounds and rounds up to a limit, with all
 -- that is counted of them; and the steps of a list of calls, where it keeps what each call answers.
 use Prim.Native.Nat.{ℕ, zero, suc, _+_, _-_, min}
-use mathlib.Core.Path.{_≡_, refl, sym, ap, ap₂, _∙_, subst}
+use mathlib.Core.Path.{_≡_, refl, sym, ap, ap₂, _∙_}
 use mathlib.Core.Bool.{Bool, true, false, cond}
 use mathlib.Core.List.{List, [], _∷_, _++_, map, flatMap}
-use lib.ListN.{length, length-map}
 use lib.Dec.{eqb, ltb}
 use Rattle.model.specs.Lists.{one, upto, firstWith, sumOver, All, none, also}
 use Rattle.model.specs.Search.{least, countWith, Search, Sift, Round, reached, movedIn, lastStill, siftBest, siftMoves, siftAt, bestCandidates}

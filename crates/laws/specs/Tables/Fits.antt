@@ -12,7 +12,7 @@ use lib.Dec.{T, eqb, leb, ltb}
 use borrow.Author.Tests.{le-leb, lt-ltb, le-ltb, eq-eqb, eqb-true, ltb-true, ltb-false, leb-true}
 use Rattle.model.specs.Lists.{upto, every}
 use Rattle.model.specs.Crossings.{linked}
-use Rattle.model.specs.Layouts.{capacity, tableWeight, isWeight, rowOf, evenWeights, weighsEdges, blankFrom, weightsFit, loopless}
+use Rattle.model.specs.Layouts.{tableWeight, isWeight, rowOf, evenWeights, weighsEdges, blankFrom, weightsFit, loopless}
 use Rattle.laws.specs.Sums.Indicators.{T-true, and-intro, and-left, and-right}
 use Rattle.laws.specs.Sums.Every.{every-upto, upto-every}
 use Rattle.laws.specs.Sums.Pairs.{Symmetric}
