@@ -1,7 +1,7 @@
 -- Reading a chart: the questions that have passed so far, what is known then, and what is read where one fails or all have passed.
 use Prim.Native.Nat.{ℕ, zero, suc, _+_, _≤_}
 use native.Mathlib.Nat.{not-suc-le-zero, le-of-suc-le-suc}
-use mathlib.Core.Path.{_≡_, refl, sym, ap, ap₂, _∙_, subst}
+use mathlib.Core.Path.{_≡_, refl, sym, ap, ap₂, _∙_}
 use mathlib.Core.Bool.{Bool, true, false, cond}
 use mathlib.Core.List.{List, [], _∷_, _++_, map}
 use lib.ListN.{length, getD, take, drop, replicate, take-append-drop}
@@ -13,12 +13,11 @@ use Rattle.model.specs.declared.Asked.{Asked}
 use Rattle.model.specs.declared.Asked.the-variants as asks
 use Rattle.model.specs.declared.SizeFound.{SizeFound}
 use Rattle.model.specs.declared.SizeFound.the-variants as size
-use Rattle.model.specs.declared.Layout.{Layout}
-use Rattle.model.specs.Lists.{every, noRepeats}
+use Rattle.model.specs.Lists.{every}
 use Rattle.model.specs.Crossings.{edgeWeight}
 use Rattle.model.specs.Layouts.{eachOnce}
 use Rattle.model.specs.Checks.{Check, refusal, byRefusal, checked}
-use Rattle.model.specs.Charts.{bodyOf, chartSize, chartEdges, chartOrder, chartWeights, hasWeights, edgesIn, edgeWithin, sameEdge, withWeights, tableIn}
+use Rattle.model.specs.Charts.{bodyOf, chartSize, chartEdges, chartOrder, chartWeights, hasWeights, edgesIn, edgeWithin, withWeights, tableIn}
 use Rattle.model.specs.Charts.{chartLayout, readOf}
 use Rattle.model.specs.Charts.{Answer, accept, refuse, asked, sizeFound, answer, divisionAnswer, tagsAnswer, sizeAnswer}
 use Rattle.model.specs.Charts.{chartChecks, sizeChecks, endChecks, repeatChecks, placeChecks, weightChecks}

@@ -1,23 +1,21 @@
 -- Question 7: the edges of a chart joined in the words one after the other.
 use Prim.Native.Nat.{ℕ, _+_, _%_, _≤_, _<_, zero-le}
-use native.Mathlib.Nat.{mod-eq-of-lt}
 use native.Mathlib.Omega.{arith}
 use mathlib.Core.Path.{_≡_, refl, sym, ap, ap₂, _∙_}
 use mathlib.Core.Bool.{Bool, true, false, not, _&&_}
-use mathlib.Core.List.{List, [], _∷_, _++_, map, append-assoc, append-nil}
-use lib.ListN.{length, getD, set, drop, replicate, length-map, List·getD-map}
+use mathlib.Core.List.{List, [], _∷_, _++_, append-assoc, append-nil}
+use lib.ListN.{length, getD, drop, replicate}
 use lib.Dec.{eqb}
 use Rattle.model.specs.declared.Edge.{Edge}
 use Rattle.model.specs.declared.Asked.the-variants as asks
-use Rattle.model.specs.Lists.{one, every, any, noRepeats}
+use Rattle.model.specs.Lists.{every, any, noRepeats}
 use Rattle.model.specs.Crossings.{bit, linked}
 use Rattle.model.specs.Edits.{withBit, atBothEnds}
 use Rattle.model.specs.Checks.{refusal, byRefusal, checked}
 use Rattle.model.specs.Charts.{edgesIn, edgeWithin, joins, sameEdge, asked, answer, repeatChecks}
-use Rattle.laws.specs.Sums.Indicators.{both-left, both-right}
 use Rattle.laws.specs.Layouts.EdgeEdits.{ends-within}
 use Rattle.laws.specs.Sums.Any.{noRepeats-last, noRepeats-more}
-use Rattle.laws.specs.Charts.Ends.{edge, edge-ends, edges-next, edges-last}
+use Rattle.laws.specs.Charts.Ends.{edge, edges-next, edges-last}
 use Rattle.laws.specs.Charts.Wrapped.{wrapped, wrapped-length, wrapped-at, wrapped-edges}
 use Rattle.laws.specs.Charts.Words.{adjacencyOf, adjacency-linked, no-edges, edge-joined}
 

@@ -4,14 +4,14 @@ use native.Mathlib.Nat.{mod-eq-of-lt, le-antisymm, le-of-eq, add-zero}
 use native.Mathlib.Decide.{decLt}
 use native.Mathlib.Numerals.{add-one}
 use native.Mathlib.Omega.{arith}
-use mathlib.Core.Path.{_≡_, refl, sym, ap, ap₂, _∙_, subst}
+use mathlib.Core.Path.{_≡_, sym, ap, ap₂, _∙_}
 use mathlib.Core.Bool.{Bool, true, false}
 use mathlib.Core.List.{List, [], _∷_, _++_, map, map-append, map-map}
 use lib.ListN.{length, getD, set, length-map}
 use lib.Dec.{ltb}
 use Rattle.model.specs.declared.Edge.{Edge}
 use Rattle.model.specs.Lists.{upto}
-use Rattle.model.specs.Crossings.{edges, edgeWeight}
+use Rattle.model.specs.Crossings.{edgeWeight}
 use Rattle.model.specs.Layouts.{tableWeight}
 use Rattle.model.specs.WrittenCharts.{edgeBytes}
 use Rattle.laws.specs.Sums.Lists.{All, none, all-mono, map-ext}
@@ -21,7 +21,7 @@ use Rattle.laws.specs.Buffers.Writing.{Written, written-none, written-byte, wri
 use Rattle.laws.specs.Buffers.EdgeBytes.{edgeAt, edge-bytes-length}
 use Rattle.text.specs.Room.{Put, put-full, put-fits, no-room, has-room}
 use Rattle.edge_list.specs.Rows.{listedEdges, listed-few, listed-many}
-use Rattle.edge_list.specs.Listed.{listed, length-listed, listed-bytes}
+use Rattle.edge_list.specs.Listed.{listed, listed-bytes}
 
 -- of the first count edges
 unfoldable pub weighed : List ℕ → List ℕ → ℕ → List ℕ
