@@ -1,6 +1,7 @@
 // Reading charts: the questions of document 01, each asked of the whole input before the next, and the
 // layout (ring) that an accepted chart gives. chart_questions has 1 to 4, chart_ends 5 and 6, chart_bodies
-// 7 and 8, chart_weights 24 and 25.
+// 7 and 8, chart_weights 24 and 25. PassedFirst k says that the first k of these have passed, SizeRead k
+// that n has been read besides.
 use chart_questions::body_of;
 use model::Asked;
 use model::LayoutRead;

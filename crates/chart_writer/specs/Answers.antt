@@ -37,7 +37,8 @@ counted-is l t {unit} u =
     rw (le-leb (l .n) 64 (sound l t .small), u) (ap (λ (k : ℕ). 10 + 2 * length es + l .n + k) (sym last) ∙ sym (chart-size l t))
 
 -- whether all edges weigh 1
-pub unit-is : (l : Layout) {unit : Bool} → unit ≡ every (eqb 1) (map (edgeWeight (tableWeight (l .weights))) (edges (l .n) (l .adjacency))) → unit ≡ unitWeighted l
+pub unit-is : (l : Layout) {unit : Bool}
+    → unit ≡ every (eqb 1) (map (edgeWeight (tableWeight (l .weights))) (edges (l .n) (l .adjacency))) → unit ≡ unitWeighted l
 unfolding unitWeighted weightsOf weight
 unit-is l e = e
 

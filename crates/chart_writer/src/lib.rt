@@ -99,7 +99,8 @@ fn put_weights(
     weights: &[u8; 4096],
 ) -> usize
     requires { ⌜ (n ≤ 64) × (at + weightRoom unit (length (edges n (now adjacency))) ≤ length (now out)) ⌝ }
-    ensures { λ r. ⌜ Written (now (out .entry)) at (weightBytes unit (tableWeight (now (weights .entry))) (edges n (now (adjacency .entry)))) (now (out .exit)) r ⌝ }
+    ensures { λ r. let W = tableWeight (now (weights .entry)) in
+        ⌜ Written (now (out .entry)) at (weightBytes unit W (edges n (now (adjacency .entry)))) (now (out .exit)) r ⌝ }
 {
     if unit {
         return at;

@@ -2,7 +2,7 @@ use borrow.Author.Needs.{needs}
 use mathlib.Core.Path.{_∙_}
 use lib.Dec.{lit≤}
 use Rattle.laws.specs.Charts.Passes.{asked-number}
-use Rattle.chart.specs.Reading.{SizeRead, read-weighed, read-unweighed, earlier, table-read, read-all}
+use Rattle.chart.specs.Reading.{read-weighed, read-unweighed, earlier, table-read, read-all}
 use Rattle.chart.proofs.read_weights.Statement.{statement}
 use Rattle.chart.proofs.read_weights.Tie as tie
 

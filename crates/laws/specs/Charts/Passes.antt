@@ -122,15 +122,3 @@ module _ {xs : List Check} (m : Numbered xs) (ys : List Check) (x : LayoutRead) 
 -- the last of the questions passes
 pub last-passes : {c : Check} → All (λ c. c .passes ≡ true) (c ∷ []) → c .passes ≡ true
 last-passes (also p none) = p
-
-pub second-passes : {c d : Check} → All (λ c. c .passes ≡ true) (c ∷ d ∷ []) → d .passes ≡ true
-second-passes (also p (also q none)) = q
-
--- two answers that are the same where all questions pass
-pub same-checked : (cs : List Check) {x y : LayoutRead} → (refusal cs ≡ 0 → x ≡ y) → checked cs x refusedRead ≡ checked cs y refusedRead
-unfolding checked byRefusal
-same-checked cs {x} {y} h = by-number (refusal cs) h
-  where
-    by-number : (k : ℕ) → (k ≡ 0 → x ≡ y) → byRefusal k x refusedRead ≡ byRefusal k y refusedRead
-    by-number zero e = e refl
-    by-number (suc k) e = refl
