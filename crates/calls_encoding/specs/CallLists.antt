@@ -86,7 +86,8 @@ call-there (suc k) s i h = by-first (firstCall s) refl i h (call-there k (drop c
     by-first decoded.End e i h r = absurd (not-suc-le-zero h)
 
 -- a call at the place behind the last one counted is one more
-one-more : (k : ℕ) (s : List ℕ) (i : ℕ) {c : Call} → i < k → i ≤ length (callsIn k s) → firstCall (drop (callWidth * i) s) ≡ decoded.Next c → i < length (callsIn k s)
+one-more : (k : ℕ) (s : List ℕ) (i : ℕ) {c : Call} → i < k → i ≤ length (callsIn k s) → firstCall (drop (callWidth * i) s) ≡ decoded.Next c
+    → i < length (callsIn k s)
 unfolding callsIn followed
 one-more zero s i b h e = absurd (not-suc-le-zero b)
 one-more (suc k) s i {c} b h e = by-first (firstCall s) refl i b h e (λ j. one-more k (drop callWidth s) j)

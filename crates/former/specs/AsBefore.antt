@@ -29,15 +29,16 @@ use Rattle.model.specs.WrittenCharts.{unitWeighted}
 use Rattle.model.specs.Histories.{Start, Step, steps, played, ringCalls, ofAdded, ofChanged, ofAppended, ofSifted, ofRounded, ofConverged, answerOf}
 use Rattle.model.specs.Runs.{StepOf, stepAt, stepsFrom, playedFrom}
 use Rattle.model.specs.Former.{FormerLayout, FormerOutcome, formerOutcome, formerCrossings, formerValid, formerChanged, formerReordered}
-use Rattle.model.specs.Former.{formerlyChecked, wasValid, wasVertex, wasUnlinked, wasLinked, formerAdd, formerLink, formerUnlink, formerMove, formerLay, formerRing}
-use Rattle.model.specs.Former.{formerOptima, formerSift, formerRound, formerSettle, formerAnswer, formerCalls}
+use Rattle.model.specs.Former.{formerlyChecked, wasValid, wasVertex, wasUnlinked, wasLinked, formerAdd, formerLink, formerUnlink, formerMove}
+use Rattle.model.specs.Former.{formerLay, formerRing, formerOptima, formerSift, formerRound, formerSettle, formerAnswer, formerCalls}
 use Rattle.laws.specs.Sums.Indicators.{T-true, and-left}
 use Rattle.laws.specs.Layouts.Refusals.{when-accepted, changed-accepted, behind-passes, vertex-passed}
 use Rattle.laws.specs.Append.Agreeing.{all-same}
 use Rattle.laws.specs.Sifting.Images.{shownRound, sift-shown, sift-good, best-shown, all-shown, all-good, moved-shown, saved-shown, bests-shown, sifts-reach}
 use Rattle.laws.specs.Sifting.Images.{rounds-shown, rounds-good, rounds-reach, last-shown, swept-shown, swept-good, steps-shown, played-shown}
 use Rattle.history.specs.StepLaws.{Right, start-right, call-keeps}
-use Rattle.former.specs.Units.{Unit, Agreeing, unit-agrees, agrees-unit, unit-weighted, UnitCall, adding, linking, unlinking, moving, laying, sifting, sifting-round, converging, call-unit}
+use Rattle.former.specs.Units.{Unit, Agreeing, unit-agrees, agrees-unit, unit-weighted, UnitCall, adding, linking, unlinking, moving}
+use Rattle.former.specs.Units.{laying, sifting, sifting-round, converging, call-unit}
 use Rattle.former.specs.Forgetting.{forget, forgetOutcome, forgotten-crossings, forgotten-changed, forgotten-reordered, shows}
 
 -- ---- checks that are the same

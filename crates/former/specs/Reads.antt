@@ -70,7 +70,8 @@ module _ (l : Layout) (o : OfWeightOne l) where
 
   -- each crossing counts one
   same-number : (e : Edge) → edgeWeight (weight l) e ≡ 1
-      → crossingsWith (weight l) (vertexOrder l) (edges (l .n) (l .adjacency)) e ≡ sumOver (λ f. one (crosses (vertexOrder l) e f)) (edges (l .n) (l .adjacency))
+      → crossingsWith (weight l) (vertexOrder l) (edges (l .n) (l .adjacency)) e
+      ≡ sumOver (λ f. one (crosses (vertexOrder l) e f)) (edges (l .n) (l .adjacency))
   unfolding crossingsWith crossingWeight
   same-number e p =
       sumOver-ext (crossingWeight (weight l) (vertexOrder l) e) (λ f. one (crosses (vertexOrder l) e f)) (edges-one l here)

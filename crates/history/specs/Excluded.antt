@@ -26,7 +26,8 @@ vertices = refl
 
 -- one crossing; with 0 behind 1 none
 one-crossing : crossingsOf firstRing ≡ 1
-unfolding tableWeight withWeights tableIn bothWays weightedLayoutOf firstRing layoutOf first _to_ one upto any keep sumPairs sumOver noRepeats place bit linked between alternate crosses adjacent weightedEdges
+unfolding tableWeight withWeights tableIn bothWays weightedLayoutOf firstRing layoutOf first _to_ one upto any keep sumPairs sumOver noRepeats place bit
+    linked between alternate crosses adjacent weightedEdges
     crossingWeight crossings vertexOrder weight crossingsOf sameEdge joins wordIn flatMap xor
 one-crossing = refl
 

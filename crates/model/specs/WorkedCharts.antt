@@ -43,9 +43,9 @@ pub worked-writes : let first : List ℕ = 0 ∷ 2 ∷ 1 ∷ 3 ∷ [] in
     && writesInto l 20 0 (chartWithLinks first)
     && writesInto invalid 0 11 []
     && writesInto invalid 20 11 [])
-unfolding rowOf isWeight evenWeights weighsEdges blankFrom weightsFit tableWeight withWeights tableIn bothWays weight hasWeights chartWeights weightsOf unitWeighted weightField
-    chartWithLinks writesLinks writesInto chartOf fieldBytes edgeBytes writeOf writtenBytes chartLayout chartSize chartEdges chartOrder bodyOf
-    fieldsOf fieldsIn startsWithField bodyLength firstField edgesIn wordIn joins sameEdge sameList adjacent weightedEdges crossingWeight crossings
-    crosses edges linked bit between alternate upto every any keep one sumOver sumPairs noRepeats occurrences place refusal byRefusal checked isValid
-    roomFor valid eachOnce zeroFrom symmetric loopless bitsBelow vertexOrder flatMap xor
+unfolding rowOf isWeight evenWeights weighsEdges blankFrom weightsFit tableWeight withWeights tableIn bothWays weight hasWeights chartWeights
+    weightsOf unitWeighted weightField chartWithLinks writesLinks writesInto chartOf fieldBytes edgeBytes writeOf writtenBytes chartLayout chartSize
+    chartEdges chartOrder bodyOf fieldsOf fieldsIn startsWithField bodyLength firstField edgesIn wordIn joins sameEdge sameList adjacent weightedEdges
+    crossingWeight crossings crosses edges linked bit between alternate upto every any keep one sumOver sumPairs noRepeats occurrences place refusal
+    byRefusal checked isValid roomFor valid eachOnce zeroFrom symmetric loopless bitsBelow vertexOrder flatMap xor
 worked-writes = tt

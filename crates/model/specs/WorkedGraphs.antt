@@ -34,10 +34,10 @@ pub worked-imports : T (importsAs (63 ∷ []) 0 [] 0
     && importsAs (65 ∷ 95 ∷ []) 2 (0 ∷ 1 ∷ []) 0
     && importsAs (67 ∷ 81 ∷ []) 4 (0 ∷ 2 ∷ 1 ∷ 3 ∷ []) 1
     && importsAs (68 ∷ 81 ∷ 99 ∷ []) 5 (0 ∷ 2 ∷ 1 ∷ 3 ∷ 0 ∷ 4 ∷ 3 ∷ 4 ∷ []) 1)
-unfolding tableWeight withWeights tableIn bothWays importsAs byteOf bytesFor packed bitsOf unpacked holdsSix sizePart pairsByHigher pairBits chosen graph6Of startsWithSize graph6Size
-    graph6Data graph6SizeChecks dataChecks paddingChecks graph6Checks graph6Edges graph6Layout edgeBytes wordIn joins sameEdge sameList weight
-    adjacent weightedEdges crossingWeight crossings crosses edges linked bit between alternate upto every any keep firstWith one sumOver sumPairs
-    noRepeats place refusal flatMap xor
+unfolding tableWeight withWeights tableIn bothWays importsAs byteOf bytesFor packed bitsOf unpacked holdsSix sizePart pairsByHigher pairBits chosen
+    graph6Of startsWithSize graph6Size graph6Data graph6SizeChecks dataChecks paddingChecks graph6Checks graph6Edges graph6Layout edgeBytes wordIn
+    joins sameEdge sameList weight adjacent weightedEdges crossingWeight crossings crosses edges linked bit between alternate upto every any keep
+    firstWith one sumOver sumPairs noRepeats place refusal flatMap xor
 worked-imports = tt
 
 -- are these bytes refused with this number, or accepted with 0?

@@ -39,7 +39,8 @@ pub worked-tables : let l = layoutOf first in
     && counts (layoutOf fan) 3 0 3 (1 ∷ 1 ∷ 2 ∷ [])
     && counts (layoutOf (record { vertices = 5; links = complete 5; order = 0 ∷ 1 ∷ 2 ∷ 3 ∷ 4 ∷ [] })) 11 0 10
     (0 ∷ 2 ∷ 2 ∷ 0 ∷ 0 ∷ 2 ∷ 2 ∷ 0 ∷ 2 ∷ 0 ∷ 7 ∷ []))
-unfolding rowOf isWeight evenWeights weighsEdges blankFrom weightsFit tableWeight withWeights tableIn bothWays weightedLayoutOf counts edgeCrossingsOf crossingTable edgeCrossings crossingsWith layoutOf first complete _to_ sameList sameEdge joins wordIn refusal
-    byRefusal checked isValid roomFor valid eachOnce zeroFrom symmetric loopless bitsBelow vertexOrder weight adjacent weightedEdges crossingWeight
-    crossings crosses edges linked bit between alternate upto every any keep one sumOver sumPairs noRepeats occurrences place flatMap xor
+unfolding rowOf isWeight evenWeights weighsEdges blankFrom weightsFit tableWeight withWeights tableIn bothWays weightedLayoutOf counts edgeCrossingsOf
+    crossingTable edgeCrossings crossingsWith layoutOf first complete _to_ sameList sameEdge joins wordIn refusal byRefusal checked isValid roomFor
+    valid eachOnce zeroFrom symmetric loopless bitsBelow vertexOrder weight adjacent weightedEdges crossingWeight crossings crosses edges linked bit
+    between alternate upto every any keep one sumOver sumPairs noRepeats occurrences place flatMap xor
 worked-tables = tt

@@ -14,8 +14,8 @@ use Rattle.model.specs.Crossings.{weightedEdges, edgeWeight, crossings}
 use Rattle.model.specs.Layouts.{emptyLayout, vertexOrder, crossingsOf, eachOnce, zeroFrom, symmetric, loopless, bitsBelow}
 use Rattle.model.specs.Layouts.{evenWeights, weighsEdges, blankFrom, weightsFit, valid}
 use Rattle.model.specs.Checks.{refusal}
-use Rattle.model.specs.Charts.{bodyOf, chartSize, chartEdges, chartOrder, sameEdge, edgeWithin, joins, chartChecks, sizeChecks, endChecks, repeatChecks, placeChecks}
-use Rattle.model.specs.Charts.{chartWeights, weightChecks, edgesIn, tableIn, layoutWith, chartLayout, readOf}
+use Rattle.model.specs.Charts.{bodyOf, chartSize, chartEdges, chartOrder, sameEdge, edgeWithin, joins, chartChecks}
+use Rattle.model.specs.Charts.{sizeChecks, endChecks, repeatChecks, placeChecks, chartWeights, weightChecks, edgesIn, tableIn, layoutWith, chartLayout, readOf}
 use Rattle.laws.specs.Sums.Lists.{All, none, also}
 use Rattle.laws.specs.Layouts.Sizes.{Sized}
 use Rattle.laws.specs.Layouts.Refusals.{Numbered, all-pass}
@@ -39,7 +39,9 @@ read-is s e = read-as-accepted (chartChecks s) (chartLayout s) e
 
 pub chart-numbered : (s : List ℕ) → Numbered (chartChecks s)
 unfolding chartChecks sizeChecks endChecks repeatChecks placeChecks weightChecks
-chart-numbered s = also (lit< tt) (also (lit< tt) (also (lit< tt) (also (lit< tt) (also (lit< tt) (also (lit< tt) (also (lit< tt) (also (lit< tt) (also (lit< tt) (also (lit< tt) none)))))))))
+chart-numbered s =
+    also (lit< tt) (also (lit< tt) (also (lit< tt) (also (lit< tt) (also (lit< tt)
+    (also (lit< tt) (also (lit< tt) (also (lit< tt) (also (lit< tt) (also (lit< tt) none)))))))))
 
 -- the weight of an edge of the chart, by its ends
 abbrev pub chartWeight : List ℕ → ℕ → ℕ → ℕ

@@ -101,7 +101,8 @@ module _ {W : ℕ → ℕ → ℕ} where
               | yes p ↦
                   rw (p .0, p .1)
                   (both-there table (e .low) (e .high) (edgeWeight W e) (w .size) low (r .below) (λ z. omega (arith, r .rises))
-                  ∙ sym (rw (any-new (joins (e .low) (e .high)) es e (joins-there r)) (ap₂ W (min-eq-left (le-of-lt (r .rises))) (max-eq-right (le-of-lt (r .rises))))))
+                  ∙ sym (rw (any-new (joins (e .low) (e .high)) es e (joins-there r))
+                  (ap₂ W (min-eq-left (le-of-lt (r .rises))) (max-eq-right (le-of-lt (r .rises))))))
               | no p ↦
                   elim (both (ℕ-discrete u (e .high)) (ℕ-discrete v (e .low))) [
                     | yes q ↦
