@@ -5,8 +5,8 @@
 use std::fmt::{Debug, Display};
 
 use baseline::WithoutOptima;
-use layouts::{chart, fan, graph6, most_edges, Random};
-use rostulanda::ffi::{Written, ANSWER_NUMBERS};
+use layouts::{chart, fan, graph6, most_edges, pairs, Random, Weights};
+use rostulanda::ffi::{Written, ANSWER_NUMBERS, CALL_NUMBERS};
 use rostulanda::{Fields, Start, MOST_EDGES};
 use second::calls::{self, Answer};
 use second::layout::Layout;
@@ -141,14 +141,20 @@ impl Comparison {
         self.proved("empty", proved::empty(), Layout::EMPTY)
     }
 
-    /// Every number of vertices, with no edges, with all, and with some.
+    /// Every number of vertices, with no edges, with all, and with some, of weight 1
+    /// and of any.
     fn all_sizes(&mut self) -> Outcome {
         for n in 0..=64 {
             let most = most_edges(n);
             let few = most.min(2 * usize::from(n));
             let kinds = [0, few, self.random.below(most + 1), most];
-            for edges in [kinds[usize::from(n % 4)], kinds[2]] {
-                let layout = self.random.layout(n, edges);
+            let weights = [Weights::Ones, Weights::Any];
+            let weights = [weights[usize::from(n / 4 % 2)], weights[usize::from(n % 2)]];
+            for (edges, weights) in [kinds[usize::from(n % 4)], kinds[2]]
+                .into_iter()
+                .zip(weights)
+            {
+                let layout = self.random.layout(n, edges, weights);
                 self.valid(layout)?;
                 self.any(layout)?;
                 self.changed(layout)?;
@@ -159,8 +165,8 @@ impl Comparison {
 
     /// A layout whose count can be any.
     fn valid(&mut self, mut layout: Layout) -> Outcome {
-        let carried = self.random.below(1 << 32) as u32;
-        for count in [0, u32::MAX, carried] {
+        let carried = self.random.any();
+        for count in [0, u64::MAX, carried] {
             layout.count = count;
             self.edits(layout)?;
             self.written(layout)?;
@@ -168,11 +174,13 @@ impl Comparison {
         Ok(())
     }
 
-    /// Layouts with one field changed. Most of them are not valid.
+    /// Layouts with one field changed, or an edge or its weight. Most of them are not
+    /// valid.
     fn changed(&mut self, layout: Layout) -> Outcome {
         let n = layout.n as usize;
         let [v, w, place] = [64, 64, 64].map(|bound| self.random.below(bound));
-        let mut changed = [layout; 9];
+        let weight = self.random.weight();
+        let mut changed = [layout; 13];
         changed[0].n = 65;
         changed[1].n = u64::MAX;
         changed[2].n = self.random.below(64) as u64;
@@ -181,7 +189,14 @@ impl Comparison {
         changed[5].order[place] = 255;
         changed[6].adjacency[v] ^= 1 << w;
         changed[7].adjacency[v] ^= 1 << v;
-        changed[8].flip_edge(63, w % 63);
+        flip_edge(&mut changed[8], 63, w % 63, weight);
+        changed[9].weights[v][w] ^= weight;
+        changed[10].weights[v][w] ^= weight;
+        changed[10].weights[w][v] ^= weight;
+        changed[11].weights[v][v] = weight;
+        if let Some((a, b)) = self.edge(&layout) {
+            changed[12].put_edge(a, b, weight);
+        }
         changed.into_iter().try_for_each(|layout| self.any(layout))
     }
 
@@ -192,6 +207,13 @@ impl Comparison {
             1 => u64::MAX,
             _ => self.random.below(layout.n.clamp(1, 64) as usize) as u64,
         }
+    }
+
+    /// The ends of an edge, if there is one.
+    fn edge(&mut self, layout: &Layout) -> Option<(usize, usize)> {
+        let edges = pairs(layout, true);
+        let chosen = self.random.below(edges.len().max(1));
+        edges.get(chosen).map(|&(a, b)| (a as usize, b as usize))
     }
 
     /// All calls on a layout, valid or not.
@@ -224,8 +246,10 @@ impl Comparison {
         let n = l.n.min(64) as usize;
         let ends: u32 = l.adjacency.iter().map(|word| word.count_ones()).sum();
         let ends = ends as usize;
+        // A header, and a weight for each edge.
+        let weights = if l.is_weighted() { 3 + ends / 2 } else { 0 };
         // Three headers, n, the ends of the edges, the order.
-        self.written_by(WRITE, l, 10 + ends + n)?;
+        self.written_by(WRITE, l, 10 + ends + n + weights)?;
         // The size, and six pairs in a byte.
         let size = if n < 63 { 1 } else { 4 };
         self.written_by(EXPORT, l, size + most_edges(n as u8).div_ceil(6))?;
@@ -239,7 +263,7 @@ impl Comparison {
         let lent = &fields(&l);
         let lengths = [0, shorter, edges.saturating_sub(1), edges, edges + 1];
         for length in lengths.into_iter().chain([MOST_EDGES, LONG]) {
-            for fill in [0xA5, u32::MAX] {
+            for fill in [0xA5, u64::MAX] {
                 self.with_lent(
                     "perlink",
                     vec![fill; length],
@@ -274,11 +298,12 @@ impl Comparison {
     fn edits(&mut self, l: Layout) -> Outcome {
         let lent = &fields(&l);
         self.proved("add", proved::add_vertex(lent).told(), calls::add_vertex(l))?;
-        for _ in 0..4 {
+        for weight in [0, 1, 255, self.random.weight()] {
             let (a, b) = (self.vertex(&l), self.vertex(&l));
             let call = |name| format!("{name} {a} {b}");
-            let answer = proved::add_edge(lent, a, b).told();
-            self.proved(call("link"), answer, calls::add_edge(l, a, b))?;
+            let answer = proved::add_edge(lent, a, b, weight).told();
+            let second = calls::add_edge(l, a, b, weight);
+            self.proved(format!("link {a} {b} {weight}"), answer, second)?;
             let answer = proved::remove_edge(lent, a, b).told();
             self.proved(call("unlink"), answer, calls::remove_edge(l, a, b))?;
             let answer = proved::move_after(lent, a, b).told();
@@ -334,9 +359,10 @@ impl Comparison {
             let all = ANSWER_NUMBERS * LENGTH;
             let (chart, graph6) = (self.chart(SMALL as u8), self.graph6(SMALL as u8));
             let mut ended = numbers.to_vec();
-            ended[3 * self.random.below(LENGTH)] = [0, 15, 24, u64::MAX][seed as usize % 4];
+            ended[CALL_NUMBERS * self.random.below(LENGTH)] =
+                [0, 15, 24, u64::MAX][seed as usize % 4];
             self.list(Start::Empty, numbers, all)?;
-            let cut = &numbers[..3 * LENGTH - 2];
+            let cut = &numbers[..CALL_NUMBERS * (LENGTH - 1) + 1];
             self.list(Start::Empty, cut, all - ANSWER_NUMBERS)?;
             self.list(Start::Empty, &ended, all)?;
             self.list(Start::Chart(&chart[1..]), numbers, all)?;
@@ -344,7 +370,7 @@ impl Comparison {
             for start in [Start::Chart(&chart), Start::Graph6(&graph6)] {
                 self.list(start, numbers, all + 7)?;
                 self.list(start, numbers, all - 1)?;
-                self.list(start, &numbers[..3 * LENGTH - 1], all - 1)?;
+                self.list(start, &numbers[..CALL_NUMBERS * LENGTH - 1], all - 1)?;
                 self.list(start, &[], 0)?;
             }
         }
@@ -365,7 +391,8 @@ impl Comparison {
     fn layout(&mut self, most: u8) -> Layout {
         let n = self.random.below(usize::from(most) + 1) as u8;
         let edges = self.random.below(most_edges(n) + 1);
-        self.random.layout(n, edges)
+        let weights = [Weights::Ones, Weights::Any][self.random.below(2)];
+        self.random.layout(n, edges, weights)
     }
 
     fn chart(&mut self, most: u8) -> Vec<u8> {
@@ -379,7 +406,7 @@ impl Comparison {
     /// Charts as they are, and with bytes changed, left out and added, read into
     /// a layout, which is the empty one if the chart is refused.
     fn charts(&mut self) -> Outcome {
-        let there = self.random.layout(7, 10);
+        let there = self.random.layout(7, 10, Weights::Any);
         for _ in 0..CHARTS {
             let mut bytes = self.chart(64);
             self.change(&mut bytes);
@@ -394,11 +421,11 @@ impl Comparison {
     /// changed, left out and added, imported into a layout, which is the empty
     /// one if the graph6 is refused.
     fn graph6s(&mut self) -> Outcome {
-        let there = self.random.layout(7, 10);
+        let there = self.random.layout(7, 10, Weights::Any);
         for number in 0..GRAPH6S {
             let mut bytes = match number % 4 {
-                0 => graph6(&self.random.layout(63, 1000)),
-                1 => graph6(&self.random.layout(64, 1000)),
+                0 => graph6(&self.random.layout(63, 1000, Weights::Ones)),
+                1 => graph6(&self.random.layout(64, 1000, Weights::Ones)),
                 _ => self.graph6(64),
             };
             self.change_graph6(&mut bytes);
@@ -418,7 +445,7 @@ impl Comparison {
                 self.listing(&bytes, length)?;
             }
         }
-        let large = chart(&self.random.layout(64, 100));
+        let large = chart(&self.random.layout(64, 100, Weights::Any));
         self.listing(&large, 1024)
     }
 
@@ -446,19 +473,55 @@ impl Comparison {
         }
     }
 
+    /// Puts weights into a chart of which one is 0, or with too few of them.
+    fn change_weights(&mut self, bytes: &mut Vec<u8>) {
+        let mut weights: Vec<u8> = (0..edges(bytes)).map(|_| self.random.weight()).collect();
+        let chosen = self.random.below(weights.len() + 1);
+        match weights.get_mut(chosen) {
+            Some(weight) => *weight = 0,
+            None => drop(weights.pop()),
+        }
+        put_weights(bytes, &weights);
+    }
+
     fn change(&mut self, bytes: &mut Vec<u8>) {
         let place = self.random.below(bytes.len());
         let any = self.random.below(256) as u8;
-        match self.random.below(7) {
+        match self.random.below(10) {
             0 => {}
             1 => bytes[place] = any,
-            2 => bytes[place.min(6)] = any,
+            2 => bytes[place % 7] = any,
             3 => bytes.truncate(place),
             4 => bytes.extend([any % 3, 0, 0]),
             5 => halve_an_edge(bytes),
+            6 => put_weights(bytes, &vec![1; edges(bytes)]),
+            7 => put_weights(bytes, &vec![any; edges(bytes) + self.random.below(2)]),
+            8 => self.change_weights(bytes),
             _ => bytes.resize(8190 + self.random.below(5), any),
         }
     }
+}
+
+/// Puts the edge in where it is missing, takes it out where it is there.
+fn flip_edge(layout: &mut Layout, a: usize, b: usize, weight: u8) {
+    if layout.has_edge(a as u64, b as u64) {
+        layout.cut_edge(a, b);
+    } else {
+        layout.put_edge(a, b, weight);
+    }
+}
+
+/// How many edges a chart has.
+fn edges(bytes: &[u8]) -> usize {
+    usize::from(u16::from_be_bytes([bytes[5], bytes[6]])) / 2
+}
+
+/// Puts weights behind a chart's other fields, in place of those that it has.
+fn put_weights(bytes: &mut Vec<u8>, weights: &[u8]) {
+    bytes.truncate(10 + 2 * edges(bytes) + usize::from(bytes[3]));
+    let [high, low] = (weights.len() as u16).to_be_bytes();
+    bytes.extend([0x57, high, low]);
+    bytes.extend(weights);
 }
 
 /// Takes a byte out of a chart's edges, if it has any.

@@ -110,23 +110,24 @@ fn play_all(mut layout: Layout, list: &[Call], answers: &mut [u64]) -> Played {
     }
 }
 
-fn play_call(layout: &mut Layout, [op, a, b]: Call) -> Row {
+fn play_call(layout: &mut Layout, [op, a, b, weight]: Call) -> Row {
     let l = *layout;
     let limit = u32::try_from(a).unwrap_or(u32::MAX);
     match op {
         ADD => row(layout, calls::add_vertex(l), |v| [v, 0, 0, 0]),
-        LINK => row(layout, calls::add_edge(l, a, b), |()| [0; 4]),
+        LINK => row(layout, calls::add_edge(l, a, b, weight as u8), |()| [0; 4]),
         UNLINK => row(layout, calls::remove_edge(l, a, b), |()| [0; 4]),
         MOVE => row(layout, calls::move_after(l, a, b), |()| [0; 4]),
-        LAY => row(layout, calls::greedy_append(l, a), |t| [t.into(), 0, 0, 0]),
+        LAY => row(layout, calls::greedy_append(l, a), |tally| [tally, 0, 0, 0]),
         SIFT => row(layout, calls::sift(l, a), |s| {
-            [s.reduction, s.optima, 0, 0].map(u64::from)
+            [s.reduction, s.optima.into(), 0, 0]
         }),
         ROUND => row(layout, calls::sifting_round(l), |r| {
-            [r.reduction, r.moved, r.optima, 0].map(u64::from)
+            [r.reduction, r.moved.into(), r.optima.into(), 0]
         }),
         SETTLE => row(layout, calls::converge(l, limit), |c| {
-            [c.reduction, c.rounds, c.converged.into(), c.optima].map(u64::from)
+            let [rounds, optima] = [c.rounds, c.optima].map(u64::from);
+            [c.reduction, rounds, c.converged.into(), optima]
         }),
         _ => unreachable!("a list has calls only"),
     }

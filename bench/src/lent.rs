@@ -1,7 +1,7 @@
 //! What being lent costs: calls made one after another on one lent layout, beside
 //! the same calls by value, within a list.
 
-use layouts::{chart, layout, pairs};
+use layouts::{chart, layout, pairs, Weights};
 use rostulanda::ffi::{self, ANSWER_NUMBERS};
 use rostulanda::{Fields, Start};
 use second::layout::Layout;
@@ -10,14 +10,14 @@ use crate::agreement::{agree, Outcome};
 use crate::expected;
 use crate::lists::{Call, LINK, UNLINK};
 use crate::proved::{self, fields, Told};
-use crate::rows::{repeated, Row, CALLS};
+use crate::rows::{repeated, Row, CALLS, WEIGHT};
 
 /// Does something with each comparison: a row whose sides are the calls in place,
 /// the list of them from a chart, and an empty list from that chart.
 pub fn for_each(mut does: impl FnMut(&Row)) -> Outcome {
-    let l = layout(64, 1000);
+    let l = layout(64, 1000, Weights::Any);
     let missing = pairs(&l, false);
-    let by_turns = |&(a, b): &(u64, u64)| [[LINK, a, b], [UNLINK, a, b]];
+    let by_turns = |&(a, b): &(u64, u64)| [[LINK, a, b, WEIGHT.into()], [UNLINK, a, b, 0]];
     let accepted: Vec<Call> = missing.iter().flat_map(by_turns).take(CALLS).collect();
     compare(
         &mut does,
@@ -29,7 +29,7 @@ pub fn for_each(mut does: impl FnMut(&Row)) -> Outcome {
         &mut does,
         "link refused 12, 64 vertices, 1000 edges",
         &l,
-        &[[LINK, 0, 64]; CALLS],
+        &[[LINK, 0, 64, WEIGHT.into()]; CALLS],
     )
 }
 
@@ -67,8 +67,8 @@ fn answers_agree(name: &str, l: &Fields, chart: &[u8], calls: &[Call]) -> Outcom
 /// copy, and the refusal numbers.
 fn in_place(l: &Fields, calls: &[Call]) -> (Fields, Vec<u8>) {
     let mut l = l.clone();
-    let made = calls.iter().map(|&[op, a, b]| match op {
-        LINK => ffi::rl_add_edge(&mut l, a as usize, b as usize),
+    let made = calls.iter().map(|&[op, a, b, weight]| match op {
+        LINK => ffi::rl_add_edge(&mut l, a as usize, b as usize, weight as u8),
         _ => ffi::rl_remove_edge(&mut l, a as usize, b as usize),
     });
     let refusals = made.collect();

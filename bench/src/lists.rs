@@ -1,9 +1,10 @@
 //! Lists of mixed calls, alike in every run.
 
 use layouts::Random;
+use rostulanda::ffi::CALL_NUMBERS;
 
-/// A call: its op (tests/README.md) and its two numbers.
-pub type Call = [u64; 3];
+/// A call: its op (tests/README.md), two numbers, and the weight of an edge.
+pub type Call = [u64; CALL_NUMBERS];
 
 pub const ADD: u64 = 16;
 pub const LINK: u64 = 17;
@@ -15,7 +16,7 @@ pub const ROUND: u64 = 22;
 pub const SETTLE: u64 = 23;
 
 /// Whether the number is that of a call.
-pub fn is_call([op, _, _]: &Call) -> bool {
+pub fn is_call([op, ..]: &Call) -> bool {
     (ADD..=SETTLE).contains(op)
 }
 
@@ -35,10 +36,12 @@ const MIX: [(u64, usize); 8] = [
 const FIRST: usize = 8;
 
 /// So many calls from the empty layout, from a seed. One vertex in twenty that is
-/// named isn't there.
+/// named isn't there, and one weight in twenty is 0. The weights are beyond a byte,
+/// and other calls than links have them too.
 pub fn mixed(seed: u64, length: usize) -> Vec<Call> {
     let mut maker = Maker {
         random: Random(seed),
+        weights: Random(!seed),
         n: 0,
         edges: Vec::new(),
     };
@@ -58,6 +61,7 @@ pub fn mixed(seed: u64, length: usize) -> Vec<Call> {
 /// A list in the making: the vertices and the edges that there are by now.
 struct Maker {
     random: Random,
+    weights: Random,
     n: u64,
     edges: Vec<(u64, u64)>,
 }
@@ -73,7 +77,14 @@ impl Maker {
             _ => (0, 0),
         };
         self.n += u64::from(op == ADD);
-        [op, a, b]
+        [op, a, b, self.weight()]
+    }
+
+    fn weight(&mut self) -> u64 {
+        match self.weights.below(20) {
+            0 => 0,
+            _ => self.weights.any(),
+        }
     }
 
     fn vertex(&mut self) -> u64 {

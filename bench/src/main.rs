@@ -7,14 +7,20 @@ mod agreement;
 mod answers;
 mod before;
 mod expected;
+mod former;
 mod instructions;
 mod lent;
+mod libraries;
 mod lists;
 mod proved;
 mod rows;
+mod shared;
 mod times;
 
 use std::process::ExitCode;
+
+use former::Former;
+use libraries::Now;
 
 fn main() -> ExitCode {
     let arguments: Vec<String> = std::env::args().skip(1).collect();
@@ -23,7 +29,8 @@ fn main() -> ExitCode {
         [] => answers::print().and_then(|()| times::print()),
         ["--answers"] => answers::print(),
         ["--instructions"] => instructions::print(),
-        ["--before", before, now] => before::print(before, now),
+        ["--before", "same", before, now] => before::print::<Now>(before, now),
+        ["--before", "former", before, now] => before::print::<Former>(before, now),
         [instructions::EACH_ONCE] => instructions::each_once(),
         [instructions::LENT_ONCE] => instructions::lent_once(),
         _ => {

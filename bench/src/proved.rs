@@ -5,7 +5,7 @@
 use std::fmt::Debug;
 
 pub use rostulanda::ffi::{list_chart, play};
-use rostulanda::{ffi, Fields};
+use rostulanda::{ffi, Fields, PLACES};
 use second::calls::{Answer, Crossing};
 use second::layout::Layout;
 use second::sifting::{Convergence, Round, Sift};
@@ -19,10 +19,17 @@ pub trait Told {
     fn told(self) -> Self::As;
 }
 
+/// A layout as it is lent to a library.
+pub trait Lent: Clone {
+    fn of(l: &Layout) -> Self;
+
+    fn told(self) -> Layout;
+}
+
 /// What a call that was lent a layout left: its report, and the layout.
-pub struct Left<R> {
+pub struct Left<R, L = Fields> {
     report: R,
-    layout: Fields,
+    layout: L,
 }
 
 /// What a call reports: the refusal number, and its value.
@@ -32,14 +39,14 @@ pub trait Report {
     fn parts(self) -> (u8, Self::Value);
 }
 
-impl<R: Report> Told for Left<R> {
+impl<R: Report, L: Lent> Told for Left<R, L> {
     type As = Answer<R::Value>;
 
     fn told(self) -> Self::As {
         let (refusal, value) = self.report.parts();
         Answer {
             refusal,
-            layout: second_layout(self.layout),
+            layout: self.layout.told(),
             value,
         }
     }
@@ -53,34 +60,46 @@ impl<A: Told, B: PartialEq + Debug> Told for (A, B) {
     }
 }
 
-/// A layout of the second program, as it can be lent.
-pub fn fields(l: &Layout) -> Fields {
-    Fields {
-        n: l.n as usize,
-        order: l.order,
-        adjacency: l.adjacency,
-        count: l.count,
+impl Lent for Fields {
+    fn of(l: &Layout) -> Fields {
+        let mut weights = [0; PLACES * PLACES];
+        weights.copy_from_slice(l.weights.as_flattened());
+        Fields {
+            n: l.n as usize,
+            order: l.order,
+            adjacency: l.adjacency,
+            weights,
+            count: l.count,
+        }
+    }
+
+    fn told(self) -> Layout {
+        let mut weights = [[0; PLACES]; PLACES];
+        weights.as_flattened_mut().copy_from_slice(&self.weights);
+        Layout {
+            n: self.n as u64,
+            order: self.order,
+            adjacency: self.adjacency,
+            weights,
+            count: self.count,
+        }
     }
 }
 
-fn second_layout(l: Fields) -> Layout {
-    Layout {
-        n: l.n as u64,
-        order: l.order,
-        adjacency: l.adjacency,
-        count: l.count,
-    }
+/// A layout of the second program, as it can be lent.
+pub fn fields(l: &Layout) -> Fields {
+    Fields::of(l)
 }
 
 /// Lends a copy of a layout to a call.
-pub fn lend<R>(l: &Fields, call: impl FnOnce(&mut Fields) -> R) -> Left<R> {
+pub fn lend<R, L: Clone>(l: &L, call: impl FnOnce(&mut L) -> R) -> Left<R, L> {
     let mut layout = l.clone();
     let report = call(&mut layout);
     Left { report, layout }
 }
 
 pub fn empty() -> Layout {
-    second_layout(ffi::rl_empty())
+    ffi::rl_empty().told()
 }
 
 pub fn read_chart(l: &Fields, chart: &[u8]) -> Left<u8> {
@@ -95,8 +114,8 @@ pub fn add_vertex(l: &Fields) -> Left<ffi::Vertex> {
     lend(l, |l| ffi::rl_add_vertex(l))
 }
 
-pub fn add_edge(l: &Fields, a: u64, b: u64) -> Left<u8> {
-    lend(l, |l| ffi::rl_add_edge(l, a as usize, b as usize))
+pub fn add_edge(l: &Fields, a: u64, b: u64, weight: u8) -> Left<u8> {
+    lend(l, |l| ffi::rl_add_edge(l, a as usize, b as usize, weight))
 }
 
 pub fn remove_edge(l: &Fields, a: u64, b: u64) -> Left<u8> {
@@ -151,7 +170,7 @@ pub fn export_and_import(l: &Fields, buffer: &mut [u8], other: &Fields) -> Left<
     import_graph6(other, &buffer[..length])
 }
 
-pub fn edge_crossings(l: &Fields, table: &mut [u32]) -> Left<ffi::EdgesCounted> {
+pub fn edge_crossings(l: &Fields, table: &mut [u64]) -> Left<ffi::EdgesCounted> {
     lend(l, |l| ffi::edge_crossings(l, table))
 }
 
@@ -169,7 +188,7 @@ impl Told for ffi::Played {
     fn told(self) -> Played {
         Played {
             refusal: self.refusal,
-            layout: second_layout(self.layout),
+            layout: self.layout.told(),
             calls: self.calls,
         }
     }
@@ -201,17 +220,17 @@ impl Report for ffi::Vertex {
 }
 
 impl Report for ffi::Tally {
-    type Value = u32;
+    type Value = u64;
 
-    fn parts(self) -> (u8, u32) {
+    fn parts(self) -> (u8, u64) {
         (self.refusal, self.tally)
     }
 }
 
 impl Report for ffi::Counted {
-    type Value = u32;
+    type Value = u64;
 
-    fn parts(self) -> (u8, u32) {
+    fn parts(self) -> (u8, u64) {
         (self.refusal, self.count)
     }
 }

@@ -1,10 +1,11 @@
-//! The calls that are measured, each with the sides that it is measured on.
+//! The calls that are measured, each with the sides that it is measured on. The
+//! edges have weights from 1 to 255, but where a row's name says otherwise.
 
 use std::fmt::Debug;
 use std::hint::black_box;
 
 use baseline::WithoutOptima;
-use layouts::{chart, fan, graph6, layout, pairs, with_isolated};
+use layouts::{chart, fan, graph6, layout, pairs, with_isolated, Weights};
 use rostulanda::ffi::ANSWER_NUMBERS;
 use rostulanda::{Fields, Start, GRAPH6_BYTES, MOST_EDGES, PLACES, WRITTEN_CHART_BYTES};
 use second::calls;
@@ -22,6 +23,9 @@ pub const CALLS: usize = 1000;
 
 /// The vertex that is sifted, and from which laying starts.
 pub const VERTEX: u64 = 5;
+
+/// The weight of an edge that is linked.
+pub const WEIGHT: u8 = 100;
 
 /// The most rounds of a settling.
 pub const LIMIT: u32 = 50;
@@ -61,7 +65,10 @@ pub fn for_each(mut does: impl FnMut(&Row)) -> Outcome {
     graph6s(rows)?;
     edge_crossings(rows)?;
     appending(rows)?;
-    sifting(rows)?;
+    for weights in [Weights::Any, Weights::Ones] {
+        sifting(rows, weights)?;
+    }
+    settling(rows)?;
     playing(rows)?;
     refused(rows)
 }
@@ -151,6 +158,19 @@ pub fn of_64(call: &str, edges: usize) -> String {
     format!("{call}, 64 vertices, {edges} edges")
 }
 
+/// The same where the edges have these weights.
+fn of_64_with(call: &str, edges: usize, weights: Weights) -> String {
+    match weights {
+        Weights::Any => of_64(call, edges),
+        Weights::Ones => of_64(call, edges) + " of weight 1",
+    }
+}
+
+/// The layouts of 64 vertices with 1,000 edges and with all, with these weights.
+fn many_edges(weights: Weights) -> [(usize, Layout); 2] {
+    [1000, 2016].map(|edges| (edges, layout(64, edges, weights)))
+}
+
 /// Two vertices that are linked, and two that are unlinked, or the one moved behind
 /// the other.
 pub fn ends(l: &Layout) -> [(u64, u64); 2] {
@@ -160,12 +180,12 @@ pub fn ends(l: &Layout) -> [(u64, u64); 2] {
 
 /// The layouts of 64 vertices that are laid: with 1,000 edges, and half of them
 /// without edges.
-pub fn laid() -> [(String, Layout); 2] {
+pub fn laid(weights: Weights) -> [(String, Layout); 2] {
     [
-        (of_64("lay", 1000), layout(64, 1000)),
+        (of_64("lay", 1000), layout(64, 1000, weights)),
         (
             "lay, 64 vertices, 250 edges between 32".to_string(),
-            with_isolated(layout(32, 250)),
+            with_isolated(layout(32, 250, weights)),
         ),
     ]
 }
@@ -177,14 +197,14 @@ pub fn settle() -> String {
 
 /// Calls on 64 vertices with so many edges, one of all 2,016 missing at least.
 fn accepted(rows: &mut Rows, edges: usize) -> Outcome {
-    let l = layout(64, edges);
+    let l = layout(64, edges, Weights::Any);
     let lent = fields(&l);
     let [(a, b), (c, d)] = ends(&l);
     let name = |call| of_64(call, edges);
     rows.two(
         &name("link"),
-        || proved::add_edge(&lent, a, b),
-        || calls::add_edge(l, a, b),
+        || proved::add_edge(&lent, a, b, WEIGHT),
+        || calls::add_edge(l, a, b, WEIGHT),
     )?;
     rows.two(
         &name("unlink"),
@@ -203,7 +223,7 @@ fn accepted(rows: &mut Rows, edges: usize) -> Outcome {
         || proved::first_crossing(&lent),
         || calls::first_crossing(l),
     )?;
-    let fewer = layout(63, edges.min(1953));
+    let fewer = layout(63, edges.min(1953), Weights::Any);
     let lent = fields(&fewer);
     rows.two(
         &format!("add, 63 vertices, {} edges", edges.min(1953)),
@@ -225,17 +245,21 @@ fn no_pair(rows: &mut Rows) -> Outcome {
 
 /// Charts read.
 fn charts(rows: &mut Rows) -> Outcome {
-    for edges in [1000, 2016] {
+    for (edges, l) in many_edges(Weights::Any) {
         rows.reading(
             &of_64("reading a chart", edges),
-            &chart(&layout(64, edges)),
+            &chart(&l),
             proved::read_chart,
             expected::read_chart,
         )?;
     }
+    let weights_twice = [
+        &chart(&layout(64, 2016, Weights::Any))[..],
+        &[0x57, 0, 1, 1],
+    ];
     rows.reading(
-        "reading a chart refused 3, a fourth field",
-        &[chart(&layout(64, 2016)), vec![0x52, 0, 1, 0]].concat(),
+        "reading a chart refused 3, a fifth field",
+        &weights_twice.concat(),
         proved::read_chart,
         expected::read_chart,
     )
@@ -244,7 +268,7 @@ fn charts(rows: &mut Rows) -> Outcome {
 /// Charts written, and read back into the empty layout.
 fn written_charts(rows: &mut Rows) -> Outcome {
     let empty = fields(&Layout::EMPTY);
-    let layouts = [1000, 2016].map(|edges| (edges, layout(64, edges)));
+    let layouts = many_edges(Weights::Any);
     for (edges, l) in layouts {
         rows.writing::<WRITTEN_CHART_BYTES, _, _>(
             &of_64("writing a chart", edges),
@@ -264,12 +288,13 @@ fn written_charts(rows: &mut Rows) -> Outcome {
     Ok(())
 }
 
-/// Graph6 imported and exported.
+/// Graph6 imported and exported. All weights are 1.
 fn graph6s(rows: &mut Rows) -> Outcome {
-    let layouts = [1000, 2016].map(|edges| (edges, layout(64, edges)));
+    let layouts = many_edges(Weights::Ones);
+    let name = |call, edges| of_64_with(call, edges, Weights::Ones);
     for (edges, l) in layouts {
         rows.reading(
-            &of_64("importing a graph6", edges),
+            &name("importing a graph6", edges),
             &graph6(&l),
             proved::import_graph6,
             expected::import_graph6,
@@ -277,13 +302,13 @@ fn graph6s(rows: &mut Rows) -> Outcome {
     }
     rows.reading(
         "importing a graph6 refused 21, a line end",
-        &[graph6(&layout(64, 2016)), b"\n".to_vec()].concat(),
+        &[graph6(&layout(64, 2016, Weights::Ones)), b"\n".to_vec()].concat(),
         proved::import_graph6,
         expected::import_graph6,
     )?;
     for (edges, l) in layouts {
         rows.writing::<GRAPH6_BYTES, _, _>(
-            &of_64("exporting a graph6", edges),
+            &name("exporting a graph6", edges),
             l,
             proved::export_graph6,
             calls::write_graph6,
@@ -294,10 +319,10 @@ fn graph6s(rows: &mut Rows) -> Outcome {
 
 /// The crossings of every edge of 64 vertices.
 fn edge_crossings(rows: &mut Rows) -> Outcome {
-    for edges in [1000, 2016] {
+    for (edges, l) in many_edges(Weights::Any) {
         rows.writing::<MOST_EDGES, _, _>(
             &of_64("crossings of every edge", edges),
-            layout(64, edges),
+            l,
             proved::edge_crossings,
             calls::edge_crossings,
         )?;
@@ -307,7 +332,7 @@ fn edge_crossings(rows: &mut Rows) -> Outcome {
 
 /// Laying 64 vertices.
 fn appending(rows: &mut Rows) -> Outcome {
-    for (name, l) in laid() {
+    for (name, l) in laid(Weights::Any) {
         let lent = fields(&l);
         rows.two(
             &name,
@@ -318,12 +343,12 @@ fn appending(rows: &mut Rows) -> Outcome {
     Ok(())
 }
 
-/// Sifting 64 vertices.
-fn sifting(rows: &mut Rows) -> Outcome {
+/// Sifting one of 64 vertices, and each.
+fn sifting(rows: &mut Rows, weights: Weights) -> Outcome {
     for edges in SIFTED {
-        let l = layout(64, edges);
+        let l = layout(64, edges, weights);
         let lent = fields(&l);
-        let name = |call| of_64(call, edges);
+        let name = |call| of_64_with(call, edges, weights);
         rows.three(
             &name("sift"),
             || proved::sift(&lent, VERTEX),
@@ -336,8 +361,17 @@ fn sifting(rows: &mut Rows) -> Outcome {
             || baseline::sifting_round(l),
             || calls::sifting_round(l),
         )?;
+    }
+    Ok(())
+}
+
+/// Settling 64 vertices.
+fn settling(rows: &mut Rows) -> Outcome {
+    for edges in SIFTED {
+        let l = layout(64, edges, Weights::Any);
+        let lent = fields(&l);
         rows.three(
-            &name(&settle()),
+            &of_64(&settle(), edges),
             || proved::converge(&lent, LIMIT),
             || baseline::converge(l, LIMIT),
             || calls::converge(l, LIMIT),
@@ -372,19 +406,25 @@ fn into_table<A>(play: impl Fn(&mut [u64]) -> A) -> (A, Vec<u64>) {
 }
 
 fn refused(rows: &mut Rows) -> Outcome {
-    let l = layout(64, 2016);
-    let mut link = |name: &str, l: Layout, a: u64, b: u64| {
+    let l = layout(64, 2016, Weights::Any);
+    let mut link = |name: &str, l: Layout, (a, b): (u64, u64), weight: u8| {
         let lent = fields(&l);
         rows.two(
             &format!("link refused {name}"),
-            || proved::add_edge(&lent, a, b),
-            || calls::add_edge(l, a, b),
+            || proved::add_edge(&lent, a, b, weight),
+            || calls::add_edge(l, a, b, weight),
         )
     };
-    link("12, 64 vertices, 2016 edges", l, 0, 64)?;
-    link("14, 64 vertices, 2016 edges", l, 0, 1)?;
+    link("12, 64 vertices, 2016 edges", l, (0, 64), WEIGHT)?;
+    link("14, 64 vertices, 2016 edges", l, (0, 1), WEIGHT)?;
+    let fewer = layout(64, 2015, Weights::Any);
+    let [missing, _] = ends(&fewer);
+    link("25, 64 vertices, 2015 edges", fewer, missing, 0)?;
     let mut last = l;
     last.adjacency[63] |= 1 << 63;
-    link("11, the last vertex joined to itself", last, 0, 1)?;
-    link("11, n is 65", Layout { n: 65, ..l }, 0, 1)
+    link("11, the last vertex joined to itself", last, (0, 1), WEIGHT)?;
+    let mut last = l;
+    last.weights[63][62] ^= 128;
+    link("11, the last weight not both ways", last, (0, 1), WEIGHT)?;
+    link("11, n is 65", Layout { n: 65, ..l }, (0, 1), WEIGHT)
 }

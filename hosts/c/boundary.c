@@ -17,6 +17,7 @@ int main(void)
     AT(rl_layout, n);
     AT(rl_layout, order);
     AT(rl_layout, adjacency);
+    AT(rl_layout, weights);
     AT(rl_layout, count);
     SIZE(rl_edge);
     AT(rl_edge, low);
@@ -81,5 +82,8 @@ int main(void)
     REFUSAL(GRAPH6_DATA);
     REFUSAL(GRAPH6_PADDING);
     REFUSAL(TABLE_TOO_SHORT);
+    REFUSAL(CHART_WEIGHTS);
+    REFUSAL(WEIGHT_OUT_OF_RANGE);
+    REFUSAL(GRAPH6_WEIGHTS);
     return 0;
 }

@@ -4,6 +4,7 @@
  * prints the row of the layout that this leads to. Status 1: refused. Status 2:
  * what cannot be read or written, told on standard error.
  */
+#include <inttypes.h>
 #include <stdio.h>
 
 #include "rostulanda.h"
@@ -45,8 +46,8 @@ static int print_row(rl_layout *l)
 
     printf("devices %zu\n", l->n);
     printf("links %u\n", edges(l));
-    printf("before %u\n", before.count);
-    printf("after %u\n", rl_count(l).count);
+    printf("before %" PRIu64 "\n", before.count);
+    printf("after %" PRIu64 "\n", rl_count(l).count);
     printf("rounds %u\n", run.rounds);
     printf("settled %s\n", run.converged ? "yes" : "no");
     printf("order");
@@ -56,13 +57,14 @@ static int print_row(rl_layout *l)
     return 0;
 }
 
-/* Adds a vertex, and an edge from it to vertex 0 where that is another one. */
+/* Adds a vertex, and an edge of weight 1 from it to vertex 0 where that is
+ * another one. */
 static uint8_t add_joined(rl_layout *l)
 {
     rl_vertex added = rl_add_vertex(l);
     if (added.refusal != RL_ACCEPTED || added.vertex == 0)
         return added.refusal;
-    return rl_add_edge(l, added.vertex, 0);
+    return rl_add_edge(l, added.vertex, 0, 1);
 }
 
 /* Prints the rows of a chart; the status of the program. */

@@ -27,7 +27,7 @@ typedef struct list {
 
 /* A record: the op, and the numbers that it takes. */
 typedef struct record {
-    uint64_t op, a, b;
+    uint64_t op, a, b, c;
 } record;
 
 /* The calls that read a layout from bytes, and those that write it to them. */
@@ -69,6 +69,7 @@ static bool take_record(list *l, record *taken)
     taken->op = number_at(bytes);
     taken->a = number_at(bytes + 8);
     taken->b = number_at(bytes + 16);
+    taken->c = number_at(bytes + 24);
     l->at += RECORD;
     return true;
 }
@@ -103,7 +104,11 @@ static bool set_field(rl_layout *l, record r)
             l->adjacency[r.a] = r.b;
         return true;
     case 5:
-        l->count = (uint32_t)r.a;
+        l->count = r.a;
+        return true;
+    case 6:
+        if (r.a < RL_PLACES && r.b < RL_PLACES)
+            l->weights[RL_PLACES * r.a + r.b] = (uint8_t)r.c;
         return true;
     default:
         return false;
@@ -129,7 +134,7 @@ static bool play_start(rl_layout *l, list *rest, uint64_t length, const char *na
 static void play_converge(rl_layout *l, uint64_t limit)
 {
     rl_convergence run = rl_converge(l, limit < UINT32_MAX ? (uint32_t)limit : UINT32_MAX);
-    printf("settle %u %u %u %s %u", run.refusal, run.reduction, run.rounds,
+    printf("settle %u %" PRIu64 " %u %s %u", run.refusal, run.reduction, run.rounds,
            run.converged ? "yes" : "no", run.optima);
 }
 
@@ -173,14 +178,14 @@ static void play_write(const rl_layout *l, record r, const char *name, writer *w
 
 static void play_edge_crossings(const rl_layout *l, record r)
 {
-    uint32_t table[LONGEST_TABLE];
+    uint64_t table[LONGEST_TABLE];
     size_t length = lent_length(LONGEST_TABLE, r);
     for (size_t i = 0; i < length; i++)
-        table[i] = (uint32_t)r.b;
+        table[i] = r.b;
     rl_edges_counted counted = rl_edge_crossings(l, table, length);
     printf("perlink %u %zu table", counted.refusal, counted.edges);
     for (size_t i = 0; i < length; i++)
-        printf(" %u", table[i]);
+        printf(" %" PRIu64, table[i]);
 }
 
 static void play_first_crossing(const rl_layout *l)
@@ -211,7 +216,7 @@ static bool play_call(rl_layout *l, list *rest, record r)
         return true;
     }
     case 17:
-        printf("link %u", rl_add_edge(l, r.a, r.b));
+        printf("link %u", rl_add_edge(l, r.a, r.b, (uint8_t)r.c));
         return true;
     case 18:
         printf("unlink %u", rl_remove_edge(l, r.a, r.b));
@@ -221,17 +226,18 @@ static bool play_call(rl_layout *l, list *rest, record r)
         return true;
     case 20: {
         rl_tally laid = rl_greedy_append(l, r.a);
-        printf("lay %u %u", laid.refusal, laid.tally);
+        printf("lay %u %" PRIu64, laid.refusal, laid.tally);
         return true;
     }
     case 21: {
         rl_sifted sifted = rl_sift(l, r.a);
-        printf("sift %u %u %u", sifted.refusal, sifted.reduction, sifted.optima);
+        printf("sift %u %" PRIu64 " %u", sifted.refusal, sifted.reduction, sifted.optima);
         return true;
     }
     case 22: {
         rl_round round = rl_sifting_round(l);
-        printf("round %u %u %u %u", round.refusal, round.reduction, round.moved, round.optima);
+        printf("round %u %" PRIu64 " %u %u", round.refusal, round.reduction, round.moved,
+               round.optima);
         return true;
     }
     case 23:
@@ -239,7 +245,7 @@ static bool play_call(rl_layout *l, list *rest, record r)
         return true;
     case 24: {
         rl_counted counted = rl_count(l);
-        printf("count %u %u", counted.refusal, counted.count);
+        printf("count %u %" PRIu64, counted.refusal, counted.count);
         return true;
     }
     case 25:
@@ -264,15 +270,19 @@ static bool play_call(rl_layout *l, list *rest, record r)
     }
 }
 
-/* The layout, with the adjacency words that differ from those before. */
+/* The layout, with the adjacency words and weights that differ from those before. */
 static void print_layout(const rl_layout *l, const rl_layout *before)
 {
     printf(" n %zu order", l->n);
     print_bytes(l->order, RL_PLACES);
-    printf(" count %u words", l->count);
+    printf(" count %" PRIu64 " words", l->count);
     for (int v = 0; v < RL_PLACES; v++)
         if (l->adjacency[v] != before->adjacency[v])
             printf(" %d %" PRIu64, v, l->adjacency[v]);
+    printf(" weights");
+    for (int i = 0; i < RL_PLACES * RL_PLACES; i++)
+        if (l->weights[i] != before->weights[i])
+            printf(" %d %d %u", i / RL_PLACES, i % RL_PLACES, l->weights[i]);
     printf("\n");
 }
 

@@ -32,10 +32,25 @@ static rl_layout first(void)
     return l;
 }
 
+/* The first layout, with the weights 200 and 100. */
+static rl_layout heavy(void)
+{
+    rl_layout l = first();
+    HOLDS(rl_remove_edge(&l, 0, 2) == RL_ACCEPTED && rl_remove_edge(&l, 1, 3) == RL_ACCEPTED);
+    HOLDS(rl_add_edge(&l, 2, 0, 200) == RL_ACCEPTED && rl_add_edge(&l, 1, 3, 100) == RL_ACCEPTED);
+    return l;
+}
+
+static uint8_t weight(const rl_layout *l, size_t a, size_t b)
+{
+    return l->weights[RL_PLACES * a + b];
+}
+
 static bool same(const rl_layout *a, const rl_layout *b)
 {
     return a->n == b->n && a->count == b->count && memcmp(a->order, b->order, sizeof a->order) == 0
-        && memcmp(a->adjacency, b->adjacency, sizeof a->adjacency) == 0;
+        && memcmp(a->adjacency, b->adjacency, sizeof a->adjacency) == 0
+        && memcmp(a->weights, b->weights, sizeof a->weights) == 0;
 }
 
 static bool holds_only(const uint8_t *bytes, size_t length, uint8_t value)
@@ -56,6 +71,7 @@ static void starts(void)
 
     rl_layout l = first();
     HOLDS(l.n == 4 && l.count == 1 && l.adjacency[0] == 4 && l.adjacency[3] == 2);
+    HOLDS(weight(&l, 0, 2) == 1 && weight(&l, 3, 1) == 1 && weight(&l, 0, 1) == 0);
     HOLDS(rl_read_chart(&l, chart, sizeof chart - 1) == RL_CHART_FIELDS && same(&l, &empty));
     l = first();
     HOLDS(rl_read_chart(&l, chart, 0) == RL_CHART_TAGS && same(&l, &empty));
@@ -77,6 +93,7 @@ static void imports(void)
     /* Four vertices and the fourth pair, 0-3. */
     HOLDS(rl_import_graph6(&l, (const uint8_t *)"CC", 2) == RL_ACCEPTED);
     HOLDS(l.adjacency[0] == 8 && l.adjacency[1] == 0 && l.adjacency[2] == 0 && l.adjacency[3] == 1);
+    HOLDS(weight(&l, 0, 3) == 1 && weight(&l, 3, 0) == 1 && weight(&l, 0, 2) == 0);
     due = rl_empty();
     HOLDS(rl_import_graph6(&l, (const uint8_t *)"?", 1) == RL_ACCEPTED && same(&l, &due));
     HOLDS(rl_add_vertex(&due).refusal == RL_ACCEPTED);
@@ -121,10 +138,10 @@ static void changes(void)
     rl_layout l = first();
     rl_vertex added = rl_add_vertex(&l);
     HOLDS(added.refusal == RL_ACCEPTED && added.vertex == 4 && l.n == 5);
-    HOLDS(rl_add_edge(&l, 4, 1) == RL_ACCEPTED && l.count == 2);
-    HOLDS(rl_add_edge(&l, 1, 4) == RL_EDGE_IS_THERE && l.count == 2);
-    HOLDS(rl_add_edge(&l, 1, 1) == RL_SAME_VERTEX);
-    HOLDS(rl_add_edge(&l, 1, SIZE_MAX) == RL_NO_SUCH_VERTEX);
+    HOLDS(rl_add_edge(&l, 4, 1, 1) == RL_ACCEPTED && l.count == 2);
+    HOLDS(rl_add_edge(&l, 1, 4, 1) == RL_EDGE_IS_THERE && l.count == 2);
+    HOLDS(rl_add_edge(&l, 1, 1, 1) == RL_SAME_VERTEX);
+    HOLDS(rl_add_edge(&l, 1, SIZE_MAX, 1) == RL_NO_SUCH_VERTEX);
     HOLDS(rl_remove_edge(&l, 4, 1) == RL_ACCEPTED && l.count == 1);
     HOLDS(rl_remove_edge(&l, 4, 1) == RL_NO_SUCH_EDGE);
     HOLDS(rl_move_after(&l, 4, 0) == RL_ACCEPTED && l.order[1] == 4 && l.order[2] == 1);
@@ -170,7 +187,7 @@ static void optima(void)
     for (size_t v = 0; v < 4; v++) {
         HOLDS(rl_add_vertex(&l).vertex == v);
         for (size_t w = 0; w < v; w++)
-            HOLDS(rl_add_edge(&l, v, w) == RL_ACCEPTED);
+            HOLDS(rl_add_edge(&l, v, w, 1) == RL_ACCEPTED);
         rl_sifted sifted = rl_sift(&l, 0);
         HOLDS(sifted.refusal == RL_ACCEPTED && sifted.reduction == 0 && sifted.optima == v);
         HOLDS(rl_sifting_round(&l).optima == (v + 1) * v);
@@ -260,29 +277,42 @@ static void exports(void)
     writes_into(rl_export_graph6, &empty, (const uint8_t *)"?", 1);
 }
 
-/* From 1 to 64 vertices and all edges, in falling order. */
-static rl_layout complete(size_t n)
+/* From 1 to 64 vertices and all edges, each of one weight, in falling order. */
+static rl_layout complete(size_t n, uint8_t weight)
 {
     rl_layout l = rl_empty();
     l.n = n;
     for (size_t v = 0; v < n; v++) {
         l.order[v] = (uint8_t)(n - 1 - v);
         l.adjacency[v] = UINT64_MAX >> (RL_PLACES - n) & ~((uint64_t)1 << v);
+        for (size_t w = 0; w < n; w++)
+            l.weights[RL_PLACES * v + w] = w == v ? 0 : weight;
     }
     return l;
 }
 
-/* The longest chart that is written. */
+/* The longest chart that is written, and the longest one without weights. */
 static void writes_the_longest(void)
 {
-    rl_layout l = complete(RL_PLACES);
-    uint8_t buffer[RL_WRITTEN_CHART_BYTES];
-    HOLDS(rl_write_chart(&l, buffer, sizeof buffer - 1).refusal == RL_WRITE_BUFFER_TOO_SHORT);
-    HOLDS(rl_write_chart(&l, buffer, sizeof buffer).length == sizeof buffer);
-    rl_layout again = first();
-    HOLDS(rl_read_chart(&again, buffer, sizeof buffer) == RL_ACCEPTED && again.count == 635376);
-    again.count = l.count;
-    HOLDS(same(&again, &l));
+    static const struct {
+        uint8_t weight;
+        size_t length;
+        uint64_t crossings;
+    } due[] = {
+        {1, 4106, 635376}, {255, RL_WRITTEN_CHART_BYTES, 41315324400},
+    };
+    for (size_t i = 0; i < sizeof due / sizeof *due; i++) {
+        rl_layout l = complete(RL_PLACES, due[i].weight);
+        uint8_t buffer[RL_WRITTEN_CHART_BYTES];
+        rl_written written = rl_write_chart(&l, buffer, due[i].length - 1);
+        HOLDS(written.refusal == RL_WRITE_BUFFER_TOO_SHORT);
+        HOLDS(rl_write_chart(&l, buffer, due[i].length).length == due[i].length);
+        rl_layout again = first();
+        HOLDS(rl_read_chart(&again, buffer, due[i].length) == RL_ACCEPTED);
+        HOLDS(again.count == due[i].crossings);
+        again.count = l.count;
+        HOLDS(same(&again, &l));
+    }
 }
 
 /* The largest graph whose size is one byte, those that have four, and with all
@@ -293,12 +323,12 @@ static void exports_the_largest(void)
         size_t n;
         const char *size;
         size_t length;
-        uint32_t crossings;
+        uint64_t crossings;
     } due[] = {
         {62, "}", 317, 557845}, {63, "~??~", 330, 595665}, {64, "~?@?", RL_GRAPH6_BYTES, 635376},
     };
     for (size_t i = 0; i < sizeof due / sizeof *due; i++) {
-        rl_layout l = complete(due[i].n);
+        rl_layout l = complete(due[i].n, 1);
         uint8_t buffer[RL_GRAPH6_BYTES];
         rl_written written = rl_export_graph6(&l, buffer, due[i].length - 1);
         HOLDS(written.refusal == RL_WRITE_BUFFER_TOO_SHORT);
@@ -316,9 +346,9 @@ static void exports_the_largest(void)
 
 /* The crossings of every edge, into a table of any length: the numbers are due, and
  * the entries beyond them, or all if they are too few, keep what they hold. */
-static void counts_into(const rl_layout *l, const uint32_t *due, size_t edges)
+static void counts_into(const rl_layout *l, const uint64_t *due, size_t edges)
 {
-    uint32_t table[RL_MOST_EDGES + 1];
+    uint64_t table[RL_MOST_EDGES + 1];
     memset(table, 77, sizeof table);
     for (size_t length = 0; length < edges; length++) {
         rl_edges_counted counted = rl_edge_crossings(l, table, length);
@@ -344,7 +374,7 @@ static void edge_crossings(void)
         0x52, 0, 6, 0, 3, 2, 1, 5, 4,
     };
     /* 0-1, 0-5, 1-2, 2-4, 2-5, 3-4, 3-5. */
-    static const uint32_t due[] = {4, 2, 0, 3, 1, 2, 2};
+    static const uint64_t due[] = {4, 2, 0, 3, 1, 2, 2};
     rl_layout l = rl_empty();
     HOLDS(rl_read_chart(&l, tangled, sizeof tangled) == RL_ACCEPTED && l.count == 7);
     l.count = 77;
@@ -359,15 +389,15 @@ static void edge_crossings(void)
 
 /* All edges of 64 vertices: the chord between two places with k others on its one
  * side is crossed by all that join these and the 62 - k on the other. */
-static void edge_crossings_of_all_edges(void)
+static void edge_crossings_of_all_edges(uint8_t weight)
 {
-    rl_layout l = complete(RL_PLACES);
-    uint32_t due[RL_MOST_EDGES];
+    rl_layout l = complete(RL_PLACES, weight);
+    uint64_t due[RL_MOST_EDGES];
     size_t edges = 0;
-    for (uint32_t low = 0; low < RL_PLACES; low++)
-        for (uint32_t high = low + 1; high < RL_PLACES; high++) {
-            uint32_t between = high - low - 1;
-            due[edges++] = between * (RL_PLACES - 2 - between);
+    for (uint64_t low = 0; low < RL_PLACES; low++)
+        for (uint64_t high = low + 1; high < RL_PLACES; high++) {
+            uint64_t between = high - low - 1;
+            due[edges++] = between * (RL_PLACES - 2 - between) * weight * weight;
         }
     HOLDS(edges == RL_MOST_EDGES);
     counts_into(&l, due, edges);
@@ -376,22 +406,23 @@ static void edge_crossings_of_all_edges(void)
 /* Is the sum of all edges' crossings twice the count? */
 static bool sums_to_twice_the_count(const rl_layout *l)
 {
-    uint32_t table[RL_MOST_EDGES];
+    uint64_t table[RL_MOST_EDGES];
     rl_edges_counted counted = rl_edge_crossings(l, table, RL_MOST_EDGES);
-    uint32_t sum = 0;
+    uint64_t sum = 0;
     for (size_t i = 0; i < counted.edges; i++)
         sum += table[i];
     return counted.refusal == RL_ACCEPTED && sum == 2 * l->count;
 }
 
-/* After each call of many, with up to 24 vertices and one edge in three. */
+/* After each call of many, with up to 24 vertices, one edge in three and weights
+ * from 1 to 255. */
 static void sums_of_edge_crossings(void)
 {
     rl_layout l = rl_empty();
     for (size_t v = 0; v < 24; v++) {
         HOLDS(rl_add_vertex(&l).vertex == v);
         for (size_t w = v % 3; w < v; w += 3) {
-            HOLDS(rl_add_edge(&l, w, v) == RL_ACCEPTED);
+            HOLDS(rl_add_edge(&l, w, v, (uint8_t)(1 + (97 * v + 31 * w) % 255)) == RL_ACCEPTED);
             HOLDS(sums_to_twice_the_count(&l));
         }
     }
@@ -402,6 +433,153 @@ static void sums_of_edge_crossings(void)
     }
 }
 
+/* Weights of every crossing, both ways round; a weight of 0 is refused last. */
+static void weighs(void)
+{
+    rl_layout l = heavy();
+    HOLDS(l.count == 20000 && rl_count(&l).count == 20000);
+    HOLDS(weight(&l, 0, 2) == 200 && weight(&l, 2, 0) == 200);
+    HOLDS(weight(&l, 1, 3) == 100 && weight(&l, 3, 1) == 100 && weight(&l, 0, 1) == 0);
+    rl_layout before = l;
+    HOLDS(rl_add_edge(&l, 0, 1, 0) == RL_WEIGHT_OUT_OF_RANGE);
+    HOLDS(rl_add_edge(&l, 0, 2, 0) == RL_EDGE_IS_THERE);
+    HOLDS(rl_add_edge(&l, 1, 1, 0) == RL_SAME_VERTEX);
+    HOLDS(rl_add_edge(&l, 1, 4, 0) == RL_NO_SUCH_VERTEX);
+    HOLDS(same(&l, &before));
+    static const uint64_t due[] = {20000, 20000};
+    counts_into(&l, due, 2);
+
+    rl_sifted sifted = rl_sift(&l, 0);
+    HOLDS(sifted.refusal == RL_ACCEPTED && sifted.reduction == 20000 && sifted.optima == 2);
+    HOLDS(l.count == 0 && memcmp(l.weights, before.weights, sizeof l.weights) == 0);
+    HOLDS(rl_remove_edge(&l, 0, 2) == RL_ACCEPTED);
+    HOLDS(weight(&l, 0, 2) == 0 && weight(&l, 2, 0) == 0 && rl_is_valid(&l));
+    /* The carried count of a layout that did not come from a call: modulo 2^64. */
+    l = heavy();
+    l.count = 0;
+    HOLDS(rl_sift(&l, 0).reduction == 20000 && l.count == UINT64_MAX - 19999);
+}
+
+/* Four vertices and all edges: greedy append goes by weights where it chooses an
+ * end, and by numbers of edges where it chooses a vertex. */
+static void lays_by_weight(void)
+{
+    static const struct {
+        uint8_t weights[6], order[4];
+        uint64_t tally;
+    } due[] = {
+        {{1, 1, 1, 1, 1, 1}, {2, 0, 1, 3}, 1}, {{1, 2, 1, 2, 3, 1}, {1, 2, 0, 3}, 1},
+    };
+    for (size_t i = 0; i < sizeof due / sizeof *due; i++) {
+        rl_layout l = rl_empty();
+        for (size_t v = 0; v < 4; v++)
+            HOLDS(rl_add_vertex(&l).vertex == v);
+        const uint8_t *next = due[i].weights;
+        for (size_t a = 0; a < 4; a++)
+            for (size_t b = a + 1; b < 4; b++)
+                HOLDS(rl_add_edge(&l, a, b, *next++) == RL_ACCEPTED);
+        rl_tally laid = rl_greedy_append(&l, 2);
+        HOLDS(laid.refusal == RL_ACCEPTED && laid.tally == due[i].tally && l.count == laid.tally);
+        HOLDS(memcmp(l.order, due[i].order, 4) == 0);
+    }
+}
+
+/* Charts with weights: field 57 is the fourth and last. */
+static void reads_weights(void)
+{
+    /* 1-3 weighs 100, 2-0 weighs 200; and as it is written. */
+    static const uint8_t listed[] = {
+        0x44, 0, 1, 4, 0x4C, 0, 4, 1, 3, 2, 0, 0x52, 0, 4, 0, 1, 2, 3, 0x57, 0, 2, 100, 200,
+    };
+    static const uint8_t sorted[] = {
+        0x44, 0, 1, 4, 0x4C, 0, 4, 0, 2, 1, 3, 0x52, 0, 4, 0, 1, 2, 3, 0x57, 0, 2, 200, 100,
+    };
+    rl_layout due = heavy();
+    rl_layout l = rl_empty();
+    HOLDS(rl_read_chart(&l, listed, sizeof listed) == RL_ACCEPTED && same(&l, &due));
+    writes_into(rl_write_chart, &l, sorted, sizeof sorted);
+    HOLDS(rl_read_chart(&l, sorted, sizeof sorted) == RL_ACCEPTED && same(&l, &due));
+
+    /* Weights of 1 may be there, and are not written. */
+    static const uint8_t ones[] = {
+        0x44, 0, 1, 4, 0x4C, 0, 4, 0, 2, 1, 3, 0x52, 0, 4, 0, 1, 2, 3, 0x57, 0, 2, 1, 1,
+    };
+    due = first();
+    HOLDS(rl_read_chart(&l, ones, sizeof ones) == RL_ACCEPTED && same(&l, &due));
+    writes_into(rl_write_chart, &l, chart, sizeof chart);
+    static const uint8_t none[] = {0x44, 0, 1, 0, 0x4C, 0, 0, 0x52, 0, 0, 0x57, 0, 0};
+    due = rl_empty();
+    HOLDS(rl_read_chart(&l, none, sizeof none) == RL_ACCEPTED && same(&l, &due));
+}
+
+/* Charts with weights that are refused, behind the question of the order. */
+static void refused_weights(void)
+{
+    static const struct {
+        uint8_t chart[28];
+        size_t length;
+        uint8_t refusal;
+    } due[] = {
+        /* Too few, too many, and none with an edge; one without an edge. */
+        {{0x44, 0, 1, 2, 0x4C, 0, 2, 0, 1, 0x52, 0, 2, 0, 1, 0x57, 0, 0}, 17, RL_CHART_WEIGHTS},
+        {{0x44, 0, 1, 2, 0x4C, 0, 2, 0, 1, 0x52, 0, 2, 0, 1, 0x57, 0, 2, 0, 5}, 19, RL_CHART_WEIGHTS},
+        {{0x44, 0, 1, 0, 0x4C, 0, 0, 0x52, 0, 0, 0x57, 0, 1, 5}, 14, RL_CHART_WEIGHTS},
+        {{0x44, 0, 1, 2, 0x4C, 0, 2, 0, 1, 0x52, 0, 2, 0, 1, 0x57, 0, 1, 0}, 18, RL_WEIGHT_OUT_OF_RANGE},
+        /* A bad order, and fields in another sequence or twice. */
+        {{0x44, 0, 1, 2, 0x4C, 0, 2, 0, 1, 0x52, 0, 2, 0, 0, 0x57, 0, 0}, 17, RL_CHART_ORDER},
+        {{0x44, 0, 1, 2, 0x4C, 0, 2, 0, 1, 0x57, 0, 1, 5, 0x52, 0, 2, 0, 1}, 18, RL_CHART_TAGS},
+        {{0x44, 0, 1, 2, 0x4C, 0, 2, 0, 1, 0x52, 0, 2, 0, 1, 0x57, 0, 1, 5, 0x57, 0, 1, 5}, 22, RL_CHART_TAGS},
+    };
+    rl_layout empty = rl_empty();
+    for (size_t i = 0; i < sizeof due / sizeof *due; i++) {
+        rl_layout l = heavy();
+        HOLDS(rl_read_chart(&l, due[i].chart, due[i].length) == due[i].refusal);
+        HOLDS(same(&l, &empty));
+    }
+}
+
+/* A graph6 has no weights: 26, asked before the length of the buffer. */
+static void exports_no_weights(void)
+{
+    rl_layout l = heavy();
+    uint8_t buffer[RL_GRAPH6_BYTES];
+    memset(buffer, 77, sizeof buffer);
+    for (size_t length = 0; length < 4; length++) {
+        rl_written written = rl_export_graph6(&l, buffer, length);
+        HOLDS(written.refusal == RL_GRAPH6_WEIGHTS && written.length == 0);
+    }
+    HOLDS(holds_only(buffer, sizeof buffer, 77));
+    HOLDS(rl_import_graph6(&l, graph6, sizeof graph6) == RL_ACCEPTED);
+    rl_layout due = first();
+    HOLDS(same(&l, &due));
+}
+
+/* Weights that are not those of the edges, or of vertices that are not there. */
+static void invalid_weights(void)
+{
+    static const struct {
+        size_t a, b;
+        uint8_t weight;
+    } wrong[] = {
+        {0, 2, 0}, {2, 0, 201}, {0, 1, 1}, {0, 0, 1}, {3, 3, 255}, {0, 4, 1}, {4, 0, 1}, {63, 63, 1},
+    };
+    for (size_t i = 0; i < sizeof wrong / sizeof *wrong; i++) {
+        rl_layout l = heavy();
+        l.weights[RL_PLACES * wrong[i].a + wrong[i].b] = wrong[i].weight;
+        rl_layout before = l;
+        HOLDS(!rl_is_valid(&l) && rl_sift(&l, 0).refusal == RL_INVALID_LAYOUT && same(&l, &before));
+    }
+    /* Both ways round, but without an edge, or not there where one is. */
+    rl_layout l = heavy();
+    l.weights[1] = l.weights[RL_PLACES] = 7;
+    HOLDS(!rl_is_valid(&l));
+    l = heavy();
+    l.weights[2] = l.weights[2 * RL_PLACES] = 0;
+    HOLDS(!rl_is_valid(&l));
+    l.weights[2] = l.weights[2 * RL_PLACES] = 7;
+    HOLDS(rl_is_valid(&l));
+}
+
 /* Fields of any content: refused, and left. */
 static void invalid(void)
 {
@@ -409,13 +587,14 @@ static void invalid(void)
     memset(&l, 0xFF, sizeof l);
     rl_layout before = l;
     uint8_t buffer[RL_PLACES];
-    uint32_t table[RL_PLACES];
+    uint64_t table[RL_PLACES];
     memset(buffer, 77, sizeof buffer);
     memset(table, 77, sizeof table);
     HOLDS(!rl_is_valid(&l));
     rl_vertex added = rl_add_vertex(&l);
     HOLDS(added.refusal == RL_INVALID_LAYOUT && added.vertex == 0);
-    HOLDS(rl_add_edge(&l, 0, 1) == RL_INVALID_LAYOUT);
+    HOLDS(rl_add_edge(&l, 0, 1, 1) == RL_INVALID_LAYOUT);
+    HOLDS(rl_add_edge(&l, 0, 1, 0) == RL_INVALID_LAYOUT);
     HOLDS(rl_remove_edge(&l, 0, 1) == RL_INVALID_LAYOUT);
     HOLDS(rl_move_after(&l, 0, 1) == RL_INVALID_LAYOUT);
     rl_tally laid = rl_greedy_append(&l, 0);
@@ -464,27 +643,29 @@ static void listing(void)
 /* A list from a chart or graph6 of the first layout. */
 static void list_from(uint8_t origin, const uint8_t *start, size_t start_length)
 {
-    static const uint64_t calls[] = {
-        RL_CALL_ADD_VERTEX, 0, 0, RL_CALL_ADD_EDGE, 4, 1, RL_CALL_ADD_EDGE, 4, 4,
-        RL_CALL_SIFT, 2, 0, RL_CALL_SIFTING_ROUND, 0, 0, RL_CALL_CONVERGE, 50, 0,
-        99, 0, 0, RL_CALL_ADD_VERTEX, 0, 0,
+    /* A weight goes modulo 256. */
+    static const uint64_t calls[][RL_CALL_NUMBERS] = {
+        {RL_CALL_ADD_VERTEX}, {RL_CALL_ADD_EDGE, 4, 1, 256 + 9}, {RL_CALL_ADD_EDGE, 4, 4, 1},
+        {RL_CALL_ADD_EDGE, 4, 2, 256}, {RL_CALL_SIFT, 2}, {RL_CALL_SIFTING_ROUND},
+        {RL_CALL_CONVERGE, 50, 0, 7}, {99}, {RL_CALL_ADD_VERTEX},
     };
-    static const size_t length = sizeof calls / sizeof *calls;
-    /* The table for six calls, and one number more. */
-    enum { CALLS = 6, TABLE = CALLS * RL_ANSWER_NUMBERS };
+    static const size_t length = sizeof calls / sizeof **calls;
+    /* The table for seven calls, and one number more. */
+    enum { CALLS = 7, TABLE = CALLS * RL_ANSWER_NUMBERS };
     uint64_t answers[TABLE + 1];
     for (size_t i = 0; i <= TABLE; i++)
         answers[i] = 77;
-    rl_played played = rl_play(origin, start, start_length, calls, length, answers, TABLE - 1);
+    rl_played played = rl_play(origin, start, start_length, *calls, length, answers, TABLE - 1);
     HOLDS(played.refusal == RL_BUFFER_TOO_SHORT && played.calls == 0 && played.layout.n == 4);
     HOLDS(answers[0] == 77);
-    played = rl_play(origin, start, start_length, calls, length, answers, TABLE + 1);
+    played = rl_play(origin, start, start_length, *calls, length, answers, TABLE + 1);
     HOLDS(played.refusal == RL_ACCEPTED && played.calls == CALLS && answers[TABLE] == 77);
 
     rl_layout l = first();
     rl_vertex added = rl_add_vertex(&l);
-    uint8_t joined = rl_add_edge(&l, 4, 1);
-    uint8_t refused = rl_add_edge(&l, 4, 4);
+    uint8_t joined = rl_add_edge(&l, 4, 1, 9);
+    uint8_t refused = rl_add_edge(&l, 4, 4, 1);
+    uint8_t weightless = rl_add_edge(&l, 4, 2, 0);
     rl_sifted sifted = rl_sift(&l, 2);
     rl_round round = rl_sifting_round(&l);
     rl_convergence run = rl_converge(&l, 50);
@@ -492,12 +673,14 @@ static void list_from(uint8_t origin, const uint8_t *start, size_t start_length)
         {added.refusal, added.vertex},
         {joined},
         {refused},
+        {weightless},
         {sifted.refusal, sifted.reduction, sifted.optima},
         {round.refusal, round.reduction, round.moved, round.optima},
         {run.refusal, run.reduction, run.rounds, run.converged, run.optima},
     };
     HOLDS(memcmp(answers, due, sizeof due) == 0);
-    HOLDS(joined == RL_ACCEPTED && refused == RL_SAME_VERTEX && same(&l, &played.layout));
+    HOLDS(joined == RL_ACCEPTED && refused == RL_SAME_VERTEX);
+    HOLDS(weightless == RL_WEIGHT_OUT_OF_RANGE && same(&l, &played.layout));
 }
 
 static void lists(void)
@@ -505,12 +688,16 @@ static void lists(void)
     list_from(RL_FROM_CHART, chart, sizeof chart);
     list_from(RL_FROM_GRAPH6, graph6, sizeof graph6);
 
-    static const uint64_t calls[] = {RL_CALL_ADD_VERTEX, 0, 0};
+    static const uint64_t calls[] = {RL_CALL_ADD_VERTEX, 0, 0, 0};
     uint64_t answers[RL_ANSWER_NUMBERS] = {77};
-    rl_played played = rl_play(RL_FROM_CHART, chart, 1, calls, 3, answers, RL_ANSWER_NUMBERS);
+    rl_played played = rl_play(RL_FROM_CHART, chart, 1, calls, 4, answers, RL_ANSWER_NUMBERS);
     HOLDS(played.refusal == RL_CHART_FIELDS && played.calls == 0 && played.layout.n == 0);
-    played = rl_play(RL_FROM_GRAPH6, graph6, 1, calls, 3, answers, RL_ANSWER_NUMBERS);
+    played = rl_play(RL_FROM_GRAPH6, graph6, 1, calls, 4, answers, RL_ANSWER_NUMBERS);
     HOLDS(played.refusal == RL_GRAPH6_DATA && played.calls == 0 && played.layout.n == 0);
+    for (size_t length = 0; length < RL_CALL_NUMBERS; length++) {
+        played = rl_play(RL_FROM_EMPTY, chart, 0, calls, length, answers, 0);
+        HOLDS(played.refusal == RL_ACCEPTED && played.calls == 0 && played.layout.n == 0);
+    }
     HOLDS(answers[0] == 77);
     static const uint8_t from_empty[] = {RL_FROM_EMPTY, 3, UINT8_MAX};
     for (size_t i = 0; i < sizeof from_empty; i++) {
@@ -524,6 +711,7 @@ static void texts(void)
     HOLDS(strcmp(rl_refusal_text(RL_ACCEPTED), "accepted") == 0);
     HOLDS(strcmp(rl_refusal_text(9), "unknown") == 0);
     HOLDS(strcmp(rl_refusal_text(RL_NO_ROOM), "is there room for another (there are 64 vertices already)?") == 0);
+    HOLDS(strcmp(rl_refusal_text(RL_WEIGHT_OUT_OF_RANGE), "is each weight a whole number from 1 to 255?") == 0);
 }
 
 int main(void)
@@ -539,8 +727,15 @@ int main(void)
     writes_the_longest();
     exports_the_largest();
     edge_crossings();
-    edge_crossings_of_all_edges();
+    edge_crossings_of_all_edges(1);
+    edge_crossings_of_all_edges(255);
     sums_of_edge_crossings();
+    weighs();
+    lays_by_weight();
+    reads_weights();
+    refused_weights();
+    exports_no_weights();
+    invalid_weights();
     invalid();
     listing();
     lists();

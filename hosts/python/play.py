@@ -6,10 +6,10 @@ Prints the answer lines. Both formats are in tests/README.md.
 import struct
 import sys
 from array import array
-from typing import Callable, Dict, Iterator, List, Optional
+from typing import Callable, Dict, Iterator, List, Optional, Sequence, Tuple
 
 import rostulanda
-from rostulanda import PLACES, Layout
+from rostulanda import PLACES, Fields, Layout
 
 #: Bytes in a record; a chart or graph6 is padded to a multiple of it.
 RECORD = 32
@@ -28,6 +28,19 @@ class CallsEnd(Exception):
 def numbers(values: List[int]) -> str:
     """Each number with a space before it."""
     return "".join([f" {value}" for value in values])
+
+
+def changed(now: Sequence[int], before: Sequence[int]) -> Iterator[Tuple[int, int]]:
+    """The number and the value of each entry that differs from the one before."""
+    return ((i, entry) for i, (entry, former) in enumerate(zip(now, before)) if entry != former)
+
+
+def layout_text(now: Fields, before: Fields) -> str:
+    """The layout, with the adjacency words and weights that differ from those before."""
+    words = "".join(f" {v} {word}" for v, word in changed(now.adjacency[:], before.adjacency[:]))
+    entries = changed(bytes(now.weights), bytes(before.weights))
+    weights = "".join(f" {i // PLACES} {i % PLACES} {weight}" for i, weight in entries)
+    return f" n {now.n} order{numbers(now.order[:])} count {now.count} words{words} weights{weights}\n"
 
 
 def first_crossing(layout: Layout) -> str:
@@ -69,15 +82,14 @@ def written(name: str, write: Callable[[bytearray], int], length: int, fill: int
 
 
 def edge_crossings(layout: Layout, length: int, fill: int) -> str:
-    table = array("I", [fill % 2**32]) * min(length, LONGEST_TABLE)
+    table = array("Q", [fill]) * min(length, LONGEST_TABLE)
     told = answered("perlink", " 0", lambda: f" {layout.write_edge_crossings(table)}")
     return f"{told} table{numbers(list(table))}"
 
 
-#: What each op but the starts plays, with the numbers a and b.
+#: What each op but the starts and link plays, with the numbers a and b.
 OPS: Dict[int, Callable[[Layout, int, int], str]] = {
     16: lambda l, a, b: answered("add", " 0", lambda: f" {l.add_vertex()}"),
-    17: lambda l, a, b: answered("link", "", lambda: l.add_edge(a, b)),
     18: lambda l, a, b: answered("unlink", "", lambda: l.remove_edge(a, b)),
     19: lambda l, a, b: answered("move", "", lambda: l.move_after(a, b)),
     20: lambda l, a, b: answered("lay", " 0", lambda: f" {l.greedy_append(a)}"),
@@ -110,7 +122,7 @@ class Player:
         self.at += padded
         return taken
 
-    def set_field(self, op: int, a: int, b: int) -> bool:
+    def set_field(self, op: int, a: int, b: int, c: int) -> bool:
         """Sets one field, if that is what the record asks for."""
         fields = self.layout.fields
         if op == 2:
@@ -120,13 +132,17 @@ class Player:
         elif op == 4 and a < PLACES:
             fields.adjacency[a] = b
         elif op == 5:
-            fields.count = a % 2**32
-        return 2 <= op <= 5
+            fields.count = a
+        elif op == 6 and a < PLACES and b < PLACES:
+            fields.weights[PLACES * a + b] = c % 256
+        return 2 <= op <= 6
 
-    def answer(self, op: int, a: int, b: int) -> str:
+    def answer(self, op: int, a: int, b: int, c: int) -> str:
         """Plays one record that answers: its name, refusal code and answers."""
         if op in OPS:
             return OPS[op](self.layout, a, b)
+        if op == 17:
+            return answered("link", "", lambda: self.layout.add_edge(a, b, c % 256))
         if op == 0:
             self.layout = Layout()
             return "empty 0"
@@ -145,19 +161,16 @@ class Player:
     def lines(self) -> Iterator[str]:
         """All answer lines."""
         while self.at < len(self.list):
-            before = self.layout.fields.adjacency[:]
+            before = self.layout.copy()
             try:
-                op, a, b, _ = struct.unpack("<4Q", self.take(RECORD))
-                if self.set_field(op, a, b):
+                record = struct.unpack("<4Q", self.take(RECORD))
+                if self.set_field(*record):
                     continue
-                told = self.answer(op, a, b)
+                told = self.answer(*record)
             except CallsEnd:
                 yield "end\n"
                 return
-            now = self.layout.fields
-            changed = [(v, now.adjacency[v]) for v in range(PLACES) if now.adjacency[v] != before[v]]
-            words = numbers([number for pair in changed for number in pair])
-            yield f"{told} n {now.n} order{numbers(now.order[:])} count {now.count} words{words}\n"
+            yield told + layout_text(self.layout.fields, before.fields)
 
 
 def main() -> None:

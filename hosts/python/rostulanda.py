@@ -9,6 +9,11 @@ vertices goes in, as a networkx graph or as its edges:
 A Layout is held here and lent to each call of the proved library, which changes
 it in place. A refused call leaves it as it was and raises Refused.
 
+Each edge has a weight, a whole number from 1 to 255, which is 1 where none is
+given, and a crossing counts the product of its two edges' weights (document 02,
+Note 8): wherever crossings are counted or compared, it is by the sum of these
+products.
+
 The words are those of graph drawing; document 01's stand beside them once.
 
 The shared library is librostulanda.so: the file that RL_SHARED_LIBRARY names,
@@ -43,7 +48,7 @@ from typing import (
 PLACES = 64
 
 #: The most bytes that a written chart has.
-WRITTEN_CHART_BYTES = 4106
+WRITTEN_CHART_BYTES = 6125
 
 #: The most bytes that a graph6 has.
 GRAPH6_BYTES = 340
@@ -54,6 +59,9 @@ MOST_EDGES = 2016
 #: The least buffer that a listing needs.
 LISTING_BYTES = 1024
 
+#: The numbers of each call of a list: which it is, and what it names.
+CALL_NUMBERS = 4
+
 #: The numbers of each answer of a list of calls: the refusal code, and four more.
 ANSWER_NUMBERS = 5
 
@@ -61,6 +69,9 @@ ANSWER_NUMBERS = 5
 LIMIT = 50
 
 Edge = Tuple[int, int]
+
+#: An edge as it is given: its two ends, and perhaps its weight.
+GivenEdge = Union[Tuple[Hashable, Hashable], Tuple[Hashable, Hashable, int]]
 
 #: A buffer or a table.
 _Lent = TypeVar("_Lent", bytearray, "array[int]")
@@ -90,13 +101,16 @@ class Refusal(enum.IntEnum):
     GRAPH6_DATA = 21
     GRAPH6_PADDING = 22
     TABLE_TOO_SHORT = 23
+    CHART_WEIGHTS = 24
+    WEIGHT_OUT_OF_RANGE = 25
+    GRAPH6_WEIGHTS = 26
 
 
 #: The question that each refusal answers "no".
 QUESTIONS: Dict[int, str] = {
     Refusal.CHART_TOO_LONG: "is the chart at most 8,192 bytes long?",
     Refusal.CHART_FIELDS: "does the chart divide exactly into fields, each header and body complete?",
-    Refusal.CHART_TAGS: "are the tags 44, 4C, 52, each once, in that sequence?",
+    Refusal.CHART_TAGS: "are the tags 44, 4C, 52, or 44, 4C, 52, 57, each once, in that sequence?",
     Refusal.CHART_VERTICES: "is the body of field 44 one byte, at most 64?",
     Refusal.CHART_ODD_EDGES: "has the body of field 4C an even length?",
     Refusal.CHART_EDGE_ENDS: "are the ends of each edge below n and different?",
@@ -115,6 +129,9 @@ QUESTIONS: Dict[int, str] = {
     Refusal.GRAPH6_DATA: "has the graph6 as many bytes as its size asks for, each from 63 to 126?",
     Refusal.GRAPH6_PADDING: "are the padding bits of the graph6 all 0?",
     Refusal.TABLE_TOO_SHORT: "has the table an entry for each edge?",
+    Refusal.CHART_WEIGHTS: "has the body of field 57 one byte for each edge?",
+    Refusal.WEIGHT_OUT_OF_RANGE: "is each weight a whole number from 1 to 255?",
+    Refusal.GRAPH6_WEIGHTS: "does each edge weigh 1 (a graph6 has no weights)?",
 }
 
 
@@ -136,14 +153,17 @@ class Fields(ctypes.Structure):
     They may hold anything at all: a layout that is not valid is refused by
     every call. The first n places of the order hold the vertices clockwise, the
     others 0; bit w of adjacency word v (document 01: neighbour word) is set
-    exactly when an edge joins v and w; the carried count is not examined.
+    exactly when an edge joins v and w; entry 64 · v + w of the weights is the
+    weight of that edge, the same as entry 64 · w + v, and 0 exactly where no edge
+    joins them; the carried count is not examined.
     """
 
     _fields_ = [
         ("n", c_size_t),
         ("order", c_uint8 * PLACES),
         ("adjacency", c_uint64 * PLACES),
-        ("count", c_uint32),
+        ("weights", c_uint8 * (PLACES * PLACES)),
+        ("count", c_uint64),
     ]
 
 
@@ -156,21 +176,21 @@ class _Vertex(ctypes.Structure):
 
 
 class _Tally(ctypes.Structure):
-    _fields_ = [("refusal", c_uint8), ("tally", c_uint32)]
+    _fields_ = [("refusal", c_uint8), ("tally", c_uint64)]
 
 
 class _Sifted(ctypes.Structure):
-    _fields_ = [("refusal", c_uint8), ("reduction", c_uint32), ("optima", c_uint32)]
+    _fields_ = [("refusal", c_uint8), ("reduction", c_uint64), ("optima", c_uint32)]
 
 
 class _Round(ctypes.Structure):
-    _fields_ = [("refusal", c_uint8), ("reduction", c_uint32), ("moved", c_uint32), ("optima", c_uint32)]
+    _fields_ = [("refusal", c_uint8), ("reduction", c_uint64), ("moved", c_uint32), ("optima", c_uint32)]
 
 
 class _Convergence(ctypes.Structure):
     _fields_ = [
         ("refusal", c_uint8),
-        ("reduction", c_uint32),
+        ("reduction", c_uint64),
         ("rounds", c_uint32),
         ("converged", c_bool),
         ("optima", c_uint32),
@@ -178,7 +198,7 @@ class _Convergence(ctypes.Structure):
 
 
 class _Counted(ctypes.Structure):
-    _fields_ = [("refusal", c_uint8), ("count", c_uint32)]
+    _fields_ = [("refusal", c_uint8), ("count", c_uint64)]
 
 
 class _Crossing(ctypes.Structure):
@@ -203,7 +223,7 @@ _FUNCTIONS: Dict[str, Tuple[Any, List[Any]]] = {
     "rl_read_chart": (c_uint8, [ctypes.POINTER(Fields), c_char_p, c_size_t]),
     "rl_import_graph6": (c_uint8, [ctypes.POINTER(Fields), c_char_p, c_size_t]),
     "rl_add_vertex": (_Vertex, [ctypes.POINTER(Fields)]),
-    "rl_add_edge": (c_uint8, [ctypes.POINTER(Fields), c_size_t, c_size_t]),
+    "rl_add_edge": (c_uint8, [ctypes.POINTER(Fields), c_size_t, c_size_t, c_uint8]),
     "rl_remove_edge": (c_uint8, [ctypes.POINTER(Fields), c_size_t, c_size_t]),
     "rl_move_after": (c_uint8, [ctypes.POINTER(Fields), c_size_t, c_size_t]),
     "rl_greedy_append": (_Tally, [ctypes.POINTER(Fields), c_size_t]),
@@ -215,7 +235,7 @@ _FUNCTIONS: Dict[str, Tuple[Any, List[Any]]] = {
     "rl_first_crossing": (_Crossing, [ctypes.POINTER(Fields)]),
     "rl_write_chart": (_Written, [ctypes.POINTER(Fields), ctypes.POINTER(c_uint8), c_size_t]),
     "rl_export_graph6": (_Written, [ctypes.POINTER(Fields), ctypes.POINTER(c_uint8), c_size_t]),
-    "rl_edge_crossings": (_EdgesCounted, [ctypes.POINTER(Fields), ctypes.POINTER(c_uint32), c_size_t]),
+    "rl_edge_crossings": (_EdgesCounted, [ctypes.POINTER(Fields), ctypes.POINTER(c_uint64), c_size_t]),
     "rl_is_valid": (c_bool, [ctypes.POINTER(Fields)]),
     "rl_list_chart": (c_size_t, [c_char_p, c_size_t, ctypes.POINTER(c_uint8), c_size_t]),
     "rl_play": (
@@ -259,6 +279,11 @@ def _accept(code: int) -> None:
         raise Refused(code)
 
 
+def _wrong_weight(edge: str, weight: Any) -> Refused:
+    """The refusal of an edge's weight, which says what it is."""
+    return Refused(Refusal.WEIGHT_OUT_OF_RANGE, f"(edge {edge} weighs {weight!r})")
+
+
 def _number(value: int, most: int) -> int:
     """A whole number as the library takes it.
 
@@ -271,6 +296,11 @@ def _number(value: int, most: int) -> int:
 
 def _vertex(value: int) -> int:
     return _number(value, 2**64 - 1)
+
+
+def _weight(value: Any) -> int:
+    """A weight as the library takes it; what is no whole number from 1 to 255 becomes 0, which no call accepts."""
+    return int(value) if value in range(1, 256) else 0
 
 
 def _bytes(held: bytes) -> bytes:
@@ -375,7 +405,8 @@ class Layout:
 
         A header >>graph6<< and a line end, as networkx.write_graph6 writes them,
         are passed over; import_graph6, the library's own call, refuses them. The
-        order is 0, 1, 2 and so on, the count the true crossings.
+        order is 0, 1, 2 and so on, every edge weighs 1, and the count is the true
+        crossings.
         """
         layout = cls()
         layout.import_graph6(_bare_graph6(_bytes(graph6)))
@@ -383,23 +414,30 @@ class Layout:
 
     @classmethod
     def from_edges(
-        cls, edges: Iterable[Edge], n: Optional[int] = None, order: Optional[Sequence[int]] = None
+        cls,
+        edges: Iterable[Union[Edge, Tuple[int, int, int]]],
+        n: Optional[int] = None,
+        order: Optional[Sequence[int]] = None,
     ) -> "Layout":
         """The layout of the vertices in a given order, with these edges.
 
-        The edges are pairs of numbers and are taken as a set: a pair that comes
-        again, either way round, is the same edge. Without an order it is rising
-        number; without n, that is the order's length, or the least that the
-        edges allow.
+        The edges are pairs of numbers, or triples with a weight, and are taken as
+        a set: a pair that comes again, either way round, is the same edge, and is
+        to have the same weight. Without an order it is rising number; without n,
+        that is the order's length, or the least that the edges allow.
         """
-        pairs = {(min(edge), max(edge)) for edge in map(_pair, edges)}
+        return cls._from_weights(_weights(map(_given, edges), str), n, order)
+
+    @classmethod
+    def _from_weights(cls, weights: Dict[Edge, int], n: Optional[int], order: Optional[Sequence[int]]) -> "Layout":
+        """The same from each edge's weight, the lower end first."""
         if n is None:
-            n = len(order) if order is not None else 1 + max((high for _, high in pairs), default=-1)
+            n = len(order) if order is not None else 1 + max((high for _, high in weights), default=-1)
         if n < 0:
             raise ValueError(f"there are not {n} vertices")
         if n > PLACES:
             raise Refused(Refusal.NO_ROOM, f"({n} vertices)")
-        for low, high in pairs:
+        for low, high in weights:
             if not 0 <= low <= high < n:
                 raise Refused(Refusal.NO_SUCH_VERTEX, f"(edge {low}-{high}, n {n})")
             if low == high:
@@ -407,7 +445,7 @@ class Layout:
         places = list(range(n)) if order is None else list(order)
         if sorted(places) != list(range(n)):
             raise ValueError(f"the order does not hold each of the {n} vertices once")
-        return cls.from_chart(_chart(n, sorted(pairs), places))
+        return cls.from_chart(_chart(n, weights, places))
 
     def copy(self) -> "Layout":
         """Another layout with the same fields."""
@@ -423,9 +461,9 @@ class Layout:
 
     __hash__ = None  # type: ignore[assignment]
 
-    def _key(self) -> Tuple[int, List[int], List[int], int]:
+    def _key(self) -> Tuple[int, List[int], List[int], bytes, int]:
         fields = self.fields
-        return fields.n, fields.order[:], fields.adjacency[:], fields.count
+        return fields.n, fields.order[:], fields.adjacency[:], bytes(fields.weights), fields.count
 
     def __repr__(self) -> str:
         return f"<Layout of {self.fields.n} vertices, carried count {self.fields.count}>"
@@ -456,12 +494,15 @@ class Layout:
         _accept(answer.refusal)
         return answer.vertex
 
-    def add_edge(self, a: int, b: int) -> None:
-        """Joins two vertices by an edge (document 01: link)."""
-        _accept(_library.rl_add_edge(self.fields, _vertex(a), _vertex(b)))
+    def add_edge(self, a: int, b: int, weight: int = 1) -> None:
+        """Joins two vertices by an edge (document 01: link) of a weight from 1 to 255."""
+        refusal = _library.rl_add_edge(self.fields, _vertex(a), _vertex(b), _weight(weight))
+        if refusal == Refusal.WEIGHT_OUT_OF_RANGE:
+            raise _wrong_weight(f"{a}-{b}", weight)
+        _accept(refusal)
 
     def remove_edge(self, a: int, b: int) -> None:
-        """Takes the edge between two vertices away (document 01: unlink)."""
+        """Takes the edge between two vertices away, and its weight (document 01: unlink)."""
         _accept(_library.rl_remove_edge(self.fields, _vertex(a), _vertex(b)))
 
     def move_after(self, a: int, b: int) -> None:
@@ -471,7 +512,8 @@ class Layout:
     def greedy_append(self, start: int) -> int:
         """Makes a new order by greedy append from a first vertex (document 01: lay from s).
 
-        The vertices without edges stand last, in rising number, but for the
+        Vertices are chosen by their numbers of edges, and go to the end with fewer
+        crossings; those without edges stand last, in rising number, but for the
         first. Gives the tally of the crossings at the ends taken, which is the
         crossings of the new order.
         """
@@ -510,7 +552,8 @@ class Layout:
         """The carried count.
 
         Of a layout that came from Layout(), a chart, a graph6 or edges, and was
-        changed by calls alone, it is the number of crossings.
+        changed by calls alone, it is the crossings, each counted as the product of
+        its two edges' weights.
         """
         answer = _library.rl_count(self.fields)
         _accept(answer.refusal)
@@ -546,7 +589,8 @@ class Layout:
     def first_crossing(self) -> Optional[Tuple[Edge, Edge]]:
         """The first two edges that cross (document 01: shown crossing pair), or None.
 
-        Edges are sorted by lower, then higher end. None: no two edges cross.
+        Edges are sorted by lower, then higher end, whatever they weigh. None: no
+        two edges cross.
         """
         answer = _library.rl_first_crossing(self.fields)
         _accept(answer.refusal)
@@ -558,8 +602,9 @@ class Layout:
     def chart(self) -> bytes:
         """The chart of this layout: edges lower end first, sorted by lower, then higher end.
 
-        The carried count is not in it: read again, it gives this layout with its
-        true crossings.
+        Their weights are in it exactly where some edge does not weigh 1. The
+        carried count is not: read again, it gives this layout with its true
+        crossings.
         """
         return bytes(_written(self.write_chart, bytearray(WRITTEN_CHART_BYTES)))
 
@@ -573,7 +618,8 @@ class Layout:
     def graph6(self) -> bytes:
         """The graph6 of this layout, without header or line end.
 
-        Neither the order nor the carried count is in it.
+        Neither the order nor the carried count is in it, nor are weights: where
+        some edge does not weigh 1, that is refused.
         """
         return bytes(_written(self.export_graph6, bytearray(GRAPH6_BYTES)))
 
@@ -591,23 +637,23 @@ class Layout:
         return answer.length
 
     def edge_crossings(self) -> List[Tuple[Edge, int]]:
-        """The edges, each with the number of crossings that it takes part in (document 02, Note 7).
+        """The edges, each with the crossings that it takes part in (document 02, Note 7).
 
         Edges are lower end first, sorted by lower, then higher end. The carried
         count is not looked at: the numbers' sum is twice the crossings.
         """
-        numbers = _written(self.write_edge_crossings, array("I", [0]) * MOST_EDGES)
+        numbers = _written(self.write_edge_crossings, array("Q", [0]) * MOST_EDGES)
         return list(zip(_chart_edges(self.chart()), numbers))
 
     def write_edge_crossings(self, table: "array[int]") -> int:
-        """Writes each edge's number of crossings to the start of a table, an array("I").
+        """Writes each edge's crossings to the start of a table, an array("Q").
 
         The entries beyond keep what they hold. Gives how many edges there are, at
         most MOST_EDGES.
         """
-        if not isinstance(table, array) or table.typecode != "I":
-            raise TypeError('the table is to be an array("I")')
-        answer = self._lend(_library.rl_edge_crossings, table, c_uint32)
+        if not isinstance(table, array) or table.typecode != "Q":
+            raise TypeError('the table is to be an array("Q")')
+        answer = self._lend(_library.rl_edge_crossings, table, c_uint64)
         _accept(answer.refusal)
         return answer.edges
 
@@ -619,6 +665,15 @@ class Layout:
         """The edges, lower end first, sorted by lower, then higher end."""
         words = self.fields.adjacency[:]
         return [(low, high) for low in range(PLACES) for high in range(low + 1, PLACES) if words[low] >> high & 1]
+
+    def weight(self, a: int, b: int) -> int:
+        """The weight of the edge between two vertices, 0 where none joins them."""
+        a, b = _vertex(a), _vertex(b)
+        return self.fields.weights[PLACES * a + b] if max(a, b) < PLACES else 0
+
+    def weighted_edges(self) -> List[Tuple[int, int, int]]:
+        """The edges, each with its weight, sorted by lower, then higher end."""
+        return [(low, high, self.weight(low, high)) for low, high in self.edges()]
 
     # both
 
@@ -652,17 +707,35 @@ def _bare_graph6(graph6: bytes) -> bytes:
     return bare
 
 
-def _pair(edge: Any) -> Tuple[Any, Any]:
-    """An edge's two ends."""
-    ends = tuple(edge)
-    if len(ends) != 2:
-        raise ValueError(f"an edge is a pair of vertices, not {edge!r}")
-    return ends[0], ends[1]
+def _given(edge: Any) -> Tuple[Any, Any, Any]:
+    """An edge's two ends and its weight, which is 1 where none is given."""
+    parts = tuple(edge)
+    if len(parts) == 2:
+        return parts[0], parts[1], 1
+    if len(parts) == 3:
+        return parts[0], parts[1], parts[2]
+    raise ValueError(f"an edge is a pair of vertices, or a triple with a weight, not {edge!r}")
 
 
-def _chart(n: int, edges: Iterable[Edge], order: Iterable[int]) -> bytes:
-    """The chart of a graph and an order."""
+def _weights(edges: Iterable[Tuple[int, int, Any]], named: Callable[[int], str]) -> Dict[Edge, int]:
+    """The weight of each edge, its lower end first; what is raised names the vertices in some way."""
+    weights: Dict[Edge, int] = {}
+    for a, b, given in edges:
+        weight = _weight(given)
+        if weight == 0:
+            raise _wrong_weight(f"{named(a)}-{named(b)}", given)
+        first = weights.setdefault((min(a, b), max(a, b)), weight)
+        if first != weight:
+            raise ValueError(f"edge {named(a)}-{named(b)} comes with two weights, {first} and {weight}")
+    return weights
+
+
+def _chart(n: int, weights: Dict[Edge, int], order: Iterable[int]) -> bytes:
+    """The chart of a graph, by each edge's weight, and an order."""
+    edges = sorted(weights)
     bodies = {0x44: bytes([n]), 0x4C: bytes(end for edge in edges for end in edge), 0x52: bytes(order)}
+    if any(weight != 1 for weight in weights.values()):
+        bodies[0x57] = bytes(weights[edge] for edge in edges)
     fields = (bytes([tag]) + len(body).to_bytes(2, "big") + body for tag, body in bodies.items())
     return b"".join(fields)
 
@@ -671,35 +744,45 @@ def _chart(n: int, edges: Iterable[Edge], order: Iterable[int]) -> bytes:
 
 
 class Graph(Protocol):
-    """A graph as networkx has it: nodes() are its vertices, edges() its pairs."""
+    """A graph as networkx has it: nodes() are its vertices, edges() its pairs.
+
+    edges(data=NAME, default=1) are triples with the value of an attribute.
+    """
 
     @property
     def nodes(self) -> Callable[[], Iterable[Hashable]]: ...
 
     @property
-    def edges(self) -> Callable[[], Iterable[Tuple[Hashable, Hashable]]]: ...
+    def edges(self) -> Callable[..., Iterable[GivenEdge]]: ...
 
 
-#: A graph, or the edges of one: pairs of vertices of any hashable kind.
-GraphOrEdges = Union[Graph, Iterable[Tuple[Hashable, Hashable]]]
+#: A graph, or the edges of one: pairs of vertices of any hashable kind, or triples with a weight.
+GraphOrEdges = Union[Graph, Iterable[GivenEdge]]
 
 
-def _parts(graph: GraphOrEdges) -> Tuple[List[Hashable], List[Tuple[Hashable, Hashable]]]:
-    """The vertices that a graph names itself, in its own sequence, and its edges."""
+def _parts(
+    graph: GraphOrEdges, weight: Optional[str]
+) -> Tuple[List[Hashable], List[Tuple[Hashable, Hashable, Any]]]:
+    """The vertices that a graph names itself, in its own sequence, and its edges with their weights."""
     nodes: List[Hashable] = []
     edges: Any = graph
     if hasattr(graph, "nodes"):
-        nodes, edges = list(graph.nodes()), graph.edges()
-    return nodes, [_pair(edge) for edge in edges]
+        nodes = list(graph.nodes())
+        edges = graph.edges() if weight is None else graph.edges(data=weight, default=1)
+    elif weight is not None:
+        raise ValueError(f"only a graph has an attribute {weight!r}: edges by themselves are triples with a weight")
+    return nodes, [_given(edge) for edge in edges]
 
 
-def _numbered(labels: Sequence[Hashable], pairs: Sequence[Tuple[Hashable, Hashable]]) -> Layout:
+def _numbered(labels: Sequence[Hashable], edges: Sequence[Tuple[Hashable, Hashable, Any]]) -> Layout:
     """The layout of the vertices in this order, each numbered by its place, with these edges."""
     number = {label: v for v, label in enumerate(labels)}
-    for a, b in pairs:
+    for a, b, _ in edges:
         if number[a] == number[b]:
             raise Refused(Refusal.SAME_VERTEX, f"({a!r} is joined to itself)")
-    return Layout.from_edges(((number[a], number[b]) for a, b in pairs), n=len(labels))
+    numbers = ((number[a], number[b], weight) for a, b, weight in edges)
+    weights = _weights(numbers, lambda v: repr(labels[v]))
+    return Layout._from_weights(weights, len(labels), None)
 
 
 def layout(
@@ -707,12 +790,16 @@ def layout(
     vertices: Iterable[Hashable] = (),
     limit: int = LIMIT,
     start: Optional[Hashable] = None,
+    weight: Optional[str] = None,
 ) -> Row:
     """A circular layout with few crossings of any graph of up to 64 vertices.
 
     The graph is a networkx graph, or its edges: pairs of vertices of any
-    hashable kind. Edges are taken as a set of undirected ones: a pair that comes
-    again, either way round, is the same edge.
+    hashable kind, or triples with a weight. Edges are taken as a set of
+    undirected ones: a pair that comes again, either way round, is the same edge,
+    and is to have the same weight. Of a networkx graph, `weight` names the
+    attribute that has the weights; an edge without it weighs 1, and without a
+    name every edge does.
 
     Vertices are numbered from 0, and the order to begin with, of which `before`
     counts the crossings, is that of their numbers: a networkx graph's own
@@ -723,11 +810,12 @@ def layout(
     the limit. The row's order holds the vertices as they were given.
 
     Raises Refused for a vertex joined to itself (13), for more than 64 vertices
-    (16), and for a start that is not there (12).
+    (16), for a start that is not there (12), and for a weight that is no whole
+    number from 1 to 255 (25).
     """
-    nodes, pairs = _parts(graph)
-    labels = list(dict.fromkeys([*vertices, *nodes, *(end for pair in pairs for end in pair)]))
-    held = _numbered(labels, pairs)
+    nodes, edges = _parts(graph, weight)
+    labels = list(dict.fromkeys([*vertices, *nodes, *(end for a, b, _ in edges for end in (a, b))]))
+    held = _numbered(labels, edges)
     if start is not None:
         if start not in labels:
             raise Refused(Refusal.NO_SUCH_VERTEX, f"({start!r} is not there)")
@@ -762,25 +850,27 @@ class Checked(NamedTuple):
     better: Optional[Move]
 
 
-def check_row(graph: GraphOrEdges, order: Iterable[Hashable], crossings: int) -> Checked:
+def check_row(
+    graph: GraphOrEdges, order: Iterable[Hashable], crossings: int, weight: Optional[str] = None
+) -> Checked:
     """Whether printed crossings are those of a printed order, and whether a move betters it.
 
-    The graph is what `layout` takes, the order holds each of its vertices once,
-    the isolated ones too. Each vertex is sifted, in the order's own sequence, and
-    the first one that moves gives the move, to its best place.
+    The graph and `weight` are what `layout` takes, the order holds each of its
+    vertices once, the isolated ones too. Each vertex is sifted, in the order's own
+    sequence, and the first one that moves gives the move, to its best place.
 
     Raises ValueError where the order is none of the graph's, and Refused as
     `layout` does.
     """
-    nodes, pairs = _parts(graph)
+    nodes, edges = _parts(graph, weight)
     labels = list(order)
     places = set(labels)
     if len(places) < len(labels):
         raise ValueError("the order holds a vertex twice")
-    for vertex in [*nodes, *(end for pair in pairs for end in pair)]:
+    for vertex in [*nodes, *(end for a, b, _ in edges for end in (a, b))]:
         if vertex not in places:
             raise ValueError(f"the order does not hold {vertex!r}")
-    held = _numbered(labels, pairs)
+    held = _numbered(labels, edges)
     counted = held.count()
     return Checked(counted, counted == crossings, _better(held, labels))
 
@@ -807,7 +897,7 @@ def list_chart(chart: bytes) -> str:
 #: What each call of a list names.
 _NAMED: Dict[str, Tuple[str, ...]] = {
     "add_vertex": (),
-    "add_edge": ("a", "b"),
+    "add_edge": ("a", "b", "weight=1"),
     "remove_edge": ("a", "b"),
     "move_after": ("a", "b"),
     "greedy_append": ("start",),
@@ -858,16 +948,19 @@ def _start(chart: Optional[bytes], graph6: Optional[bytes]) -> Tuple[int, bytes]
 
 
 def _call_numbers(call: Sequence[Any]) -> List[int]:
-    """The three numbers of a call: which it is, and what it names."""
+    """The numbers of a call: which it is, and what it names."""
     if isinstance(call, str) or not call:
         raise ValueError(f"a call is a name and what it names, as ('sift', 0), not {call!r}")
     name, *named = call
     if name not in CALLS:
         raise ValueError(f"there is no call {name!r}: the calls are {', '.join(CALLS)}")
+    if name == "add_edge" and len(named) == 2:
+        named.append(1)
     if len(named) != len(_NAMED[name]):
         due = ", ".join([repr(name), *_NAMED[name]]) + ("" if _NAMED[name] else ",")
         raise ValueError(f"{tuple(call)!r} names {len(named)} numbers: the call is ({due})")
-    return [CALLS[name], *map(_vertex, named), 0, 0][:3]
+    weight = _weight(named.pop()) if name == "add_edge" else 0
+    return [*[CALLS[name], *map(_vertex, named), 0, 0][:3], weight]
 
 
 def play(
@@ -876,15 +969,15 @@ def play(
     """Plays a list of calls from a chart, from a graph6, or from the empty layout.
 
     A call is its name and what it names: ("add_vertex",), ("add_edge", 0, 1),
-    ("converge", 50). Refused calls may stand anywhere among them; only a
-    refused chart or graph6 raises Refused. The graph6 is one without header or
-    line end. Raises ValueError, and plays nothing, where a call is none of CALLS
-    or names too few or too many numbers.
+    ("add_edge", 0, 2, 255) with a weight, ("converge", 50). Refused calls may
+    stand anywhere among them; only a refused chart or graph6 raises Refused. The
+    graph6 is one without header or line end. Raises ValueError, and plays
+    nothing, where a call is none of CALLS or names too few or too many numbers.
     """
     numbers = [number for call in calls for number in _call_numbers(call)]
     origin, held = _start(chart, graph6)
     listed = (c_uint64 * len(numbers))(*numbers)
-    table = (c_uint64 * (len(numbers) // 3 * ANSWER_NUMBERS))()
+    table = (c_uint64 * (len(numbers) // CALL_NUMBERS * ANSWER_NUMBERS))()
     played = _library.rl_play(origin, held, len(held), listed, len(listed), table, len(table))
     _accept(played.refusal)
     result = Layout()

@@ -19,8 +19,9 @@ except ImportError:
     networkx = None
     print("networkx is not installed: the tests of its graphs were not run")
 
-CHART = pathlib.Path(__file__).resolve().parents[2].joinpath("charts", "first.chart").read_bytes()
+CHARTS = pathlib.Path(__file__).resolve().parents[2] / "charts"
 
+CHART = CHARTS.joinpath("first.chart").read_bytes()
 
 #: The same in graph6: 0-2 is the second pair, 1-3 the fifth.
 GRAPH6 = bytes([4 + 63, 0b010010 + 63])
@@ -37,14 +38,34 @@ def crossing_pairs(order, edges):
     ]
 
 
-class LayoutTest(unittest.TestCase):
-    def refuses(self, refusal, call, *arguments):
-        """The call is refused with a code, and its question is said."""
+def crossings(order, weights):
+    """The crossings by weight, from the definition; the weights are a dict of the edges."""
+    return sum(weights[one] * weights[other] for one, other in crossing_pairs(order, weights))
+
+
+def random_weights(chance, n, density):
+    """Some of all edges of n vertices, each with its weight."""
+    pairs = itertools.combinations(range(n), 2)
+    return {pair: chance.choice((1, 2, 7, 254, 255)) for pair in pairs if chance.random() < density}
+
+
+def triples(weights):
+    return [(a, b, weight) for (a, b), weight in weights.items()]
+
+
+class RefusedCalls(unittest.TestCase):
+    def refuses(self, refusal, call, *arguments, words=""):
+        """The call is refused with a code, in one line that says its question, and these words."""
         with self.assertRaises(Refused) as caught:
             call(*arguments)
         self.assertEqual(caught.exception.code, refusal)
-        self.assertIn(rostulanda.QUESTIONS[refusal], str(caught.exception))
+        said = str(caught.exception)
+        self.assertIn(rostulanda.QUESTIONS[refusal], said)
+        self.assertIn(words, said)
+        self.assertNotIn("\n", said)
 
+
+class LayoutTest(RefusedCalls):
     def test_a_chart_is_read(self):
         layout = Layout.from_chart(CHART)
         self.assertEqual(layout.order(), [0, 1, 2, 3])
@@ -183,7 +204,7 @@ class LayoutTest(unittest.TestCase):
             (layout.write_order, bytearray(1)),
             (layout.write_chart, bytearray(1)),
             (layout.export_graph6, bytearray(1)),
-            (layout.write_edge_crossings, array("I", [0])),
+            (layout.write_edge_crossings, array("Q", [0])),
         ):
             try:
                 write(short)
@@ -204,15 +225,15 @@ class LayoutTest(unittest.TestCase):
     def test_the_crossings_of_every_edge_go_into_a_lent_table(self):
         layout = Layout.from_chart(CHART)
         for beyond in ([], [77]):
-            table = array("I", [77, 77] + beyond)
+            table = array("Q", [77, 77] + beyond)
             self.assertEqual(layout.write_edge_crossings(table), 2)
-            self.assertEqual(table, array("I", [1, 1] + beyond))
+            self.assertEqual(table, array("Q", [1, 1] + beyond))
         for length in (0, 1):
-            short = array("I", [77] * length)
+            short = array("Q", [77] * length)
             self.refuses(Refusal.TABLE_TOO_SHORT, layout.write_edge_crossings, short)
-            self.assertEqual(short, array("I", [77] * length))
-        self.assertEqual(Layout().write_edge_crossings(array("I")), 0)
-        for other in (array("Q", [0, 0]), bytearray(8), memoryview(layout.fields.order)):
+            self.assertEqual(short, array("Q", [77] * length))
+        self.assertEqual(Layout().write_edge_crossings(array("Q")), 0)
+        for other in (array("I", [0, 0]), bytearray(16), memoryview(layout.fields.order)):
             with self.assertRaises(TypeError):
                 layout.write_edge_crossings(other)
 
@@ -237,7 +258,7 @@ class LayoutTest(unittest.TestCase):
         self.refuses(Refusal.INVALID_LAYOUT, layout.sift, 0)
         self.refuses(Refusal.INVALID_LAYOUT, layout.write_chart, bytearray())
         self.refuses(Refusal.INVALID_LAYOUT, layout.export_graph6, bytearray())
-        self.refuses(Refusal.INVALID_LAYOUT, layout.write_edge_crossings, array("I"))
+        self.refuses(Refusal.INVALID_LAYOUT, layout.write_edge_crossings, array("Q"))
         self.assertEqual(layout, before)
 
     def test_a_copy_is_another_layout(self):
@@ -310,8 +331,13 @@ class FromEdgesTest(unittest.TestCase):
             ([(0, 64)], None, None, Refusal.NO_ROOM),
             ([(0, 1)], 2, [0, 0], None),
             ([(0, 1)], 2, [0], None),
-            ([(0, 1, 2)], None, None, None),
+            ([(0, 1, 2, 3)], None, None, None),
+            ([(0,)], None, None, None),
             ([], -1, None, None),
+            ([(0, 1, 0)], None, None, Refusal.WEIGHT_OUT_OF_RANGE),
+            ([(0, 1, 256)], None, None, Refusal.WEIGHT_OUT_OF_RANGE),
+            ([(0, 1, 2), (1, 0, 3)], None, None, None),
+            ([(0, 1, 2), (0, 1)], None, None, None),
         ):
             with self.assertRaises(ValueError) as caught:
                 Layout.from_edges(edges, n=n, order=order)
@@ -321,31 +347,185 @@ class FromEdgesTest(unittest.TestCase):
     def test_crossings_of_random_graphs(self):
         chance = random.Random(1)
         for n in (2, 5, 12, 30):
-            edges = [pair for pair in itertools.combinations(range(n), 2) if chance.random() < 0.4]
+            weights = random_weights(chance, n, 0.4)
             order = chance.sample(range(n), n)
-            layout = Layout.from_edges(edges, n=n, order=order)
-            self.assertEqual(layout.edges(), edges)
-            pairs = crossing_pairs(order, edges)
-            self.assertEqual(layout.count(), len(pairs))
-            met = Counter(edge for pair in pairs for edge in pair)
-            self.assertEqual(layout.edge_crossings(), [(edge, met[edge]) for edge in edges])
-            self.assertEqual(layout.chart(), rostulanda._chart(n, edges, order))
+            for weighted in (weights, dict.fromkeys(weights, 1)):
+                layout = Layout.from_edges(triples(weighted), n=n, order=order)
+                self.assertEqual(layout.edges(), list(weighted))
+                self.assertEqual(layout.weighted_edges(), triples(weighted))
+                self.assertEqual(layout.count(), crossings(order, weighted))
+                met = Counter()
+                for one, other in crossing_pairs(order, weighted):
+                    product = weighted[one] * weighted[other]
+                    met.update({one: product, other: product})
+                self.assertEqual(layout.edge_crossings(), [(edge, met[edge]) for edge in weighted])
+                self.assertEqual(layout.chart(), rostulanda._chart(n, weighted, order))
+                self.assertEqual(Layout.from_chart(layout.chart()), layout)
 
     def test_the_most_edges(self):
+        for weight, length, count in ((1, 4106, 635376), (255, rostulanda.WRITTEN_CHART_BYTES, 41315324400)):
+            layout = Layout.from_edges((a, b, weight) for a, b in itertools.combinations(range(64), 2))
+            self.assertEqual(layout.count(), count)
+            chart = layout.chart()
+            self.assertEqual(len(chart), length)
+            self.assertEqual(Layout.from_chart(chart), layout)
+            # Each vertex on one side of a chord is joined to all on the other.
+            between = [(a, b, b - a - 1) for a, b in itertools.combinations(range(64), 2)]
+            due = [((a, b), k * (62 - k) * weight**2) for a, b, k in between]
+            self.assertEqual(layout.edge_crossings(), due)
+            self.assertEqual(len(due), rostulanda.MOST_EDGES)
+            self.assertEqual(sum(number for _, number in due), 2 * layout.count())
+
+    def test_the_longest_graph6(self):
         layout = Layout.from_edges(itertools.combinations(range(64), 2))
-        self.assertEqual(layout.count(), 635376)
-        chart = layout.chart()
-        self.assertEqual(len(chart), rostulanda.WRITTEN_CHART_BYTES)
-        self.assertEqual(Layout.from_chart(chart), layout)
         graph6 = layout.graph6()
         self.assertEqual(len(graph6), rostulanda.GRAPH6_BYTES)
         self.assertEqual(Layout.from_graph6(graph6), layout)
-        # Each vertex on one side of a chord is joined to all on the other.
-        between = [(a, b, b - a - 1) for a, b in itertools.combinations(range(64), 2)]
-        due = [((a, b), k * (62 - k)) for a, b, k in between]
-        self.assertEqual(layout.edge_crossings(), due)
-        self.assertEqual(len(due), rostulanda.MOST_EDGES)
-        self.assertEqual(sum(number for _, number in due), 2 * layout.count())
+
+
+class WeightTest(RefusedCalls):
+    def heavy(self):
+        """The first layout, with the weights 200 and 100."""
+        return Layout.from_edges([(2, 0, 200), (1, 3, 100)])
+
+    def test_a_crossing_counts_the_product_of_its_weights(self):
+        layout = Layout.from_edges([], n=4)
+        layout.add_edge(2, 0, 200)
+        layout.add_edge(1, 3, weight=100)
+        self.assertEqual(layout, self.heavy())
+        self.assertEqual(layout.count(), 20000)
+        self.assertEqual(layout.edge_crossings(), [((0, 2), 20000), ((1, 3), 20000)])
+        self.assertEqual(layout.first_crossing(), ((0, 2), (1, 3)))
+        self.assertEqual(layout.sift(0), (20000, 2))
+        self.assertEqual((layout.count(), layout.weighted_edges()), (0, [(0, 2, 200), (1, 3, 100)]))
+
+    def test_the_weight_of_two_vertices(self):
+        layout = self.heavy()
+        self.assertEqual((layout.weight(0, 2), layout.weight(2, 0), layout.weight(3, 1)), (200, 200, 100))
+        for a, b in ((0, 1), (1, 1), (0, 4), (63, 64), (64, 0), (-1, 0), (0, -2), (2**64, 0)):
+            self.assertEqual(layout.weight(a, b), 0)
+        layout.add_edge(0, 1)
+        self.assertEqual(layout.weight(0, 1), 1)
+        layout.remove_edge(2, 0)
+        self.assertEqual((layout.weight(0, 2), layout.weight(2, 0)), (0, 0))
+        self.assertNotEqual(layout, self.heavy())
+
+    def test_weights_that_are_none(self):
+        layout = self.heavy()
+        for weight in (0, -1, 256, 257, 2**64 + 1, 1.5, 0.0, float("nan"), float("inf"), "2", None, {"weight": 2}):
+            words = f"(edge 0-1 weighs {weight!r})"
+            self.refuses(Refusal.WEIGHT_OUT_OF_RANGE, layout.add_edge, 0, 1, weight, words=words)
+            edges = [(0, 1, weight)]
+            self.refuses(Refusal.WEIGHT_OUT_OF_RANGE, Layout.from_edges, edges, words=words)
+            words = f"(edge 'a'-'b' weighs {weight!r})"
+            self.refuses(Refusal.WEIGHT_OUT_OF_RANGE, rostulanda.layout, [("a", "b", weight)], words=words)
+            # A weight is asked about last.
+            self.refuses(Refusal.EDGE_IS_THERE, layout.add_edge, 0, 2, weight)
+            self.refuses(Refusal.SAME_VERTEX, layout.add_edge, 1, 1, weight)
+            self.refuses(Refusal.NO_SUCH_VERTEX, layout.add_edge, 0, 4, weight)
+        self.assertEqual(layout, self.heavy())
+        layout.add_edge(0, 1, 2.0)
+        self.assertEqual(layout.weight(1, 0), 2)
+
+    def test_weights_in_charts(self):
+        layout = self.heavy()
+        chart = CHART + bytes([0x57, 0, 2, 200, 100])
+        self.assertEqual(layout.chart(), chart)
+        self.assertEqual(Layout.from_chart(chart), layout)
+        self.assertEqual(f"{layout.row()}\n", rostulanda.list_chart(chart))
+        ones = CHART + bytes([0x57, 0, 2, 1, 1])
+        self.assertEqual(Layout.from_chart(ones).chart(), CHART)
+        for refusal, field in (
+            (Refusal.CHART_WEIGHTS, [0x57, 0, 1, 5]),
+            (Refusal.CHART_WEIGHTS, [0x57, 0, 3, 5, 0, 5]),
+            (Refusal.WEIGHT_OUT_OF_RANGE, [0x57, 0, 2, 5, 0]),
+            (Refusal.CHART_TAGS, [0x57, 0, 2, 5, 5] * 2),
+        ):
+            self.refuses(refusal, Layout.from_chart, CHART + bytes(field))
+
+    def test_a_graph6_has_no_weights(self):
+        layout = self.heavy()
+        self.refuses(Refusal.GRAPH6_WEIGHTS, layout.graph6, words="graph6 has no weights")
+        self.refuses(Refusal.GRAPH6_WEIGHTS, layout.export_graph6, bytearray())
+        layout.import_graph6(GRAPH6)
+        self.assertEqual(layout.weighted_edges(), [(0, 2, 1), (1, 3, 1)])
+
+    def test_weights_are_those_of_the_edges(self):
+        for a, b, weight in ((0, 2, 0), (2, 0, 201), (0, 1, 1), (1, 1, 1), (4, 0, 1)):
+            layout = self.heavy()
+            layout.fields.weights[rostulanda.PLACES * a + b] = weight
+            self.assertFalse(layout.is_valid())
+            self.refuses(Refusal.INVALID_LAYOUT, layout.count)
+
+    def test_greedy_append_goes_by_weights_at_its_ends(self):
+        pairs = list(itertools.combinations(range(4), 2))
+        for weights, order in (((1, 1, 1, 1, 1, 1), [2, 0, 1, 3]), ((1, 2, 1, 2, 3, 1), [1, 2, 0, 3])):
+            layout = Layout.from_edges(triples(dict(zip(pairs, weights))))
+            self.assertEqual(layout.greedy_append(2), layout.count())
+            self.assertEqual(layout.order(), order)
+
+    def test_the_carried_count_goes_modulo_2_to_the_64(self):
+        layout = self.heavy()
+        layout.fields.count = 0
+        layout.sift(0)
+        self.assertEqual(layout.count(), 2**64 - 20000)
+
+    def test_edges_with_weights(self):
+        weights = {("a", "c"): 5, ("b", "d"): 4, ("a", "d"): 1, ("b", "e"): 2}
+        row = rostulanda.layout(triples(weights), vertices="abcde")
+        self.assertEqual(row.before, crossings("abcde", weights))
+        self.assertEqual(row.after, crossings(row.order, weights))
+        mixed = [("a", "c", 5), ("d", "b", 4), ("b", "d", 4), ("a", "d"), ("e", "b", 2)]
+        self.assertEqual(rostulanda.layout(mixed, vertices="abcde"), row)
+        checked = rostulanda.check_row(mixed, row.order, row.after)
+        self.assertEqual(checked, (row.after, True, None))
+
+    def test_edges_that_come_again_have_the_same_weight(self):
+        for edges in ([("a", "b", 2), ("b", "a", 3)], [("a", "b", 2), ("a", "b")]):
+            with self.assertRaises(ValueError) as caught:
+                rostulanda.layout(edges)
+            self.assertRegex(str(caught.exception), "^edge '[ab]'-'[ab]' comes with two weights, 2 and [13]$")
+
+    def test_rows_with_weights_are_checked(self):
+        chance = random.Random(11)
+        for n in (4, 7, 10):
+            weights = random_weights(chance, n, 0.6)
+            order = chance.sample(range(n), n)
+            counted = crossings(order, weights)
+            checked = rostulanda.check_row(triples(weights), order, counted)
+            self.assertEqual(checked[:2], (counted, True))
+            if checked.better:
+                u, after, reduction = checked.better
+                moved = [v for v in order if v != u]
+                moved.insert(moved.index(after) + 1, u)
+                self.assertEqual(crossings(moved, weights), counted - reduction)
+
+    def test_edges_by_themselves_have_no_attribute(self):
+        with self.assertRaises(ValueError) as caught:
+            rostulanda.layout([("a", "b")], weight="weight")
+        self.assertIn("triples with a weight", str(caught.exception))
+
+    @unittest.skipIf(networkx is None, "networkx is not installed")
+    def test_the_weights_of_a_networkx_graph(self):
+        graph = networkx.Graph()
+        graph.add_weighted_edges_from([("a", "c", 5), ("b", "d", 4), ("a", "d", 3)])
+        graph.add_edge("b", "e", cost=7)
+        graph.add_node("f")
+        given = {"weight": (5, 4, 3, 1), "cost": (1, 1, 1, 7), None: (1, 1, 1, 1)}
+        kinds = graph, graph.to_directed(), networkx.MultiGraph(graph)
+        for kind, (name, weights) in itertools.product(kinds, given.items()):
+            due = dict(zip([("a", "c"), ("b", "d"), ("a", "d"), ("b", "e")], weights))
+            row = rostulanda.layout(kind, weight=name)
+            self.assertEqual(row.before, crossings(list(kind), due))
+            self.assertEqual(row.after, crossings(row.order, due))
+            checked = rostulanda.check_row(kind, row.order, row.after, weight=name)
+            self.assertEqual(checked, (row.after, True, None))
+        by_triples = rostulanda.layout(graph.edges(data="weight", default=1), vertices=graph)
+        self.assertEqual(by_triples, rostulanda.layout(graph, weight="weight"))
+        graph.add_edge("a", "c", weight=0.5)
+        words = "(edge 'a'-'c' weighs 0.5)"
+        call = lambda: rostulanda.layout(graph, weight="weight")
+        self.refuses(Refusal.WEIGHT_OUT_OF_RANGE, call, words=words)
 
 
 class GraphTest(unittest.TestCase):
@@ -501,11 +681,25 @@ class ChartAndListTest(unittest.TestCase):
         self.assertTrue(str(Layout().row()).endswith("\norder"))
         self.assertEqual(rostulanda.list_chart(b""), "refused 3\n")
 
+    def test_a_row_goes_by_weights(self):
+        chart = CHARTS.joinpath("weighted.chart").read_bytes()
+        layout = Layout.from_chart(chart)
+        row = layout.copy().row()
+        self.assertEqual(f"{row}\n", rostulanda.list_chart(chart))
+        self.assertEqual((row.before, row.after, row.rounds, row.order), (18, 3, 2, [1, 0, 2, 3, 4]))
+        self.assertEqual(rostulanda.layout(layout.weighted_edges(), vertices=range(5)), row)
+        # Without weights its order cannot be bettered.
+        row = rostulanda.layout(layout.edges(), vertices=range(5))
+        self.assertEqual((row.before, row.after, row.rounds), (1, 1, 1))
+
     def test_a_list_is_its_calls_one_after_another(self):
         calls = [
             ("add_vertex",),
             ("add_edge", 4, 1),
             ("add_edge", 4, 4),
+            ("add_edge", 4, 2, 255),
+            ("add_edge", 4, 3, 0),
+            ("add_edge", 4, 3, 257),
             ("move_after", 4, 0),
             ("sift", 2),
             ("sifting_round",),
@@ -531,7 +725,8 @@ class ChartAndListTest(unittest.TestCase):
             (("sift",), "('sift',) names 0 numbers: the call is ('sift', u)"),
             (("sift", 0, 1), "names 2 numbers"),
             (("add_vertex", 0), "the call is ('add_vertex',)"),
-            (("add_edge", 0), "the call is ('add_edge', a, b)"),
+            (("add_edge", 0), "the call is ('add_edge', a, b, weight=1)"),
+            (("add_edge", 0, 1, 2, 3), "names 4 numbers"),
             (["converge"], "the call is ('converge', limit)"),
             (("shift", 0), "there is no call 'shift': the calls are add_vertex, add_edge,"),
             (("count",), "there is no call 'count'"),

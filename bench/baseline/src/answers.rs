@@ -9,14 +9,14 @@ use second::sifting;
 /// What a round answers.
 #[derive(Clone, Copy, Debug, Default, PartialEq, Eq)]
 pub struct Round {
-    pub reduction: u32,
+    pub reduction: u64,
     pub moved: u32,
 }
 
 /// What settling answers.
 #[derive(Clone, Copy, Debug, Default, PartialEq, Eq)]
 pub struct Convergence {
-    pub reduction: u32,
+    pub reduction: u64,
     pub rounds: u32,
     pub converged: bool,
 }
@@ -41,9 +41,9 @@ impl<T: WithoutOptima> WithoutOptima for Answer<T> {
 }
 
 impl WithoutOptima for sifting::Sift {
-    type Rest = u32;
+    type Rest = u64;
 
-    fn without_optima(self) -> u32 {
+    fn without_optima(self) -> u64 {
         self.reduction
     }
 }

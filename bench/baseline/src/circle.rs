@@ -3,75 +3,77 @@
 use second::layout::{Layout, PLACES};
 
 use crate::answers::{Convergence, Round};
-use crate::merge::{swap_change, List};
-use crate::words::{bits_below, move_bit, read_from, transposed, write_sorted};
+use crate::merge::{swap_change, Xs, Ys};
+use crate::ranks::{Ranks, Table, Weights};
+use crate::words::{move_bit, read_from, transposed, write_sorted};
 
-/// The order, and for each vertex the set of its neighbours' positions.
-pub struct Circle {
+/// The order, for each vertex the set of its neighbours' positions, and the
+/// weights.
+pub struct Circle<'a> {
     n: usize,
     order: [u8; PLACES],
     neighbours: [u64; PLACES],
+    weights: &'a Table,
 }
 
 /// Places for the neighbours of a vertex, and eight to write over.
 const ROOM: usize = PLACES + 8;
 
-/// The others around a vertex that is sifted. They have the ranks 0, 1, 2 and so
-/// on, clockwise from it.
-struct Ranks {
-    /// Where the vertex stands.
-    place: usize,
-    /// How many others there are: what a full turn adds to a rank.
-    turn: usize,
-}
-
-impl Ranks {
-    /// A set of positions as one of ranks, without that of the vertex itself.
-    fn of(&self, positions: u64) -> u64 {
-        let behind = positions >> self.place >> 1;
-        let before = positions & bits_below(self.place);
-        behind | before << (self.turn - self.place)
-    }
-
-    /// The position of a rank.
-    fn position(&self, rank: usize) -> usize {
-        let position = self.place + 1 + rank;
-        if position <= self.turn {
-            position
-        } else {
-            position - self.turn - 1
-        }
-    }
-}
-
 /// The neighbours of the vertex that is sifted.
-struct Neighbours {
+struct Neighbours<'a> {
     set: u64,
-    degree: usize,
     /// Their ranks, sorted, and again a full turn later, so that they can be read
     /// clockwise from any vertex on.
-    list: [u8; 2 * ROOM],
+    ranks: [u8; 2 * ROOM],
+    /// The weights of those before each, summed.
+    sums: [i64; 2 * ROOM],
+    total: i64,
+    weights: Weights<'a>,
 }
 
-impl Neighbours {
-    fn new(set: u64, turn: usize) -> Neighbours {
-        let degree = set.count_ones() as usize;
-        let mut list = [0; 2 * ROOM];
-        write_sorted(set, 0, &mut list);
-        write_sorted(set, turn as u8, &mut list[degree..]);
-        Neighbours { set, degree, list }
+/// A rank beyond all others.
+const BEYOND: u8 = u8::MAX;
+
+impl<'a> Neighbours<'a> {
+    fn new(set: u64, turn: usize, weights: Weights<'a>) -> Neighbours<'a> {
+        let mut ranks = [0; 2 * ROOM];
+        let degree = write_sorted(set, 0, &mut ranks);
+        write_sorted(set, turn as u8, &mut ranks[degree..]);
+        ranks[2 * degree] = BEYOND;
+        let mut sums = [0; 2 * ROOM];
+        let mut sum = 0;
+        for (entry, &rank) in sums.iter_mut().zip(&ranks[..=2 * degree]) {
+            *entry = sum;
+            sum += weights.to(rank);
+        }
+        Neighbours {
+            set,
+            ranks,
+            total: sums[degree],
+            sums,
+            weights,
+        }
     }
 
     /// Whether the vertex of that rank is among them.
     fn has(&self, rank: usize) -> bool {
         self.set >> rank & 1 == 1
     }
+
+    /// All but the vertex of a rank, up to which so many are passed.
+    fn without(&self, rank: usize, passed: usize) -> Xs<'_> {
+        Xs {
+            ranks: &self.ranks[passed..],
+            sums: &self.sums[passed..],
+            total: self.total - self.weights.to(rank as u8),
+        }
+    }
 }
 
-impl Circle {
+impl<'a> Circle<'a> {
     /// Takes a valid layout apart. Read along the order, the adjacency words have
     /// a column for each vertex.
-    pub fn new(layout: &Layout) -> Circle {
+    pub fn new(layout: &'a Layout) -> Circle<'a> {
         let n = layout.n as usize;
         let mut rows = [0; PLACES];
         for (row, &v) in rows.iter_mut().zip(&layout.order[..n]) {
@@ -81,6 +83,7 @@ impl Circle {
             n,
             order: layout.order,
             neighbours: transposed(rows),
+            weights: &layout.weights,
         }
     }
 
@@ -91,16 +94,15 @@ impl Circle {
 
     /// Sifts u: moves it behind the first of the other vertices, clockwise, that
     /// gives least crossings, if those are fewer than now. Answers the reduction.
-    pub fn sift(&mut self, u: usize) -> u32 {
-        let ranks = self.ranks_around(u);
-        let own = Neighbours::new(ranks.of(self.neighbours[u]), ranks.turn);
+    pub fn sift(&mut self, u: usize) -> u64 {
+        let ranks = Ranks::new(u, &self.order[..self.n], self.weights);
+        let set = ranks.of(self.neighbours[u]);
+        let own = Neighbours::new(set, ranks.turn, ranks.weights(u));
         let (mut change, mut least, mut best) = (0, 0, None);
         let mut passed = 0;
         for rank in 0..ranks.turn {
-            let joined = usize::from(own.has(rank));
-            passed += joined;
-            let xs = List::new(&own.list[passed..], own.degree - joined);
-            change += self.swap_change(&ranks, xs, rank);
+            passed += usize::from(own.has(rank));
+            change += self.swap_change(&ranks, own.without(rank, passed), rank);
             if change < least {
                 (least, best) = (change, Some(rank));
             }
@@ -112,24 +114,20 @@ impl Circle {
         least.unsigned_abs()
     }
 
-    /// The change of the crossing count when the sifted vertex passes the one of a
-    /// rank. Its neighbours are given, clockwise from there: the ranks up to the
-    /// last one, and then those passed before, a full turn later. Those of the
-    /// other are sorted in the same way.
-    fn swap_change(&self, ranks: &Ranks, xs: List, rank: usize) -> i32 {
-        let v = self.order[ranks.position(rank)];
-        let set = ranks.of(self.neighbours[usize::from(v)]);
+    /// The change of the crossings when the sifted vertex passes the one of a rank.
+    /// Its neighbours are given, clockwise from there: the ranks up to the last one,
+    /// and then those passed before, a full turn later. Those of the other are
+    /// sorted in the same way.
+    fn swap_change(&self, ranks: &Ranks, xs: Xs, rank: usize) -> i64 {
+        let v = ranks.vertex(rank);
+        let set = ranks.of(self.neighbours[v]);
         let mut list = [0; ROOM];
-        write_sorted(read_from(set, rank, ranks.turn), rank as u8, &mut list);
-        swap_change(xs, List::new(&list, set.count_ones() as usize))
-    }
-
-    fn ranks_around(&self, u: usize) -> Ranks {
-        let mut order = self.order[..self.n].iter();
-        Ranks {
-            place: order.position(|&v| usize::from(v) == u).unwrap_or(0),
-            turn: self.n - 1,
-        }
+        let degree = write_sorted(read_from(set, rank, ranks.turn), rank as u8, &mut list);
+        let ys = Ys {
+            ranks: &list[..=degree],
+            weights: ranks.weights(v),
+        };
+        swap_change(xs, ys)
     }
 
     /// Takes the vertex at a position out of the list, and puts it directly after

@@ -1,16 +1,18 @@
 //! Circular sifting by Algorithm 2 of document 004, made to be fast, with the
-//! calls, refusals and choices of document 01. It is what the proved calls are
-//! measured against.
+//! calls, refusals and choices of document 01 and the weights of document 02, Note
+//! 8, as the end of section 4 of document 004 has them. It is what the proved calls
+//! are measured against.
 //!
 //! A call checks its layout, takes it apart once (`circle`), sifts, and gives
 //! back order and carried count. For each swap the two adjacency lists are there
-//! sorted, as ranks clockwise from the vertex that is sifted, and are merged
-//! without a branch on which list is ahead (`merge`).
+//! sorted, as ranks clockwise from the vertex that is sifted (`ranks`), and are
+//! merged without a branch on which list is ahead (`merge`).
 
 mod answers;
 mod checks;
 mod circle;
 mod merge;
+mod ranks;
 mod words;
 
 use second::calls::Answer;
@@ -20,7 +22,7 @@ pub use answers::{Convergence, Round, WithoutOptima};
 use circle::Circle;
 
 /// Sift. Answers the reduction (document 01: saving).
-pub fn sift(layout: Layout, u: u64) -> Answer<u32> {
+pub fn sift(layout: Layout, u: u64) -> Answer<u64> {
     let refusal = checks::first_failed(&layout, &[(u < layout.n, 12)]);
     answer(layout, refusal, |circle| {
         let reduction = circle.sift(u as usize);
@@ -51,7 +53,7 @@ pub fn converge(layout: Layout, limit: u32) -> Answer<Convergence> {
 fn answer<T: Default>(
     mut layout: Layout,
     refusal: u8,
-    sifting: impl FnOnce(&mut Circle) -> (T, u32),
+    sifting: impl FnOnce(&mut Circle) -> (T, u64),
 ) -> Answer<T> {
     let mut value = T::default();
     if refusal == 0 {

@@ -31,6 +31,39 @@ pub fn transposed(mut words: [u64; PLACES]) -> [u64; PLACES] {
     words
 }
 
+/// The same for eight words of eight bytes: byte j of word i becomes byte i of
+/// word j.
+pub fn transposed_bytes(mut words: [u64; 8]) -> [u64; 8] {
+    exchange::<4>(&mut words, 0x0000_0000_FFFF_FFFF);
+    exchange::<2>(&mut words, 0x0000_FFFF_0000_FFFF);
+    exchange::<1>(&mut words, 0x00FF_00FF_00FF_00FF);
+    words
+}
+
+/// Exchanges squares of SIZE by SIZE bytes, those whose bytes are low in their word
+/// with the ones across.
+fn exchange<const SIZE: usize>(words: &mut [u64; 8], low: u64) {
+    for rows in words.chunks_exact_mut(2 * SIZE) {
+        for i in 0..SIZE {
+            let exchanged = (rows[i] >> (8 * SIZE) ^ rows[i + SIZE]) & low;
+            rows[i] ^= exchanged << (8 * SIZE);
+            rows[i + SIZE] ^= exchanged;
+        }
+    }
+}
+
+/// The places of the bytes that are not 0.
+pub fn non_zero(bytes: &[u8; PLACES]) -> u64 {
+    let ones = bytes.map(|byte| u8::from(byte != 0));
+    let mut sets = [0; 8];
+    for (set, ones) in sets.iter_mut().zip(ones.as_chunks().0) {
+        // Takes the lowest bit of byte k to bit 56 + k.
+        let gathered = u64::from_le_bytes(*ones).wrapping_mul(0x0102_0408_1020_4080);
+        *set = (gathered >> 56) as u8;
+    }
+    u64::from_le_bytes(sets)
+}
+
 /// The word of `width` bits with bit `start` taken to bit 0, and the bits below
 /// it to the end. `start` is below `width`, and `width` below 64.
 pub fn read_from(word: u64, start: usize, width: usize) -> u64 {
@@ -45,9 +78,9 @@ pub fn move_bit(word: u64, from: usize, to: usize) -> u64 {
     word & !between | shifted & between & !(1 << to) | moved
 }
 
-/// Writes the numbers in a set in rising sequence, each raised by `start`. Up to
-/// eight places behind them are written to.
-pub fn write_sorted(set: u64, start: u8, list: &mut [u8]) {
+/// Writes the numbers in a set in rising sequence, each raised by `start`, and
+/// gives how many they are. Up to eight places behind them are written to.
+pub fn write_sorted(set: u64, start: u8, list: &mut [u8]) -> usize {
     let mut end = 0;
     let mut raised = u64::from(start) * EACH_BYTE;
     for byte in set.to_le_bytes() {
@@ -56,6 +89,7 @@ pub fn write_sorted(set: u64, start: u8, list: &mut [u8]) {
         end += usize::from(ONES[usize::from(byte)]);
         raised += 8 * EACH_BYTE;
     }
+    end
 }
 
 /// A word of eight bytes that are 1.
@@ -117,6 +151,23 @@ mod tests {
     }
 
     #[test]
+    fn rows_and_columns_of_bytes_are_exchanged() {
+        let words: [u64; 8] = std::array::from_fn(|i| some_words()[i]);
+        for (j, column) in transposed_bytes(words).into_iter().enumerate() {
+            let bytes: Vec<u8> = words.iter().map(|word| word.to_le_bytes()[j]).collect();
+            assert_eq!(column.to_le_bytes(), *bytes, "{j}");
+        }
+    }
+
+    #[test]
+    fn bytes_that_are_not_0() {
+        for set in [0, 1, 1 << 63, u64::MAX, some_words()[3]] {
+            let byte = |i| if bit(set, i) { 1 + i as u8 * 4 } else { 0 };
+            assert_eq!(non_zero(&std::array::from_fn(byte)), set);
+        }
+    }
+
+    #[test]
     fn a_word_is_read_from_a_bit_on() {
         for width in 1..PLACES {
             let word = some_words()[width] & bits_below(width);
@@ -148,10 +199,10 @@ mod tests {
     fn a_set_is_written_sorted() {
         for set in [0, 1, 1 << 63, u64::MAX, some_words()[7]] {
             let mut list = [0; 72];
-            write_sorted(set, 60, &mut list);
+            let length = write_sorted(set, 60, &mut list);
             let expected = (0..64).filter(|&i| bit(set, i)).map(|i| i as u8 + 60);
             let expected: Vec<u8> = expected.collect();
-            assert_eq!(list[..expected.len()], expected);
+            assert_eq!(list[..length], expected);
         }
     }
 }

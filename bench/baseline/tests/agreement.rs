@@ -1,17 +1,19 @@
 //! The baseline answers as the second program does, but for the optima.
 
 use baseline::WithoutOptima;
-use layouts::{most_edges, Random};
+use layouts::{most_edges, Random, Weights};
 use second::calls;
 use second::layout::Layout;
 
-/// Layouts of every size and of many densities, and whatever carried counts.
+/// Layouts of every size and of many densities, with weights of 1 and with any,
+/// and whatever carried counts.
 fn layouts() -> impl Iterator<Item = Layout> {
     let mut random = Random(20041);
     let sizes = (0..=64).flat_map(|n| (0..=8).map(move |eighths| (n, eighths)));
     sizes.map(move |(n, eighths)| {
-        let mut layout = random.layout(n, most_edges(n) * eighths / 8);
-        layout.count = random.below(1 << 32) as u32;
+        let weights = [Weights::Ones, Weights::Any][random.below(2)];
+        let mut layout = random.layout(n, most_edges(n) * eighths / 8, weights);
+        layout.count = random.any();
         layout
     })
 }
@@ -55,6 +57,18 @@ fn converging() {
     }
 }
 
+/// Vertices that are joined if both are even or both odd, in rising order.
+#[test]
+fn reductions_of_more_than_32_bits() {
+    let order: Vec<u8> = (0..64).collect();
+    let mut layout = Layout::new(&order, &[]);
+    for (a, b) in (0..64).flat_map(|a| (a + 2..64).step_by(2).map(move |b| (a, b))) {
+        layout.put_edge(a, b, 255);
+    }
+    run_agrees(layout, 50);
+    assert!(baseline::converge(layout, 50).value.reduction > 1 << 32);
+}
+
 #[test]
 fn refused_arguments() {
     for layout in layouts() {
@@ -67,16 +81,23 @@ fn refused_arguments() {
     }
 }
 
-/// One entry of the layout is changed; most of these are not valid.
+/// One entry of the layout is changed, or an edge and its weight; most of these are
+/// not valid.
 #[test]
 fn layouts_that_are_not_valid() {
     let mut random = Random(7);
     for layout in layouts() {
-        let mut changed = [layout; 4];
+        let [a, b] = [64, 64].map(|bound| random.below(bound));
+        let mut changed = [layout; 7];
         changed[0].n = random.below(70) as u64;
         changed[1].order[random.below(64)] = random.below(70) as u8;
-        changed[2].adjacency[random.below(64)] ^= 1 << random.below(64);
-        changed[3].flip_edge(random.below(64), random.below(64));
+        changed[2].adjacency[a] ^= 1 << b;
+        changed[3].weights[a][b] = random.below(256) as u8;
+        changed[4].weights[a][b] ^= 1;
+        changed[4].weights[b][a] ^= 1;
+        changed[5].adjacency[a] ^= 1 << b;
+        changed[5].adjacency[b] ^= 1 << a;
+        changed[6].put_edge(a, b, random.below(3) as u8);
         for layout in changed {
             round_agrees(layout);
         }

@@ -1,6 +1,5 @@
 -- The steps of greedy append: what they go through, and that it is what the definition says.
 pub mod Masks
-pub mod Ends
 pub mod Choices
 pub mod Steps
 pub mod Rest

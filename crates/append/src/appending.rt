@@ -34,8 +34,9 @@ fn append_from(l: Layout, s: usize) -> Appended
     let n = l.n;
     let before = l.order;
     let adjacency = l.adjacency;
+    let weights = l.weights;
     // those with edges, and then the rest: the isolated ones (document 02, Note 2: unlinked devices)
-    let linked = place_linked(n, &adjacency, s);
+    let linked = place_linked(n, &adjacency, &weights, s);
     let line = put_rest(n, linked.line, linked.placed);
     let order = written(line, before);
     // the tally is the crossings of the laid order (document 02, Note 6), so that only those before
@@ -43,7 +44,7 @@ fn append_from(l: Layout, s: usize) -> Appended
     let tally = linked.tally;
     Appended {
         refusal: 0,
-        layout: carried_to(l, n, order, adjacency, tally),
+        layout: carried_to(l, n, order, adjacency, weights, tally),
         tally,
     }
 }

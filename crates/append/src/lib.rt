@@ -1,6 +1,5 @@
 // Greedy append (document 01: lay). One file for each subject.
 mod appending;
-mod ends;
 mod steps;
 
 pub use appending::greedy_append;

@@ -3,11 +3,11 @@ use Prim.Native.Nat.{ℕ, zero, suc, _+_, _-_, _%_, _≤_, _<_}
 use native.Mathlib.Nat.{le-of-lt, le-antisymm, add-sub-cancel-left}
 use native.Mathlib.Numerals.{add-one}
 use native.Mathlib.Omega.{arith}
-use mathlib.Core.Path.{_≡_, refl, sym, ap, ap₂, _∙_}
+use mathlib.Core.Path.{_≡_, refl, ap, ap₂, _∙_}
 use mathlib.Core.Bool.{cond}
 use mathlib.Core.List.{List, [], _∷_, _++_}
-use lib.ListN.{length, getD, take, drop, set, length-drop, length-set, replicate}
-use lib.Seq.{length-take-le, take-length, set-split, drop-at, drop-set-add, take-suc-set, getD-take, getD-drop}
+use lib.ListN.{length, take, drop, set, length-drop, length-set, replicate}
+use lib.Seq.{length-take-le, take-length, set-split, drop-at, drop-set-add, take-suc-set}
 use lib.Dec.{eqb}
 use Rattle.model.specs.Crossings.{bit}
 use Rattle.append_line.specs.declared.Line.{Line}
@@ -26,11 +26,6 @@ pub record Centred (l : Line) : Type 0 where
 pub entries-length : {l : Line} → Centred l → length (entries l) ≡ l .size
 unfolding entries
 entries-length {l} c = length-take-le (l .size) (drop (l .first) (l .places)) (omega (arith, c .room, c .left, c .few, length-drop (l .first) (l .places)))
-
--- an entry, where it stands in the buffer
-pub entry-at : (l : Line) (i : ℕ) → i < l .size → getD (l .places) (l .first + i) 0 ≡ getD (entries l) i 0
-unfolding entries
-entry-at l i h = sym (getD-take (l .size) (drop (l .first) (l .places)) i 0 h ∙ getD-drop (l .first) (l .places) i 0)
 
 -- ---- what a store gives
 

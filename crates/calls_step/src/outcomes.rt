@@ -45,7 +45,7 @@ pub(crate) fn of_appended(a: Appended) -> Outcome
     Outcome {
         refusal: a.refusal,
         layout,
-        first: a.tally as u64,
+        first: a.tally,
         second: 0,
         third: 0,
         fourth: 0,
@@ -59,7 +59,7 @@ pub(crate) fn of_sifted(a: Sifted) -> Outcome
     Outcome {
         refusal: a.refusal,
         layout,
-        first: a.reduction as u64,
+        first: a.reduction,
         second: a.optima as u64,
         third: 0,
         fourth: 0,
@@ -73,7 +73,7 @@ pub(crate) fn of_rounded(a: Rounded) -> Outcome
     Outcome {
         refusal: a.refusal,
         layout,
-        first: a.reduction as u64,
+        first: a.reduction,
         second: a.moved as u64,
         third: a.optima as u64,
         fourth: 0,
@@ -88,7 +88,7 @@ pub(crate) fn of_converged(a: Converged) -> Outcome
     Outcome {
         refusal: a.refusal,
         layout,
-        first: a.reduction as u64,
+        first: a.reduction,
         second: a.rounds as u64,
         third: converged,
         fourth: a.optima as u64,

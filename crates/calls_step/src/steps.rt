@@ -26,7 +26,7 @@ pub fn step(l: Layout, c: Call) -> Outcome
 {
     match c {
         Call::AddVertex => of_added(add_vertex(l)),
-        Call::AddEdge(a, b) => of_changed(add_edge(l, a, b)),
+        Call::AddEdge(a, b, weight) => of_changed(add_edge(l, a, b, weight)),
         Call::RemoveEdge(a, b) => of_changed(remove_edge(l, a, b)),
         Call::MoveAfter(a, b) => of_changed(move_after(l, a, b)),
         Call::GreedyAppend(s) => of_appended(greedy_append(l, s)),

@@ -1,46 +1,23 @@
 -- Question 7: the edges of a chart joined in the words one after the other.
 use Prim.Native.Nat.{ℕ, _+_, _%_, _≤_, _<_, zero-le}
-use native.Mathlib.Nat.{mod-eq-of-lt}
 use native.Mathlib.Omega.{arith}
 use mathlib.Core.Path.{_≡_, refl, sym, ap, ap₂, _∙_}
 use mathlib.Core.Bool.{Bool, true, false, not, _&&_}
-use mathlib.Core.List.{List, [], _∷_, _++_, map, append-assoc, append-nil}
-use lib.ListN.{length, getD, set, drop, replicate, length-map, List·getD-map}
+use mathlib.Core.List.{List, [], _∷_, _++_, append-assoc, append-nil}
+use lib.ListN.{length, getD, drop, replicate}
 use lib.Dec.{eqb}
 use Rattle.model.specs.declared.Edge.{Edge}
 use Rattle.model.specs.declared.Asked.the-variants as asks
-use Rattle.model.specs.Lists.{one, every, any, noRepeats}
+use Rattle.model.specs.Lists.{every, any, noRepeats}
 use Rattle.model.specs.Crossings.{bit, linked}
 use Rattle.model.specs.Edits.{withBit, atBothEnds}
 use Rattle.model.specs.Checks.{refusal, byRefusal, checked}
 use Rattle.model.specs.Charts.{edgesIn, edgeWithin, joins, sameEdge, asked, answer, repeatChecks}
-use Rattle.laws.specs.Sums.Indicators.{both-left, both-right}
 use Rattle.laws.specs.Layouts.EdgeEdits.{ends-within}
 use Rattle.laws.specs.Sums.Any.{noRepeats-last, noRepeats-more}
-use Rattle.laws.specs.Charts.Ends.{edge, edge-ends, edges-next, edges-last}
+use Rattle.laws.specs.Charts.Ends.{edge, edges-next, edges-last}
+use Rattle.laws.specs.Charts.Wrapped.{wrapped, wrapped-length, wrapped-at, wrapped-edges}
 use Rattle.laws.specs.Charts.Words.{adjacencyOf, adjacency-linked, no-edges, edge-joined}
-
--- each end modulo 64
-unfoldable pub wrapped : List ℕ → List ℕ
-wrapped links = map (λ e. e % 64) links
-
-wrapped-length : (links : List ℕ) → length (wrapped links) ≡ length links
-unfolding wrapped
-wrapped-length links = length-map links (λ e. e % 64)
-
-wrapped-at : (links : List ℕ) (i : ℕ) → getD (wrapped links) i 0 ≡ getD links i 0 % 64
-unfolding wrapped
-wrapped-at links i = List·getD-map (λ (e : ℕ). e % 64) links i 0
-
--- links with ends below 64 stay what they are
-pub wrapped-edges : (links : List ℕ) → every (edgeWithin 64) (edgesIn links) ≡ true → edgesIn (wrapped links) ≡ edgesIn links
-unfolding wrapped edgesIn every edge
-wrapped-edges [] e = refl
-wrapped-edges (a ∷ []) e = refl
-wrapped-edges (a ∷ b ∷ rest) e =
-    let ends = edge-ends 64 a b (both-left (edgeWithin 64 (edge a b)) (every (edgeWithin 64) (edgesIn rest)) e) in
-    ap₂ (λ (x : Edge) (xs : List Edge). x ∷ xs) (ap₂ edge (mod-eq-of-lt (ends .first)) (mod-eq-of-lt (ends .second)))
-    (wrapped-edges rest (both-right (edgeWithin 64 (edge a b)) (every (edgeWithin 64) (edgesIn rest)) e))
 
 pub wrapped-checks : (links : List ℕ) → every (edgeWithin 64) (edgesIn links) ≡ true → repeatChecks (wrapped links) ≡ repeatChecks links
 unfolding repeatChecks

@@ -4,7 +4,8 @@ use model::Asked;
 ghost use mathlib.Core.Path.{_≡_};
 ghost use mathlib.Core.List.{[]};
 ghost use Rattle.model.specs.Charts.{asked, answer, repeatChecks};
-ghost use Rattle.chart_bodies.specs.Words.{wrapped, wordsOver};
+ghost use Rattle.laws.specs.Charts.Wrapped.{wrapped};
+ghost use Rattle.chart_bodies.specs.Words.{wordsOver};
 ghost use Rattle.chart_bodies.specs.Order.{orderQuestion};
 
 // Question 7: each pair only once, either way round. An end is taken modulo 64. The edges go into the

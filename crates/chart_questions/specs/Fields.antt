@@ -2,20 +2,21 @@
 use Prim.Native.Nat.{ℕ, zero, suc, _+_, _-_, _≤_, _<_, zero-le}
 use native.Mathlib.Nat.{add-assoc, add-sub-cancel-left}
 use native.Mathlib.Numerals.{add-one, sub-one}
+use native.Mathlib.Decide.{decLt}
 use native.Mathlib.Omega.{arith}
 use mathlib.Core.Path.{_≡_, refl, sym, ap, _∙_}
 use mathlib.Core.Bool.{Bool, true, false, cond, true≢false, false≢true}
 use mathlib.Core.List.{List, [], _∷_, map}
 use lib.ListN.{length, getD, take, drop, length-drop, drop-of-length-le}
 use lib.Seq.{drop-cons, drop-drop}
-use lib.Dec.{eqb}
-use borrow.Author.Tests.{le-leb, lt-leb, eq-eqb, ne-eqb}
+use lib.Dec.{eqb, ltb}
+use borrow.Author.Tests.{le-leb, lt-leb, lt-ltb, le-ltb, eq-eqb, ne-eqb}
 use Rattle.model.specs.declared.Asked.the-variants as asks
 use Rattle.model.specs.declared.FieldFound.{FieldFound}
 use Rattle.model.specs.declared.FieldFound.the-variants as field
 use Rattle.model.specs.declared.SizeFound.the-variants as size
 use Rattle.model.specs.Checks.{refusal, byRefusal, checked}
-use Rattle.model.specs.Charts.{Field, Fields, bodyLength, startsWithField, firstField, fieldsOf, tagsOf, bodyOf, sameList, chartTags, chartChecks}
+use Rattle.model.specs.Charts.{Field, Fields, bodyLength, startsWithField, firstField, fieldsOf, tagsOf, bodyOf, sameList, chartTags, weightedTags, chartChecks}
 use Rattle.model.specs.Charts.{Answer, accept, refuse, asked, fieldFound, answer, fieldAnswer, divisionAnswer, tagsAnswer, sizeFound}
 use Rattle.model.specs.Charts.{sizeChecks, sizeAnswer}
 use Rattle.laws.specs.Sums.Indicators.{Order, less, same, more, order}
@@ -171,9 +172,54 @@ module _ (s : List ℕ) where
   unfolding tagsAnswer chartChecks answer checked byRefusal refusal asked
   tags-right e = rw e
 
-  pub tags-wrong : sameList (tagsOf s) chartTags ≡ false → asked (asks.Refused 3) ≡ tagsAnswer s
-  unfolding tagsAnswer chartChecks answer checked byRefusal refusal asked
-  tags-wrong e = rw e
+  module _ (no : sameList (tagsOf s) chartTags ≡ false) where
+    pub tags-weighted : sameList (tagsOf s) weightedTags ≡ true → asked asks.Passed ≡ tagsAnswer s
+    unfolding tagsAnswer chartChecks answer checked byRefusal refusal asked
+    tags-weighted e = rw (no, e)
+
+    pub tags-wrong : sameList (tagsOf s) weightedTags ≡ false → asked (asks.Refused 3) ≡ tagsAnswer s
+    unfolding tagsAnswer chartChecks answer checked byRefusal refusal asked
+    tags-wrong e = rw (no, e)
+
+-- ---- is there a field i?
+
+-- there is a field i where there is, from a place on, a field left
+pub record FieldUpTo (s : List ℕ) (i at left : ℕ) : Type 0 where
+  pub inside : at ≤ length s
+  pub rest : ltb i (length (fieldsOf s .fields)) ≡ ltb left (length (fieldsOf (drop at s) .fields))
+
+one-less : (a b : ℕ) → (a ≡ 0 → ⊥) → ltb a (suc b) ≡ ltb (a - 1) b
+one-less a b d =
+    elim (decLt (a - 1) b) [
+      | yes l ↦ lt-ltb a (suc b) (omega arith) ∙ sym (lt-ltb (a - 1) b l)
+      | no l ↦ le-ltb a (suc b) (omega arith) ∙ sym (le-ltb (a - 1) b (omega arith))
+    ]
+
+module _ {s : List ℕ} {i : ℕ} where
+  pub field-start : FieldUpTo s i 0 i
+  field-start = record { inside = zero-le; rest = refl }
+
+  module _ {at left : ℕ} (u : FieldUpTo s i at left) where
+    pub field-missing : startsWithField (drop at s) ≡ false → false ≡ ltb i (length (fieldsOf s .fields))
+    unfolding noField
+    field-missing e =
+        sym
+        (u .rest ∙ ap (λ (fs : Fields). ltb left (length (fs .fields))) (fields-none (drop at s) e) ∙ le-ltb left 0 (omega arith))
+
+    module _ {tag size : ℕ} (f : FieldThere (drop at s) tag size) where
+      one-more : length (fieldsOf (drop at s) .fields) ≡ suc (length (fieldsOf (drop (at + (3 + size)) s) .fields))
+      unfolding inFront
+      one-more = ap (λ (fs : Fields). length (fs .fields)) (fields-at s at f)
+
+      pub field-found : left ≡ 0 → true ≡ ltb i (length (fieldsOf s .fields))
+      field-found e = sym (u .rest ∙ lt-ltb left (length (fieldsOf (drop at s) .fields)) (omega (arith, one-more)))
+
+      pub field-next : (left ≡ 0 → ⊥) → FieldUpTo s i (at + (3 + size)) (left - 1)
+      field-next d =
+          record {
+            inside = omega (arith, field-inside s (u .inside) f);
+            rest = u .rest ∙ ap (ltb left) one-more ∙ one-less left (length (fieldsOf (drop (at + (3 + size)) s) .fields)) d;
+          }
 
 -- ---- the bodies
 

@@ -5,8 +5,9 @@ use model::SizeFound;
 ghost use mathlib.Core.Path.{_≡_};
 ghost use Prim.Native.Nat.{_≤_};
 ghost use lib.ListN.{length, drop};
+ghost use lib.Dec.{ltb};
 ghost use Rattle.model.specs.Charts.{asked, fieldFound, sizeFound};
-ghost use Rattle.model.specs.Charts.{fieldsOf, tagsOf, bodyOf, sameList, fieldAnswer, divisionAnswer, tagsAnswer, sizeAnswer};
+ghost use Rattle.model.specs.Charts.{fieldsOf, tagsOf, bodyOf, hasWeights, sameList, fieldAnswer, divisionAnswer, tagsAnswer, sizeAnswer};
 
 // Questions 1 and 2: at most 8,192 bytes, which divide exactly into fields.
 pub fn ask_fields(bytes: &[u8]) -> Asked
@@ -58,12 +59,16 @@ fn first_field(bytes: &[u8]) -> FieldFound
     }
 }
 
-// Question 3: fields 44, 4C and 52 in that sequence, and no other behind them.
+// Question 3: fields 44, 4C and 52 in that sequence, and no other behind them but 57.
 pub fn ask_tags(bytes: &[u8]) -> Asked
     ensures { λ r. ⌜ asked r ≡ tagsAnswer (now (bytes .entry)) ⌝ }
 {
     let tags = [0x44, 0x4C, 0x52];
     if has_tags(bytes, &tags) {
+        return Asked::Passed;
+    }
+    let weighted = [0x44, 0x4C, 0x52, 0x57];
+    if has_tags(bytes, &weighted) {
         return Asked::Passed;
     }
     Asked::Refused(3)
@@ -89,6 +94,31 @@ fn has_tags(bytes: &[u8], tags: &[u8]) -> bool
         return true;
     };
     false
+}
+
+// Is there a fourth field?
+pub fn has_weights(bytes: &[u8]) -> bool
+    ensures { λ r. ⌜ r ≡ hasWeights (now (bytes .entry)) ⌝ }
+{
+    has_field(bytes, 3)
+}
+
+// Is there a field i, counted from 0?
+fn has_field(bytes: &[u8], i: usize) -> bool
+    ensures { λ r. ⌜ r ≡ ltb i (length (fieldsOf (now (bytes .entry)) .fields)) ⌝ }
+{
+    let mut at = 0;
+    let mut ahead = i;
+    loop {
+        let FieldFound::Field(_, length) = field_at(bytes, at) else {
+            return false;
+        };
+        if ahead == 0 {
+            return true;
+        }
+        at += 3 + length;
+        ahead -= 1;
+    }
 }
 
 // The body of field i, counted from 0; empty where there are not so many fields.

@@ -1,2 +1,2 @@
--- The counter's loops.
+-- The loops of the counter.
 pub mod Loops

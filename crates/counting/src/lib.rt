@@ -1,86 +1,62 @@
-// The crossings of an order, counted over pairs of places j < k: the edges from before j to k times
-// the edges from j to beyond k, each a count of ones under a running mask.
+// The crossings of an order whose edges weigh (document 02, Note 8), counted over pairs of places j < k:
+// the weight of all vertices before j towards k, times the weight of j towards all behind k.
 ghost use mathlib.Core.Path.{_≡_};
-ghost use Prim.Native.Nat.{suc, _*_, _≤_, _<_};
-ghost use Rattle.laws.specs.Sums.Bits.{maskedOnes};
-ghost use Rattle.laws.specs.Crossings.Masks.{vertexAt, wordAt, maskBefore, maskFrom, countRow};
-ghost use Rattle.laws.specs.Layouts.Recount.{counted};
-ghost use Rattle.laws.specs.Crossings.Bound.{mostOfPlace};
-ghost use Rattle.laws.specs.Sums.Numbers.{Bounded};
+ghost use Prim.Native.Nat.{_*_, _≤_, _<_};
+ghost use Rattle.laws.specs.Tables.Rows.{tableWeight};
+ghost use Rattle.laws.specs.Tables.Counts.{counted};
+ghost use Rattle.counting.specs.Loops.{Before, RowCounted};
 use model::Layout;
 
 // The crossings of a valid layout.
-pub fn crossings_of(l: Layout) -> u32
-    ensures { λ r. ⌜ r ≡ counted (l .n) (l .order) (l .adjacency) ⌝ }
+pub fn crossings_of(l: Layout) -> u64
+    ensures { λ r. ⌜ r ≡ counted (l .n) (l .order) (tableWeight (l .weights)) ⌝ }
 {
     let order = l.order;
-    let adjacency = l.adjacency;
-    count_crossings(l.n, &order, &adjacency)
+    let weights = l.weights;
+    count_crossings(l.n, &order, &weights)
 }
 
-// Of a valid layout these are its crossings; for any other bytes it is the same formula, with places
-// of the order taken modulo 64.
-pub fn count_crossings(n: usize, order: &[u8; 64], adjacency: &[u64; 64]) -> u32
-    ensures { λ r. ⌜ r ≡ counted n (now (order .entry)) (now (adjacency .entry)) ⌝ }
+// Of a valid layout these are its crossings; for any other bytes it is the same sum, with entries of
+// the order taken modulo 64.
+pub fn count_crossings(n: usize, order: &[u8; 64], weights: &[u8; 4096]) -> u64
+    ensures { λ r. ⌜ r ≡ counted n (now (order .entry)) (tableWeight (now (weights .entry))) ⌝ }
 {
     if 64 < n {
         return 0;
     }
-    let mut before: u64 = 0;
-    let mut from = words::low_bits(n);
-    let mut total: u32 = 0;
+    let mut before = [0u16; 64];
+    let mut total: u64 = 0;
     let mut j = 0;
     while j < n {
-        let v = vertex_at(order, j);
-        from = words::clear(from, v);
-        total += count_row(n, order, adjacency, j, before, from);
-        before = words::set(before, v);
+        total += count_row(n, order, weights, &before, j);
+        let u = (order[j] % 64) as usize;
+        weights::add_row(&mut before, weights, u);
         j += 1;
     }
     total
 }
 
-// The pairs of place j with every later place. before holds the vertices that stand before j, after
-// those that stand behind it.
-fn count_row(
-    n: usize,
-    order: &[u8; 64],
-    adjacency: &[u64; 64],
-    j: usize,
-    before: u64,
-    after: u64,
-) -> u32
-    requires { ⌜ (n ≤ 64) × (j < n) × (before ≡ maskBefore (now order) j) × (after ≡ maskFrom n (now order) (suc j)) ⌝ }
-    ensures { λ r. ⌜ Bounded (countRow n (now (order .entry)) (now (adjacency .entry)) j) mostOfPlace r ⌝ }
+// The pairs of place j with every later place, from the last one down. before has the weight of all
+// before j towards each vertex.
+fn count_row(n: usize, order: &[u8; 64], weights: &[u8; 4096], before: &[u16; 64], j: usize) -> u64
+    requires { ⌜ (n ≤ 64) × (j < n) × Before (now order) (now weights) (now before) j ⌝ }
+    ensures { λ r. ⌜ RowCounted n (now (order .entry)) (now (weights .entry)) j r ⌝ }
 {
-    let word = word_at(order, adjacency, j);
-    let mut rest = after;
-    let mut total: u32 = 0;
-    let mut k = j + 1;
-    while k < n {
-        rest = words::clear(rest, vertex_at(order, k));
-        total += count_pair(word_at(order, adjacency, k), before, word, rest);
-        k += 1;
+    let u = (order[j] % 64) as usize;
+    let mut beyond: u32 = 0;
+    let mut total: u64 = 0;
+    let mut k = n;
+    while j + 1 < k {
+        k -= 1;
+        let x = (order[k] % 64) as usize;
+        total += product(before[x], beyond);
+        beyond += weights::weight_at(weights, u, x);
     }
     total
 }
 
-fn count_pair(later: u64, before: u64, earlier: u64, rest: u64) -> u32
-    ensures { λ r. ⌜ Bounded (maskedOnes later before * maskedOnes earlier rest) 4096 r ⌝ }
+fn product(a: u16, b: u32) -> u64
+    ensures { λ r. ⌜ r ≡ a * b ⌝ }
 {
-    words::count(later, before) * words::count(earlier, rest)
-}
-
-fn vertex_at(order: &[u8; 64], k: usize) -> usize
-    requires { ⌜ k < 64 ⌝ }
-    ensures { λ r. ⌜ Bounded (vertexAt (now (order .entry)) k) 63 r ⌝ }
-{
-    (order[k] % 64) as usize
-}
-
-fn word_at(order: &[u8; 64], adjacency: &[u64; 64], k: usize) -> u64
-    requires { ⌜ k < 64 ⌝ }
-    ensures { λ r. ⌜ r ≡ wordAt (now (order .entry)) (now (adjacency .entry)) k ⌝ }
-{
-    adjacency[vertex_at(order, k)]
+    (a as u64) * (b as u64)
 }

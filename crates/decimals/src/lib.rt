@@ -44,7 +44,7 @@ pub fn put_bytes(out: &mut [u8], at: usize, bytes: &[u8]) -> usize
 }
 
 // A line with a name and a number.
-pub fn put_line(out: &mut [u8], at: usize, name: &[u8], x: u32) -> usize
+pub fn put_line(out: &mut [u8], at: usize, name: &[u8], x: u64) -> usize
     ensures { λ r. ⌜ Put (length (now (name .entry)) + 22) (now (out .entry)) at (now (name .entry) ++ spaced x ++ text "\n") (now (out .exit)) r ⌝ }
 {
     if lacks(out.len(), at, name.len() + 22) {
@@ -53,13 +53,13 @@ pub fn put_line(out: &mut [u8], at: usize, name: &[u8], x: u32) -> usize
     named_line(out, at, name, x)
 }
 
-fn named_line(out: &mut [u8], at: usize, name: &[u8], x: u32) -> usize
+fn named_line(out: &mut [u8], at: usize, name: &[u8], x: u64) -> usize
     requires { ⌜ at + length (now name) + 22 ≤ length (now out) ⌝ }
     ensures { λ r. ⌜ Written (now (out .entry)) at (now (name .entry) ++ spaced x ++ text "\n") (now (out .exit)) r
         × (r ≤ at + length (now (name .entry)) + 22) ⌝ }
 {
     let number = put_text(out, at, name);
-    let end = put_number(out, number, x as u64);
+    let end = put_number(out, number, x);
     put_text(out, end, b"\n")
 }
 

@@ -10,7 +10,7 @@ use Rattle.model.specs.declared.Appended.{Appended}
 use Rattle.model.specs.Lists.{upto, keep}
 use Rattle.model.specs.Layouts.{vertexOrder, weight, crossingsOf, valid, carried, changed, reordered}
 use Rattle.model.specs.GreedyAppend.{Placing, formerPlaceAll, layChecks, layAnswer, layRefused, layOf, formerLayOf, stays}
-use Rattle.laws.specs.Layouts.Validity.{sound, words-symmetric}
+use Rattle.laws.specs.Layouts.Validity.{sound, valid-symmetric}
 use Rattle.laws.specs.Layouts.Refusals.{vertex-passed, checked-both}
 use Rattle.laws.specs.Layouts.Reordering.{reordered-order, reordered-crossings}
 use Rattle.laws.specs.Layouts.Weights.{weight-within-words}
@@ -34,17 +34,17 @@ module _ (l : Layout) (s : ℕ) where
 
   module _ (t : T (valid l)) (h : s < l .n) where
     formerly : Laid (l .n) (weight l) (l .n) formerlyLaid
-    formerly = former-laid-all (weight l) (sound l t .symmetry) (l .adjacency) s h
+    formerly = former-laid-all (weight l) (valid-symmetric l t) (l .adjacency) s h
 
     same-placing : laidOut l s ≡ restAtBack (l .n) (l .adjacency) s formerlyLaid
-    same-placing = all-formerly (l .n) (l .adjacency) s (weight-within-words l t) (words-symmetric l t) (sound l t .symmetry) h (laid-permutation formerly)
+    same-placing = all-formerly (l .n) (l .adjacency) s (weight-within-words l t) (sound l t .words) (valid-symmetric l t) h (laid-permutation formerly)
 
     same-tally : laidOut l s .tally ≡ formerlyLaid .tally
     same-tally = ap (λ (d : Placing). d .tally) same-placing
 
     same-crossings : crossingsOf (reordered l (laidOut l s .placed)) ≡ crossingsOf (reordered l (formerlyLaid .placed))
     same-crossings =
-        sym (lay-crossings l s t h) ∙ same-tally ∙ laid-tally formerly (sound l t .symmetry)
+        sym (lay-crossings l s t h) ∙ same-tally ∙ laid-tally formerly (valid-symmetric l t)
         ∙ sym (reordered-crossings l (formerlyLaid .placed) (laid-permutation formerly .size))
 
     accepted : AsFormerly l s (layAnswer l (laidOut l s)) (layAnswer l formerlyLaid)

@@ -2,7 +2,7 @@
 use Prim.Native.Nat.{ℕ, zero, suc, _<_}
 use native.Mathlib.Nat.{add-zero}
 use native.Mathlib.Omega.{arith}
-use mathlib.Core.Path.{_≡_, refl, sym, ap, ap₂, _∙_}
+use mathlib.Core.Path.{_≡_, refl, sym, ap, ap₂, _∙_, subst}
 use mathlib.Core.Bool.{Bool, true, false, not, cond, _&&_, _||_, and-true, and-false, or-true}
 use mathlib.Core.List.{List, [], _∷_, _++_, append-nil}
 use lib.ListN.{length}
@@ -13,9 +13,9 @@ use Rattle.model.specs.Crossings.{unitWeight}
 use Rattle.model.specs.GreedyAppend.{unplaced, waiting, isolated, hasEdges, nextVertex, frontCrossings, backCrossings}
 use Rattle.model.specs.GreedyAppend.{Placing, alone, placeFront, placeBack, placeVertex, placeMore, placeLinked, placeAll, formerPlaceAll, stays}
 use Rattle.laws.specs.Sums.Indicators.{one-eq}
-use Rattle.laws.specs.Sums.Lists.{All, none, also, all-append, all-mono, keep-append, keep-keep, keep-true, keep-split}
+use Rattle.laws.specs.Sums.Lists.{All, none, also, all-append, all-keep, all-mono, all-places, keep-append, keep-keep, keep-true, keep-split}
 use Rattle.laws.specs.Sums.Pairs.{Symmetric}
-use Rattle.laws.specs.Orders.Permutations.{Permutation, occurrences-cons, occurrences-append, member-occurs}
+use Rattle.laws.specs.Orders.Permutations.{Permutation, at-lt, occurrences-cons, occurrences-append, member-occurs}
 use Rattle.laws.specs.Append.Order.{Waiting, all-waiting, next-waiting, waiting-others}
 use Rattle.laws.specs.Layouts.Weights.{WithinWords}
 use Rattle.laws.specs.Append.Isolated.{front-none, back-none, isolated-at-back}
@@ -55,7 +55,7 @@ module _ (n : ℕ) (adj : List ℕ) (start : ℕ) where
     below : All (λ x. x < n) (s .placed)
     first : 0 < occurrences start (s .placed)
 
-  module _ {W : ℕ → ℕ → ℕ} (bare : WithinWords adj W) where
+  module _ {W : ℕ → ℕ → ℕ} (bare : WithinWords n adj W) where
     module _ (v : ℕ) (s : Placing) where
       step-started : Started s → v < n → Started (placeVertex n W s v)
       unfolding placeFront placeBack
@@ -72,12 +72,12 @@ module _ (n : ℕ) (adj : List ℕ) (start : ℕ) where
       placedAt front s = cond front (placeFront n W s v) (placeBack n W s v)
 
       -- an isolated one changes nothing for those that stay
-      lone-next : hasEdges adj v ≡ false → (v ≡ start → ⊥) → stayingPart (placeVertex n W s v) ≡ stayingPart s
+      lone-next : All (λ x. x < n) (s .placed) → v < n → hasEdges adj v ≡ false → (v ≡ start → ⊥) → stayingPart (placeVertex n W s v) ≡ stayingPart s
       unfolding placeVertex placeBack keep
-      lone-next lone d =
-          ap (λ (b : Bool). stayingPart (placedAt b s)) (ap₂ ltb (front-none bare v lone n (s .placed)) (back-none bare v lone n (s .placed)))
+      lone-next below h lone d =
+          ap (λ (b : Bool). stayingPart (placedAt b s)) (ap₂ ltb (front-none bare h lone below) (back-none bare h lone below))
           ∙ ap₂ placing (keep-append (stays adj start) (s .placed) (v ∷ []) ∙ rw (lone-goes v lone d) (append-nil _))
-          (rw (back-none bare v lone n (s .placed)) (add-zero _))
+          (rw (back-none bare h lone below) (add-zero _))
 
       -- one with edges goes to the end that it goes to without the others
       linked-next : Symmetric n W → All (λ x. x < n) (s .placed) → v < n → hasEdges adj v ≡ true
@@ -151,7 +151,7 @@ module _ (n : ℕ) (adj : List ℕ) (start : ℕ) where
                   ∙ sym (run-next (hasEdges adj) (stayingPart s) (omega (arith, less, ap length (waiting-seen dropping n (s .placed)))))
               by-test false e =
                   ap (run (hasEdges adj))
-                  (lone-next (next every-one s) s e (λ d. omega (arith, w .free, t .first, ap (λ (x : ℕ). occurrences x (s .placed)) d)))
+                  (lone-next (next every-one s) s (t .below) (w .below) e (λ d. omega (arith, w .free, t .first, ap (λ (x : ℕ). occurrences x (s .placed)) d)))
 
       linked-run : (k : ℕ) (s : Placing) → Started s → length (waiting n every-one (s .placed)) ≡ k → stayingPart (run every-one s) ≡ linkedRun s
       linked-run zero s t e =
@@ -216,5 +216,7 @@ module _ (n : ℕ) (adj : List ℕ) (start : ℕ) where
         pub all-formerly : Permutation n (formerly .placed) → placeAll n adj W start ≡ restAtBack formerly
         unfolding placeAll
         all-formerly once =
-            isolated-at-back bare n (placeLinked n adj W start)
+            let below : All (λ x. x < n) (formerly .placed) = all-places (formerly .placed) (λ i l. at-lt once i (rw (once .size) at l)) in
+            isolated-at-back bare (placeLinked n adj W start)
+            (subst (λ (s : Placing). All (λ x. x < n) (s .placed)) (sym linked-formerly) (all-keep (stays adj start) below))
             ∙ ap₂ (λ (s : Placing) (vs : List ℕ). placing (s .placed ++ vs) (s .tally)) linked-formerly (rest-goes once)

@@ -7,11 +7,10 @@ use mathlib.Core.List.{List}
 use lib.Dec.{eqb}
 use Rattle.model.specs.Lists.{upto, keep, sumOver, member}
 use Rattle.model.specs.Crossings.{unitWeight}
-use Rattle.model.specs.GreedyAppend.{unplaced, waiting, isolated, hasEdges, degreeIn, preferred, bestOf, nextVertex}
+use Rattle.model.specs.GreedyAppend.{unplaced, waiting, hasEdges, degreeIn, preferred, bestOf, nextVertex}
 use Rattle.model.specs.GreedyAppend.{closing, open′, frontCrossings, backCrossings}
 use Rattle.laws.specs.Sums.Lists.{All, none, also, all-keep, all-upto, sumPairs-ext, keep-keep, keep-swap, keep-true}
 use Rattle.laws.specs.Sums.Pairs.{Symmetric}
-use Rattle.laws.specs.Append.Order.{unplacedBut}
 use Rattle.laws.specs.Append.Isolated.{no-weight}
 use Rattle.laws.specs.Layouts.Weights.{WithinWords, unit-within-words}
 use Rattle.former.specs.Kept.{sumOver-kept, sumPairs-kept, member-keep}
@@ -41,16 +40,16 @@ module _ {adj : List ℕ} {q : ℕ → Bool} (d : Dropping adj q) where
       by-test v false e = and-false (not (member v xs)) ∙ sym (and-false (not (member v (keep q xs))))
 
   -- the weight of the edges to vertices
-  weight-seen : {n : ℕ} {W : ℕ → ℕ → ℕ} → Symmetric n W → WithinWords adj W → {u : ℕ} {us : List ℕ} → u < n → All (λ x. x < n) us
+  weight-seen : {n : ℕ} {W : ℕ → ℕ → ℕ} → Symmetric n W → WithinWords n adj W → {u : ℕ} {us : List ℕ} → u < n → All (λ x. x < n) us
       → sumOver (W u) us ≡ sumOver (W u) (keep q us)
   weight-seen {W = W} symmetry bare {u} h below =
-      sumOver-kept q (W u) below (λ x l e. symmetry .swap u x h l ∙ bare .none-from x (d .dropped x e) u)
+      sumOver-kept q (W u) below (λ x l e. symmetry .swap u x h l ∙ bare .none-from x l (d .dropped x e) u h)
 
 -- one is the test for edges itself
 linked-only : (adj : List ℕ) → Dropping adj (hasEdges adj)
 linked-only adj = record { dropped = λ v e. e }
 
-module _ {n : ℕ} {adj : List ℕ} {W : ℕ → ℕ → ℕ} (symmetry : Symmetric n W) (bare : WithinWords adj W) {q : ℕ → Bool} (d : Dropping adj q) where
+module _ {n : ℕ} {adj : List ℕ} {W : ℕ → ℕ → ℕ} (symmetry : Symmetric n W) (bare : WithinWords n adj W) {q : ℕ → Bool} (d : Dropping adj q) where
   unplaced-seen : (c : ℕ → Bool) (xs : List ℕ) {u : ℕ} → u < n
       → sumOver (W u) (keep c (unplaced n xs)) ≡ sumOver (W u) (keep c (unplaced n (keep q xs)))
   unfolding unplaced waiting
@@ -68,11 +67,12 @@ module _ {n : ℕ} {adj : List ℕ} {W : ℕ → ℕ → ℕ} (symmetry : Symmet
 
     met-closing : (p x : ℕ) → p < n → q p ≡ false → met xs p x ≡ 0
     unfolding met closing
-    met-closing p x k e = rw (symmetry .swap v p h k, bare .none-from p (d .dropped p e) v) (zero-mul _)
+    met-closing p x k e = rw (symmetry .swap v p h k, bare .none-from p k (d .dropped p e) v h) (zero-mul _)
 
-    met-open : (p x : ℕ) → q x ≡ false → met xs p x ≡ 0
-    unfolding met open′
-    met-open p x e = rw (no-weight bare x (d .dropped x e) (unplacedBut n xs v)) (mul-zero _)
+    met-open : (p x : ℕ) → x < n → q x ≡ false → met xs p x ≡ 0
+    unfolding met open′ unplaced
+    met-open p x k e =
+        rw (no-weight bare k (d .dropped x e) (all-keep (λ y. not (eqb v y)) (all-keep (λ y. not (member y xs)) (all-upto n)))) (mul-zero _)
 
     met-seen : (p x : ℕ) → x < n → met xs p x ≡ met (keep q xs) p x
     unfolding met closing open′
@@ -81,13 +81,13 @@ module _ {n : ℕ} {adj : List ℕ} {W : ℕ → ℕ → ℕ} (symmetry : Symmet
     pub front-seen : frontCrossings n W xs v ≡ frontCrossings n W (keep q xs) v
     unfolding frontCrossings met
     front-seen =
-        sumPairs-kept q (λ x p. met xs p x) below (λ x p k l. met-open p x) (λ x p k l. met-closing p x l)
+        sumPairs-kept q (λ x p. met xs p x) below (λ x p k l. met-open p x k) (λ x p k l. met-closing p x l)
         ∙ sumPairs-ext (λ x p. met xs p x) (λ x p. met (keep q xs) p x) (all-keep q below) (λ x p k l. met-seen p x k)
 
     pub back-seen : backCrossings n W xs v ≡ backCrossings n W (keep q xs) v
     unfolding backCrossings met
     back-seen =
-        sumPairs-kept q (met xs) below (λ p x k l. met-closing p x k) (λ p x k l. met-open p x)
+        sumPairs-kept q (met xs) below (λ p x k l. met-closing p x k) (λ p x k l. met-open p x l)
         ∙ sumPairs-ext (met xs) (met (keep q xs)) (all-keep q below) (λ p x k l. met-seen p x l)
 
 -- the choice goes by the words
@@ -95,7 +95,7 @@ module _ {n : ℕ} {adj : List ℕ} (symmetry : Symmetric n (unitWeight adj)) {q
   preferred-seen : {v u : ℕ} → v < n → u < n → preferred n adj xs v u ≡ preferred n adj (keep q xs) v u
   unfolding preferred degreeIn
   preferred-seen {v} {u} h k =
-      let bare = unit-within-words adj in
+      let bare = unit-within-words n adj in
       rw (
         weight-seen d symmetry bare h below,
         weight-seen d symmetry bare k below,

@@ -2,17 +2,19 @@
 use Prim.Native.Nat.{ℕ, _-_, _≤_, min}
 use native.Mathlib.Nat.{min-eq-left}
 use mathlib.Core.Path.{_≡_, refl, sym, ap, _∙_}
-use mathlib.Core.List.{List, [], _∷_, _++_}
-use lib.ListN.{length, getD, take, drop}
+use mathlib.Core.List.{List, [], _∷_, _++_, map}
+use lib.ListN.{length, getD, take, drop, replicate}
 use lib.Dec.{lit<}
+use Rattle.model.specs.declared.Edge.{Edge}
 use Rattle.model.specs.declared.LayoutRead.{LayoutRead}
 use Rattle.model.specs.declared.Asked.{Asked}
 use Rattle.model.specs.declared.Asked.the-variants as asks
 use Rattle.model.specs.declared.SizeFound.{SizeFound}
 use Rattle.model.specs.declared.SizeFound.the-variants as size
 use Rattle.model.specs.Lists.{upto}
+use Rattle.model.specs.Crossings.{edgeWeight}
 use Rattle.model.specs.Checks.{Check, refusal, byRefusal, checked}
-use Rattle.model.specs.Charts.{accept, refuse, asked, sizeFound, answer, layoutWith}
+use Rattle.model.specs.Charts.{accept, refuse, asked, sizeFound, answer, tableIn, layoutWith}
 use Rattle.model.specs.Graph6.{sizePart, graph6Size, graph6Data, graph6SizeChecks, dataChecks, paddingChecks, graph6Checks, graph6Edges, graph6Layout}
 use Rattle.model.specs.Graph6.{importOf, graph6SizeAnswer}
 use Rattle.laws.specs.Sums.Lists.{none, also, rest-whole}
@@ -20,15 +22,18 @@ use Rattle.laws.specs.Layouts.Refusals.{Numbered, all-pass}
 use Rattle.laws.specs.Graph6.Sizes.{starts-long, size-accepted}
 use Rattle.laws.specs.Charts.Words.{adjacencyOf}
 use Rattle.laws.specs.Charts.Padded.{padded}
-use Rattle.laws.specs.Charts.Layouts.{count-read}
-use Rattle.laws.specs.Graph6.Imports.{edges-accepted}
+use Rattle.laws.specs.Charts.Layouts.{Accepted, count-read}
+use Rattle.laws.specs.Charts.Ends.{within-mono}
+use Rattle.laws.specs.Graph6.Imports.{unit, unit-listed, edges-accepted}
 use Rattle.laws.specs.Charts.Passes.{refusedRead, acceptedRead, countedLayout, answer-accepted, pass-accepted, pass-refused, asked-on, asked-back}
 use Rattle.laws.specs.Charts.Passes.{last-passes}
+use Rattle.weights.specs.Units.{unitTable, units-listed}
 
 -- what is imported once the number of vertices is known
 unfoldable pub importBits : ℕ → List ℕ → LayoutRead
 importBits n bytes =
-    checked (dataChecks n bytes ++ paddingChecks n bytes) (acceptedRead (layoutWith n (graph6Edges n bytes) (upto n))) refusedRead
+    let es = graph6Edges n bytes in
+    checked (dataChecks n bytes ++ paddingChecks n bytes) (acceptedRead (layoutWith n es (replicate (length es) 1) (upto n))) refusedRead
 
 bits-numbered : (n : ℕ) (bytes : List ℕ) → Numbered (dataChecks n bytes ++ paddingChecks n bytes)
 unfolding dataChecks paddingChecks
@@ -44,16 +49,26 @@ module _ {n : ℕ} (few : n ≤ 64) (bytes : List ℕ) where
     unfolding importBits dataChecks paddingChecks
     bits-refused told = asked-back (bits-numbered n bytes) [] _ told (said ∙ same-checks)
 
-    pub bits-accepted : r ≡ asks.Passed → {order adj : List ℕ} → order ≡ padded (upto n) → adj ≡ adjacencyOf (graph6Edges (min n 64) bytes)
-        → acceptedRead (countedLayout n order adj) ≡ importBits n bytes
+    pub bits-accepted : r ≡ asks.Passed → {order adj ws : List ℕ} → order ≡ padded (upto n) → adj ≡ adjacencyOf (graph6Edges (min n 64) bytes)
+        → ws ≡ unitTable adj → acceptedRead (countedLayout n order adj ws) ≡ importBits n bytes
     unfolding importBits dataChecks paddingChecks checked byRefusal refusal
-    bits-accepted told p q =
-        rw (p, q ∙ ap (λ (k : ℕ). adjacencyOf (graph6Edges k bytes)) (min-eq-left few))
-        (ap counted-as (count-read (edges-accepted n bytes few))
-        ∙ asked-on (bits-numbered n bytes) [] (acceptedRead (layoutWith n (graph6Edges n bytes) (upto n))) told (said ∙ same-checks))
+    bits-accepted told p q w =
+        let words : _ ≡ adjacencyOf es = q ∙ ap (λ (k : ℕ). adjacencyOf (graph6Edges k bytes)) (min-eq-left few) in
+        let table = w ∙ ap unitTable words ∙ units-listed es (within-mono n 64 few es (accepted .within)) in
+        rw (p, words, table)
+        (ap counted-as (count-read accepted)
+        ∙ ap (λ (ones : List ℕ). acceptedRead (layoutWith n es ones (upto n))) (sym (unit-listed es))
+        ∙ asked-on (bits-numbered n bytes) [] (acceptedRead (layoutWith n es (replicate (length es) 1) (upto n))) told (said ∙ same-checks))
       where
+        es : List Edge
+        es = graph6Edges n bytes
+
+        accepted : Accepted n es unit (upto n)
+        accepted = edges-accepted n bytes few
+
         counted-as : ℕ → LayoutRead
-        counted-as k = acceptedRead (record { n = n; order = padded (upto n); adjacency = adjacencyOf (graph6Edges n bytes); count = k })
+        counted-as k =
+            acceptedRead (record { n = n; order = padded (upto n); adjacency = adjacencyOf es; weights = tableIn es (map (edgeWeight unit) es); count = k })
 
 -- ---- question 20
 

@@ -1,5 +1,6 @@
 // Importing a graph in graph6 (document 02, Note 4): questions 20 to 22, each asked of the whole input
-// before the next, and the layout that an accepted graph gives, in the order 0, 1, 2 and so on.
+// before the next, and the layout that an accepted graph gives, in the order 0, 1, 2 and so on, each
+// edge with the weight 1.
 use model::Asked;
 use model::LayoutRead;
 use model::SizeFound;
@@ -36,7 +37,8 @@ fn import_bits(n: usize, bytes: &[u8]) -> LayoutRead
         return refused(asked_code(right));
     };
     let adjacency = graph6_pairs::join_pairs(n, bytes);
-    accepted(n, rising_order(n), adjacency)
+    let weights = weights::unit_table(&adjacency);
+    accepted(n, rising_order(n), adjacency, weights)
 }
 
 // The vertices in rising order.

@@ -1,12 +1,15 @@
-// Exporting a layout (ring) in graph6 into a lent buffer (document 02, Note 4). Its order is dropped.
+// Exporting a layout (ring) in graph6 into a lent buffer (document 02, Note 4). Its order is dropped; a
+// weight other than 1 is refused (Note 8).
 ghost use mathlib.Core.Path.{_≡_};
 ghost use Prim.Native.Nat.{_≤_};
 ghost use lib.ListN.{length};
+ghost use Rattle.model.specs.Layouts.{tableWeight};
 ghost use Rattle.model.specs.Writing.{writeOf, writtenBytes};
 ghost use Rattle.model.specs.Graph6.{sizePart, graph6Format};
 ghost use Rattle.laws.specs.Buffers.Writing.{Written};
 ghost use Rattle.text.specs.Room.{Put};
 ghost use Rattle.graph6_export.specs.Parts.{graph6With, counted};
+ghost use Rattle.graph6_export.specs.Weights.{weightCode};
 use buffer_checks::write_refusal;
 use graph6_packing::pack_pairs;
 use graph6_pairs::data_length;
@@ -14,6 +17,7 @@ use graph6_size::size_length;
 use model::Layout;
 use model::LayoutWritten;
 use text::put_text;
+use unit_weights::all_unit;
 use validity::is_valid;
 
 // Writes the graph to the start of the buffer, and answers how many bytes it has. The bytes beyond it
@@ -24,13 +28,26 @@ pub fn export(l: Layout, buffer: &mut [u8]) -> LayoutWritten
 {
     let n = l.n;
     let adjacency = l.adjacency;
+    let weights = l.weights;
     let length = size_length(n) + data_length(n);
-    let refusal = write_refusal(is_valid(l), 0, length, buffer.len(), 19);
+    let own = weight_refusal(n, &adjacency, &weights);
+    let refusal = write_refusal(is_valid(l), own, length, buffer.len(), 19);
     if refusal != 0 {
         return LayoutWritten { refusal, length: 0 };
     }
     put_graph(buffer, n, &adjacency);
     LayoutWritten { refusal: 0, length }
+}
+
+// 26 where the weight of some edge isn't 1, else 0.
+fn weight_refusal(n: usize, adjacency: &[u64; 64], weights: &[u8; 4096]) -> u8
+    ensures { λ r. ⌜ (n ≤ 64 → r ≡ weightCode n (now (adjacency .entry)) (tableWeight (now (weights .entry)))) ⌝ }
+{
+    if all_unit(n, adjacency, weights) {
+        0
+    } else {
+        26
+    }
 }
 
 // The size part, and the bits of the pairs behind it. Answers where they end.

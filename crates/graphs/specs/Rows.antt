@@ -1,18 +1,15 @@
--- The passes through the adjacency words: a test of one number after the other, and symmetry asked of each two vertices once.
+-- The passes through the adjacency words: a test of one number after the other.
 use Prim.Native.Nat.{ℕ, suc, _+_, _≤_, _<_}
 use native.Mathlib.Nat.{not-suc-le-zero}
 use native.Mathlib.Omega.{arith}
 use mathlib.Core.Path.{_≡_, sym, _∙_, subst}
-use mathlib.Core.Bool.{Bool, true, false, Bool·beq}
-use mathlib.Core.List.{List}
+use mathlib.Core.Bool.{Bool, true, false}
 use borrow.Author.Count.{below-more}
 use borrow.Author.Tests.{lt-ltb, le-ltb}
 use lib.Dec.{T, ltb}
 use Rattle.model.specs.Lists.{upto, every}
-use Rattle.model.specs.Crossings.{linked}
-use Rattle.model.specs.Layouts.{symmetric}
-use Rattle.laws.specs.Sums.Indicators.{T-true, less, same, more, order, bool-ext, beq-self, beq-comm}
-use Rattle.laws.specs.Sums.Every.{every-upto, upto-every, upto-fails}
+use Rattle.laws.specs.Sums.Indicators.{T-true}
+use Rattle.laws.specs.Sums.Every.{upto-every, upto-fails}
 
 -- ---- a loop that tests one number after the other
 
@@ -43,31 +40,3 @@ module _ {word most bound : ℕ} (e : suc most ≡ bound) where
 
   pub beyond-most : most < word → ltb word bound ≡ false
   beyond-most l = le-ltb word bound (omega arith)
-
--- ---- symmetry asked of each two vertices once
-
--- the edges from u to lower vertices stand in the words of both ends
-unfoldable pub symmetricRow : List ℕ → ℕ → Bool
-symmetricRow adj u = every (λ v. Bool·beq (linked adj u v) (linked adj v u)) (upto u)
-
--- that is all of the symmetry
-pub symmetric-rows : (n : ℕ) (adj : List ℕ) → symmetric n adj ≡ every (symmetricRow adj) (upto n)
-unfolding symmetric symmetricRow
-symmetric-rows n adj =
-    bool-ext (symmetric n adj) (every (symmetricRow adj) (upto n))
-    (λ t. upto-every (symmetricRow adj) n (λ u l. upto-every (pairs u) u (λ v m. every-upto (pairs u) n (every-upto row n t u l) v (omega arith))))
-    (λ t. upto-every row n (λ u l. upto-every (pairs u) n (λ v m. both t u v l m)))
-  where
-    pairs : ℕ → ℕ → Bool
-    pairs u v = Bool·beq (linked adj u v) (linked adj v u)
-
-    row : ℕ → Bool
-    row u = every (pairs u) (upto n)
-
-    both : T (every (symmetricRow adj) (upto n)) → (u v : ℕ) → u < n → v < n → T (pairs u v)
-    both t u v l m =
-        elim (order v u) [
-          | less b ↦ every-upto (pairs u) u (every-upto (symmetricRow adj) n t u l) v b
-          | same e ↦ rw e (beq-self (linked adj u u))
-          | more b ↦ subst T (beq-comm (linked adj v u) (linked adj u v)) (every-upto (pairs v) v (every-upto (symmetricRow adj) n t v m) u b)
-        ]

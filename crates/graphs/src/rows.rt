@@ -1,19 +1,16 @@
 // Are 64 adjacency (neighbour) words those of a graph on n vertices? One function for each clause of
-// validity (document 01: whole) on the words, for any words at all.
+// validity (document 01: whole) on the words but symmetry, which weights that fit bring along. For any
+// words at all.
 ghost use mathlib.Core.Path.{_≡_};
 ghost use mathlib.Core.Bool.{_&&_};
-ghost use Prim.Native.Nat.{_≤_, _<_};
+ghost use Prim.Native.Nat.{_≤_};
 ghost use lib.Dec.{leb};
-ghost use Rattle.model.specs.Layouts.{zeroFrom, symmetric as symmetricWords, loopless as looplessWords, bitsBelow};
-ghost use Rattle.graphs.specs.Rows.{symmetricRow};
+ghost use Rattle.model.specs.Layouts.{zeroFrom, loopless as looplessWords, bitsBelow};
 
-pub fn is_graph(n: usize, adjacency: &[u64; 64]) -> bool
-    ensures { λ r. let a = now (adjacency .entry) in ⌜ r ≡ (leb n 64 && symmetricWords n a && looplessWords n a && bitsBelow n a && zeroFrom n a) ⌝ }
+pub fn is_bounded(n: usize, adjacency: &[u64; 64]) -> bool
+    ensures { λ r. let a = now (adjacency .entry) in ⌜ r ≡ (leb n 64 && looplessWords n a && bitsBelow n a && zeroFrom n a) ⌝ }
 {
     if 64 < n {
-        return false;
-    }
-    if !symmetric(n, adjacency) {
         return false;
     }
     if !loopless(n, adjacency) {
@@ -63,36 +60,6 @@ fn loopless(n: usize, adjacency: &[u64; 64]) -> bool
     let mut v = 0;
     while v < n {
         if words::is_set(adjacency[v], v) {
-            return false;
-        }
-        v += 1;
-    }
-    true
-}
-
-// Does each edge stand in the words of both its ends?
-fn symmetric(n: usize, adjacency: &[u64; 64]) -> bool
-    requires { ⌜ n ≤ 64 ⌝ }
-    ensures { λ r. ⌜ r ≡ symmetricWords n (now (adjacency .entry)) ⌝ }
-{
-    let mut u = 0;
-    while u < n {
-        if !symmetric_row(adjacency, u) {
-            return false;
-        }
-        u += 1;
-    }
-    true
-}
-
-// The same of the edges from u to lower vertices.
-fn symmetric_row(adjacency: &[u64; 64], u: usize) -> bool
-    requires { ⌜ u < 64 ⌝ }
-    ensures { λ r. ⌜ r ≡ symmetricRow (now (adjacency .entry)) u ⌝ }
-{
-    let mut v = 0;
-    while v < u {
-        if words::is_set(adjacency[u], v) != words::is_set(adjacency[v], u) {
             return false;
         }
         v += 1;

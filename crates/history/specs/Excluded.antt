@@ -9,28 +9,31 @@ use mathlib.Core.List.{flatMap}
 use Rattle.model.specs.declared.Layout.{Layout}
 use Rattle.model.specs.Lists.{one, upto, every, any, keep, sumPairs, sumOver, noRepeats, occurrences, place}
 use Rattle.model.specs.Crossings.{bit, linked, between, alternate, crosses, adjacent, weightedEdges, crossingWeight, crossings}
+use Rattle.model.specs.Layouts.{rowOf, isWeight, evenWeights, weighsEdges, blankFrom, weightsFit, tableWeight}
 use Rattle.model.specs.Layouts.{vertexOrder, weight, crossingsOf, eachOnce, zeroFrom, symmetric, loopless, bitsBelow, valid, changed, reordered}
 use Rattle.model.specs.Checks.{refusal, byRefusal, checked, isValid, isVertex, differ}
-use Rattle.model.specs.Edits.{changedOr, insertAfter, movedAfter, moveChecks, moveOf}
-use Rattle.model.specs.Charts.{sameEdge, joins, wordIn}
+use Rattle.model.specs.Edits.{bothWays, changedOr, insertAfter, movedAfter, moveChecks, moveOf}
+use Rattle.model.specs.Charts.{sameEdge, joins, wordIn, withWeights, tableIn}
 use Rattle.model.specs.Histories.{BestPlace, LocalMinimum}
-use Rattle.model.specs.Starred.{first, _to_, layoutOf}
+use Rattle.model.specs.Starred.{first, _to_, weightedLayoutOf, layoutOf}
 
 unfoldable pub firstRing : Layout
 firstRing = layoutOf first
 
 vertices : firstRing .n ≡ 4
-unfolding firstRing layoutOf first
+unfolding firstRing weightedLayoutOf layoutOf first
 vertices = refl
 
 -- one crossing; with 0 behind 1 none
 one-crossing : crossingsOf firstRing ≡ 1
-unfolding firstRing layoutOf first _to_ one upto any keep sumPairs sumOver noRepeats place bit linked between alternate crosses adjacent weightedEdges
+unfolding tableWeight withWeights tableIn bothWays weightedLayoutOf firstRing layoutOf first _to_ one upto any keep sumPairs sumOver noRepeats place bit
+    linked between alternate crosses adjacent weightedEdges
     crossingWeight crossings vertexOrder weight crossingsOf sameEdge joins wordIn flatMap xor
 one-crossing = refl
 
 moved-none : crossingsOf (moveOf firstRing 0 1 .layout) ≡ 0
-unfolding firstRing layoutOf first _to_ one upto every any keep sumPairs sumOver noRepeats occurrences place bit linked between alternate crosses adjacent
+unfolding rowOf isWeight evenWeights weighsEdges blankFrom weightsFit tableWeight withWeights tableIn bothWays weightedLayoutOf
+    firstRing layoutOf first _to_ one upto every any keep sumPairs sumOver noRepeats occurrences place bit linked between alternate crosses adjacent
     weightedEdges crossingWeight crossings vertexOrder weight crossingsOf eachOnce zeroFrom symmetric loopless bitsBelow valid changed reordered refusal
     byRefusal checked isValid isVertex differ changedOr insertAfter movedAfter moveChecks moveOf sameEdge joins wordIn flatMap xor
 moved-none = refl

@@ -130,7 +130,7 @@ call-facts l (call.Sift u) e = sift-facts l u e
 call-facts l call.SiftingRound e = round-facts l e
 call-facts l (call.Converge limit) e = settle-facts l limit e
 call-facts l call.AddVertex e = no-sifts l call.AddVertex refl refl refl refl refl
-call-facts l (call.AddEdge a b) e = no-sifts l (call.AddEdge a b) refl refl refl refl refl
+call-facts l (call.AddEdge a b w) e = no-sifts l (call.AddEdge a b w) refl refl refl refl refl
 call-facts l (call.RemoveEdge a b) e = no-sifts l (call.RemoveEdge a b) refl refl refl refl refl
 call-facts l (call.MoveAfter a b) e = no-sifts l (call.MoveAfter a b) refl refl refl refl refl
 call-facts l (call.GreedyAppend s) e = no-sifts l (call.GreedyAppend s) refl refl refl refl refl
@@ -149,7 +149,7 @@ right-kept r k s = let v = k (r .is-valid) in record { is-valid = v .0; sized = 
 pub call-keeps : (l : Layout) (c : Call) → Right l → Right (answerOf l c .layout)
 unfolding answerOf
 call-keeps l call.AddVertex r = right-kept r (add-keeps l (r .sized)) (add-sized l (r .sized))
-call-keeps l (call.AddEdge a b) r = right-kept r (link-keeps l a b (r .sized)) (link-sized l a b (r .sized))
+call-keeps l (call.AddEdge a b w) r = right-kept r (link-keeps l a b w (r .sized)) (link-sized l a b (r .sized) w)
 call-keeps l (call.RemoveEdge a b) r = right-kept r (unlink-keeps l a b (r .sized)) (unlink-sized l a b (r .sized))
 call-keeps l (call.MoveAfter a b) r = right-kept r (move-keeps l a b) (move-sized l (r .sized) a b)
 call-keeps l (call.GreedyAppend s) r = right-kept r (lay-keeps l s) (lay-sized l (r .sized) s)
@@ -167,7 +167,7 @@ start-right (imported s e) = record { is-valid = imported-valid s e .0; sized = 
 pub call-refused : (l : Layout) (c : Call) → (answerOf l c .refusal ≡ 0 → ⊥) → answerOf l c ≡ outcome (answerOf l c .refusal) l 0 0 0 0
 unfolding answerOf one
 call-refused l call.AddVertex d = ap ofAdded (add-refused l d)
-call-refused l (call.AddEdge a b) d = ap ofChanged (link-refused l a b d)
+call-refused l (call.AddEdge a b w) d = ap ofChanged (link-refused l a b w d)
 call-refused l (call.RemoveEdge a b) d = ap ofChanged (unlink-refused l a b d)
 call-refused l (call.MoveAfter a b) d = ap ofChanged (move-refused l a b d)
 call-refused l (call.GreedyAppend s) d = ap ofAppended (lay-refused l s d)

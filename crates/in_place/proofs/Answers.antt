@@ -202,30 +202,30 @@ added = reports Added.the-type Added.Laws.the-laws (tcons (tyInt w64) tnil) (λ 
     (0 ∷ 2 ∷ []) ((_, refl), ((_, refl), tt)) (λ r. refl)
 
 abbrev pub appended : Answer Appended.the-row AppendReport.the-row
-appended = reports Appended.the-type Appended.Laws.the-laws (tcons (tyInt w32) tnil) (λ r. r .refusal) (λ r. r .layout)
-    (λ r. vcons (vint w32 (r .tally)) vnil) refl (λ r. refl)
+appended = reports Appended.the-type Appended.Laws.the-laws (tcons (tyInt w64) tnil) (λ r. r .refusal) (λ r. r .layout)
+    (λ r. vcons (vint w64 (r .tally)) vnil) refl (λ r. refl)
     AppendReport.the-type AppendReport.Laws.the-laws AppendReport.Laws.the-plain
     (λ r. record { refusal = r .refusal; tally = r .tally }) (λ r all. (all .1 .0, (all .0, all .1 .1)))
     (0 ∷ 2 ∷ []) ((_, refl), ((_, refl), tt)) (λ r. refl)
 
 abbrev pub sifted : Answer Sifted.the-row SiftReport.the-row
-sifted = reports Sifted.the-type Sifted.Laws.the-laws (tcons (tyInt w32) (tcons (tyInt w32) tnil)) (λ r. r .refusal) (λ r. r .layout)
-    (λ r. vcons (vint w32 (r .reduction)) (vcons (vint w32 (r .optima)) vnil)) refl (λ r. refl)
+sifted = reports Sifted.the-type Sifted.Laws.the-laws (tcons (tyInt w64) (tcons (tyInt w32) tnil)) (λ r. r .refusal) (λ r. r .layout)
+    (λ r. vcons (vint w64 (r .reduction)) (vcons (vint w32 (r .optima)) vnil)) refl (λ r. refl)
     SiftReport.the-type SiftReport.Laws.the-laws SiftReport.Laws.the-plain
     (λ r. record { refusal = r .refusal; reduction = r .reduction; optima = r .optima }) (λ r all. (all .1 .0, (all .0, all .1 .1)))
     (0 ∷ 2 ∷ 3 ∷ []) ((_, refl), ((_, refl), ((_, refl), tt))) (λ r. refl)
 
 abbrev pub rounded : Answer Rounded.the-row RoundReport.the-row
-rounded = reports Rounded.the-type Rounded.Laws.the-laws (tcons (tyInt w32) (tcons (tyInt w32) (tcons (tyInt w32) tnil))) (λ r. r .refusal) (λ r. r .layout)
-    (λ r. vcons (vint w32 (r .reduction)) (vcons (vint w32 (r .moved)) (vcons (vint w32 (r .optima)) vnil))) refl (λ r. refl)
+rounded = reports Rounded.the-type Rounded.Laws.the-laws (tcons (tyInt w64) (tcons (tyInt w32) (tcons (tyInt w32) tnil))) (λ r. r .refusal) (λ r. r .layout)
+    (λ r. vcons (vint w64 (r .reduction)) (vcons (vint w32 (r .moved)) (vcons (vint w32 (r .optima)) vnil))) refl (λ r. refl)
     RoundReport.the-type RoundReport.Laws.the-laws RoundReport.Laws.the-plain
     (λ r. record { refusal = r .refusal; reduction = r .reduction; moved = r .moved; optima = r .optima }) (λ r all. (all .1 .0, (all .0, all .1 .1)))
     (0 ∷ 2 ∷ 3 ∷ 4 ∷ []) ((_, refl), ((_, refl), ((_, refl), ((_, refl), tt)))) (λ r. refl)
 
 abbrev pub converged : Answer Converged.the-row ConvergeReport.the-row
-converged = reports Converged.the-type Converged.Laws.the-laws (tcons (tyInt w32) (tcons (tyInt w32) (tcons tyBool (tcons (tyInt w32) tnil))))
+converged = reports Converged.the-type Converged.Laws.the-laws (tcons (tyInt w64) (tcons (tyInt w32) (tcons tyBool (tcons (tyInt w32) tnil))))
     (λ r. r .refusal) (λ r. r .layout)
-    (λ r. vcons (vint w32 (r .reduction)) (vcons (vint w32 (r .rounds)) (vcons (vbool (r .converged)) (vcons (vint w32 (r .optima)) vnil)))) refl (λ r. refl)
+    (λ r. vcons (vint w64 (r .reduction)) (vcons (vint w32 (r .rounds)) (vcons (vbool (r .converged)) (vcons (vint w32 (r .optima)) vnil)))) refl (λ r. refl)
     ConvergeReport.the-type ConvergeReport.Laws.the-laws ConvergeReport.Laws.the-plain
     (λ r. record { refusal = r .refusal; reduction = r .reduction; rounds = r .rounds; converged = r .converged; optima = r .optima })
     (λ r all. (all .1 .0, (all .0, all .1 .1)))

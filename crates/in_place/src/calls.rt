@@ -24,10 +24,10 @@ pub extern "C" fn rl_add_vertex(l: &mut Layout) -> AddReport
 }
 
 #[no_mangle]
-pub extern "C" fn rl_add_edge(l: &mut Layout, a: usize, b: usize) -> u8
-    ensures { λ r. ⌜ (r ≡ linkOf (now (l .entry)) a b .refusal) × (now (l .exit) ≡ linkOf (now (l .entry)) a b .layout) ⌝ }
+pub extern "C" fn rl_add_edge(l: &mut Layout, a: usize, b: usize, weight: u8) -> u8
+    ensures { λ r. ⌜ (r ≡ linkOf (now (l .entry)) a b weight .refusal) × (now (l .exit) ≡ linkOf (now (l .entry)) a b weight .layout) ⌝ }
 {
-    let answer = edges::add_edge(*l, a, b);
+    let answer = edges::add_edge(*l, a, b, weight);
     *l = answer.layout;
     answer.refusal
 }

@@ -65,7 +65,7 @@ pub extern "C" fn rl_write_chart(l: &Layout, buffer: &mut [u8]) -> LayoutWritten
 
 // Fills the start of the table with the crossings of every edge, and answers how many edges there are.
 #[no_mangle]
-pub extern "C" fn rl_edge_crossings(l: &Layout, table: &mut [u32]) -> EdgesCounted
+pub extern "C" fn rl_edge_crossings(l: &Layout, table: &mut [u64]) -> EdgesCounted
     ensures { λ r. ⌜ (r ≡ edgeCrossingsOf (now (l .entry)) (now (table .entry)))
         × (now (table .exit) ≡ crossingTable (now (l .entry)) (now (table .entry))) ⌝ }
 {

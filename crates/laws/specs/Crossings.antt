@@ -3,13 +3,15 @@
 -- edge's crossings, summed), closedCrossings and crossings-closed (the crossings of a list, by its entries), turned-lists (where the list starts
 -- makes no difference), exchanged, exchanged-inside, exchanged-round and lost-few (two neighbours exchanged), lost-ranked and gained-ranked (what
 -- that changes, by sums over the vertices), Reaches with walked-reached and row-reached (the same along a walk, by one sum over a row),
--- printed-false (Lemma 1 of document 004 as printed), crossingSum-bound and mostCrossings, edges-few and mostEdges, countOn-crossings (the formula
--- with two counts for each pair of places), chordCrossings with chord-crossings and edge-chord (what a chord and an edge cross) and chord-next,
--- chord-closed and chord-opened (from one place to the next).
+-- agreeing-crossings (two weights that agree on all vertices), printed-false (Lemma 1 of document 004 as printed), crossingSum-bound with mostCrossings
+-- and mostWeighted, edges-few and mostEdges, vertexAt and vertex-within (the vertex at a place), Holds, masked-sum and weight-bit (sets of vertices as
+-- words), chordCrossings with chord-crossings and edge-chord (what a chord and an edge cross) and chord-next, chord-closed and chord-opened (from one
+-- place to the next).
 pub mod Alternation
 pub mod Counting
 pub mod Edges
 pub mod Units
+pub mod Agreeing
 pub mod Lists
 pub mod Exchange
 pub mod Reaches

@@ -1,5 +1,5 @@
--- Mathematics about the definitions of model, in rooms by subject, each built on those above it. A page says what its room holds and which theorems
--- others cite. What only one crate's loops need stands in that crate's own specs.
+-- Mathematics about the definitions of model, in rooms by subject, each built on those above it; of Tables most stands below Layouts. A page says what its
+-- room holds and which theorems others cite. What only one crate's loops need stands in that crate's own specs.
 pub mod Sums
 pub mod Orders
 pub mod Crossings

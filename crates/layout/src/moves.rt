@@ -18,11 +18,12 @@ pub fn move_after(l: Layout, a: usize, b: usize) -> Changed
     let n = l.n;
     let before = l.order;
     let adjacency = l.adjacency;
+    let weights = l.weights;
     let p = place_of(&before[..n], a);
     let q = place_of(&before[..n], b);
     let order = moved(before, p, q);
     Changed {
         refusal: 0,
-        layout: recounted(l, n, order, adjacency),
+        layout: recounted(l, n, order, adjacency, weights),
     }
 }

@@ -10,6 +10,7 @@ pub fn empty() -> Layout
         n: 0,
         order: [0u8; 64],
         adjacency: [0u64; 64],
+        weights: [0u8; 4096],
         count: 0,
     }
 }

@@ -28,12 +28,14 @@ pub fn add_vertex(l: Layout) -> Added
     let before = l.order;
     let order = with_last(before, n);
     let adjacency = l.adjacency;
+    let weights = l.weights;
     let size = n + 1;
     // without edges it crosses nothing: the count stays
     let layout = Layout {
         n: size,
         order,
         adjacency,
+        weights,
         count: l.count,
     };
     Added {

@@ -28,7 +28,7 @@ pub fn list_chart(bytes: &[u8], out: &mut [u8]) -> usize
     let read = chart::read(bytes);
     let refusal = read.refusal;
     if refusal != 0 {
-        return put_line(out, 0, b"refused", refusal as u32);
+        return put_line(out, 0, b"refused", refusal as u64);
     }
     let layout = read.layout;
     list_layout(layout, out)
@@ -43,11 +43,11 @@ fn list_layout(l: Layout, out: &mut [u8]) -> usize
     let settled = converge(l, 50);
     let after = settled.layout;
     let numbers = Numbers {
-        vertices: n as u32,
-        edges: edge_list::edge_count(n, &adjacency),
+        vertices: n as u64,
+        edges: edge_list::edge_count(n, &adjacency) as u64,
         before: l.count,
         after: after.count,
-        rounds: settled.rounds,
+        rounds: settled.rounds as u64,
     };
     let order = after.order;
     let state = put_numbers(out, 0, numbers);

@@ -14,11 +14,11 @@ use text::put_text;
 
 // The numbers of a listing, one to a line.
 pub struct Numbers {
-    pub vertices: u32,
-    pub edges: u32,
-    pub before: u32,
-    pub after: u32,
-    pub rounds: u32,
+    pub vertices: u64,
+    pub edges: u64,
+    pub before: u64,
+    pub after: u64,
+    pub rounds: u64,
 }
 
 pub fn put_numbers(out: &mut [u8], at: usize, x: Numbers) -> usize

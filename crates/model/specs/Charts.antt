@@ -1,6 +1,6 @@
--- Charts: fields, the eight questions, and the layout that an accepted chart gives.
+-- Charts: fields, the questions, and the layout that an accepted chart gives.
 use Prim.Native.Nat.{ℕ, zero, suc, _+_, _*_, _^_, _%_, min, max}
-use mathlib.Core.Bool.{Bool, true, false, cond, _&&_}
+use mathlib.Core.Bool.{Bool, true, false, cond, _&&_, _||_}
 use mathlib.Core.List.{List, [], _∷_, _++_, map}
 use lib.ListN.{length, getD, take, drop, replicate}
 use lib.Dec.{eqb, leb, ltb}
@@ -15,8 +15,9 @@ use Rattle.model.specs.declared.SizeFound.{SizeFound}
 use Rattle.model.specs.declared.SizeFound.the-variants as size
 use Rattle.model.specs.Lists.{upto, every, any, sumOver, noRepeats}
 use Rattle.model.specs.Crossings.{crossings}
-use Rattle.model.specs.Layouts.{capacity, emptyLayout, eachOnce, uncounted, weight}
+use Rattle.model.specs.Layouts.{capacity, tablePlaces, emptyLayout, eachOnce, uncounted, isWeight, weight}
 use Rattle.model.specs.Checks.{Check, checked}
+use Rattle.model.specs.Edits.{bothWays}
 
 -- ---- fields
 
@@ -83,6 +84,14 @@ chartEdges s = edgesIn (bodyOf s 1)
 unfoldable pub chartOrder : List ℕ → List ℕ
 chartOrder s = bodyOf s 2
 
+-- "A chart may have a fourth and last field, tag 57 hexadecimal" (document 02, Note 8)
+unfoldable pub hasWeights : List ℕ → Bool
+hasWeights s = leb 4 (length (fieldsOf s .fields))
+
+-- "one byte per link in the sequence of field 4C"; "without it all weights are 1"
+unfoldable pub chartWeights : List ℕ → List ℕ
+chartWeights s = cond (hasWeights s) (bodyOf s 3) (replicate (length (chartEdges s)) 1)
+
 -- ---- the questions: "Each question is asked of the whole input before the next"
 
 -- the entries of two lists of numbers are the same
@@ -128,9 +137,21 @@ placeChecks n o =
     record { passes = eqb (length o) n && eachOnce n o; code = 8 }
     ∷ []
 
--- the tags that a chart's fields are to have
+-- of the weights of the links in the body of 4C
+unfoldable pub weightChecks : List ℕ → List ℕ → List Check
+weightChecks links ws =
+    -- "24 when field 57 hasn't exactly one byte per link, after 8"
+    record { passes = eqb (length ws) (length (edgesIn links)); code = 24 }
+    -- "25 when a weight is 0, after 24 in a chart"
+    ∷ record { passes = every isWeight ws; code = 25 }
+    ∷ []
+
+-- the tags that a chart's fields are to have, and those with weights
 abbrev pub chartTags : List ℕ
 chartTags = 0x44 ∷ 0x4C ∷ 0x52 ∷ []
+
+abbrev pub weightedTags : List ℕ
+weightedTags = 0x44 ∷ 0x4C ∷ 0x52 ∷ 0x57 ∷ []
 
 unfoldable pub chartChecks : List ℕ → List Check
 chartChecks s =
@@ -138,10 +159,14 @@ chartChecks s =
     record { passes = leb (length s) 8192; code = 1 }
     -- "Does it divide exactly into fields, each header and body complete? 2"
     ∷ record { passes = fieldsOf s .complete; code = 2 }
-    -- "Are the tags 44, 4C, 52, each once, in that sequence? 3"
-    ∷ record { passes = sameList (tagsOf s) chartTags; code = 3 }
-    -- 4 to 8
-    ∷ (sizeChecks (bodyOf s 0) ++ endChecks (chartSize s) (bodyOf s 1) ++ repeatChecks (bodyOf s 1) ++ placeChecks (chartSize s) (chartOrder s))
+    -- "Are the tags 44, 4C, 52, each once, in that sequence? 3"; 57, "which question 3 then allows"
+    ∷ record { passes = sameList (tagsOf s) chartTags || sameList (tagsOf s) weightedTags; code = 3 }
+    -- 4 to 8, 24 and 25
+    ∷ (sizeChecks (bodyOf s 0)
+    ++ endChecks (chartSize s) (bodyOf s 1)
+    ++ repeatChecks (bodyOf s 1)
+    ++ placeChecks (chartSize s) (chartOrder s)
+    ++ weightChecks (bodyOf s 1) (chartWeights s))
 
 -- ---- the layout
 
@@ -153,19 +178,29 @@ joins u v e = sameEdge e (record { low = min u v; high = max u v })
 unfoldable pub wordIn : List Edge → ℕ → ℕ
 wordIn es u = sumOver (λ v. cond (any (joins u v) es) (2 ^ v) 0) (upto capacity)
 
+-- a table with the weight of each of the edges, both ways round
+unfoldable pub withWeights : List ℕ → List Edge → List ℕ → List ℕ
+withWeights table [] ws = table
+withWeights table (e ∷ es) [] = table
+withWeights table (e ∷ es) (w ∷ ws) = withWeights (bothWays table (e .low) (e .high) w) es ws
+
+-- the table of edges that have these weights, and 0 everywhere else
+unfoldable pub tableIn : List Edge → List ℕ → List ℕ
+tableIn es ws = withWeights (replicate tablePlaces 0) es ws
+
 -- the array that an order goes into: "its unused places are 0"
 abbrev pub padded : List ℕ → List ℕ
 padded o = take capacity (o ++ replicate capacity 0)
 
--- a layout of n vertices with these edges, in the order o, and with its true crossings
-abbrev pub layoutWith : ℕ → List Edge → List ℕ → Layout
-layoutWith n es o =
-    let adj = map (wordIn es) (upto capacity) in
-    record { n = n; order = padded o; adjacency = adj; count = crossings n o (weight (uncounted n (padded o) adj)) }
+-- a layout of n vertices with these edges and their weights, in the order o, and with its true crossings
+abbrev pub layoutWith : ℕ → List Edge → List ℕ → List ℕ → Layout
+layoutWith n es ws o =
+    let l = uncounted n (padded o) (map (wordIn es) (upto capacity)) (tableIn es ws) in
+    record { n = n; order = l .order; adjacency = l .adjacency; weights = l .weights; count = crossings n o (weight l) }
 
 -- "a ring read from a chart [carries] its true crossings"
 unfoldable pub chartLayout : List ℕ → Layout
-chartLayout s = layoutWith (chartSize s) (chartEdges s) (chartOrder s)
+chartLayout s = layoutWith (chartSize s) (chartEdges s) (chartWeights s) (chartOrder s)
 
 -- "a refusal returns the empty ring"
 abbrev pub readAs : List Check → Layout → LayoutRead

@@ -6,7 +6,7 @@ use lib.ListN.{length}
 use lib.Dec.{eqb, leb, ltb}
 use Rattle.model.specs.declared.Layout.{Layout}
 use Rattle.model.specs.Crossings.{linked}
-use Rattle.model.specs.Layouts.{capacity, valid}
+use Rattle.model.specs.Layouts.{capacity, isWeight, valid}
 
 pub record Check : Type 0 where
   pub passes : Bool
@@ -61,6 +61,10 @@ unfoldable pub bufferFits : Layout → ℕ → Check
 bufferFits l size = record { passes = leb (l .n) size; code = 18 }
 
 -- ---- of calls that document 02 adds
+
+-- "25 when a weight is 0" (Note 8)
+unfoldable pub weighs : ℕ → Check
+weighs w = record { passes = isWeight w; code = 25 }
 
 -- what is written out, and a lent buffer: "19 when the lent buffer is shorter" (Note 1); "23 when the table has fewer entries" (Note 7)
 unfoldable pub roomFor : ℕ → List ℕ → List ℕ → Check

@@ -1,6 +1,6 @@
 -- Edges and crossings. Everywhere n is the number of vertices, o the vertices in their order round the circle, adj the adjacency words, and W the
 -- weight of the edge between two vertices, 0 where there is none.
-use Prim.Native.Nat.{ℕ, _*_, _-_, _/_, _%_, _^_}
+use Prim.Native.Nat.{ℕ, _*_, _/_, _%_, _^_}
 use mathlib.Core.Bool.{Bool, xor, _&&_, _||_}
 use mathlib.Core.List.{List, [], _∷_, map, flatMap}
 use lib.ListN.{getD}
@@ -44,8 +44,7 @@ crossingPairs n o adj = sumPairs (λ e f. one (crosses o e f)) (edges n adj)
 
 -- ---- edges that weigh
 
--- the weight of an edge that the words hold: 1, and 0 where there is none. With it the crossings below are the pairs above (`unit-crossings` in `laws`,
--- Crossings.Units).
+-- every edge that the words hold weighs 1. With this weight the crossings below are the pairs above (`unit-crossings` in `laws`, Crossings.Units).
 abbrev pub unitWeight : List ℕ → ℕ → ℕ → ℕ
 unitWeight adj u v = one (linked adj u v)
 

@@ -9,14 +9,14 @@ use Rattle.model.specs.declared.Added.{Added}
 use Rattle.model.specs.declared.Changed.{Changed}
 use Rattle.model.specs.Lists.{keep}
 use Rattle.model.specs.Crossings.{bit}
-use Rattle.model.specs.Layouts.{vertexOrder, changed, reordered}
-use Rattle.model.specs.Checks.{Check, checked, isValid, isVertex, differ, isUnlinked, isLinked, hasRoom}
+use Rattle.model.specs.Layouts.{capacity, vertexOrder, changed, reordered}
+use Rattle.model.specs.Checks.{Check, checked, isValid, isVertex, differ, isUnlinked, isLinked, hasRoom, weighs}
 
 -- ---- add
 
 -- "device n, without links, at the end of the order"
 unfoldable pub added : Layout → Layout
-added l = changed l (suc (l .n)) (set (l .order) (l .n) (l .n)) (l .adjacency)
+added l = changed l (suc (l .n)) (set (l .order) (l .n) (l .n)) (l .adjacency) (l .weights)
 
 unfoldable pub addChecks : Layout → List Check
 addChecks l = isValid l ∷ hasRoom l ∷ []
@@ -44,9 +44,13 @@ withoutBit word i = word - bit word i * 2 ^ i
 unfoldable pub atBothEnds : (ℕ → ℕ → ℕ) → List ℕ → ℕ → ℕ → List ℕ
 atBothEnds f adj a b = set (set adj a (f (getD adj a 0) b)) b (f (getD adj b 0) a)
 
+-- a table of weights with this one between a and b, both ways round
+unfoldable pub bothWays : List ℕ → ℕ → ℕ → ℕ → List ℕ
+bothWays ws a b w = set (set ws (capacity * a + b) w) (capacity * b + a) w
+
 -- "Link and unlink two devices. The order stays."
-unfoldable pub withEdges : Layout → List ℕ → Layout
-withEdges l adj = changed l (l .n) (l .order) adj
+unfoldable pub withEdges : Layout → List ℕ → List ℕ → Layout
+withEdges l adj ws = changed l (l .n) (l .order) adj ws
 
 -- an accepted call gives the layout, a refused one the layout as it came
 abbrev pub changedTo : Layout → Changed
@@ -58,17 +62,19 @@ changeRefused l r = record { refusal = r; layout = l }
 unfoldable pub changedOr : Layout → List Check → Layout → Changed
 changedOr l checks next = checked checks (changedTo next) (changeRefused l)
 
-unfoldable pub linkChecks : Layout → ℕ → ℕ → List Check
-linkChecks l a b = isValid l ∷ isVertex l a ∷ isVertex l b ∷ differ a b ∷ isUnlinked l a b ∷ []
+-- "Link takes a weight, one byte"; "25 when a weight is 0, [..] after 14 in a call"
+unfoldable pub linkChecks : Layout → ℕ → ℕ → ℕ → List Check
+linkChecks l a b w = isValid l ∷ isVertex l a ∷ isVertex l b ∷ differ a b ∷ isUnlinked l a b ∷ weighs w ∷ []
 
-unfoldable pub linkOf : Layout → ℕ → ℕ → Changed
-linkOf l a b = changedOr l (linkChecks l a b) (withEdges l (atBothEnds withBit (l .adjacency) a b))
+unfoldable pub linkOf : Layout → ℕ → ℕ → ℕ → Changed
+linkOf l a b w =
+    changedOr l (linkChecks l a b w) (withEdges l (atBothEnds withBit (l .adjacency) a b) (bothWays (l .weights) a b w))
 
 unfoldable pub unlinkChecks : Layout → ℕ → ℕ → List Check
 unlinkChecks l a b = isValid l ∷ isVertex l a ∷ isVertex l b ∷ differ a b ∷ isLinked l a b ∷ []
 
 unfoldable pub unlinkOf : Layout → ℕ → ℕ → Changed
-unlinkOf l a b = changedOr l (unlinkChecks l a b) (withEdges l (atBothEnds withoutBit (l .adjacency) a b))
+unlinkOf l a b = changedOr l (unlinkChecks l a b) (withEdges l (atBothEnds withoutBit (l .adjacency) a b) (bothWays (l .weights) a b 0))
 
 -- ---- move
 

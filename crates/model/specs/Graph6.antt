@@ -2,7 +2,7 @@
 use Prim.Native.Nat.{ℕ, suc, _+_, _*_, _-_, _/_, _%_, _^_}
 use mathlib.Core.Bool.{Bool, cond, _&&_}
 use mathlib.Core.List.{List, [], _∷_, _++_, map, flatMap}
-use lib.ListN.{length, getD, take, drop}
+use lib.ListN.{length, getD, take, drop, replicate}
 use lib.Dec.{eqb, leb}
 use Rattle.model.specs.declared.Edge.{Edge}
 use Rattle.model.specs.declared.Layout.{Layout}
@@ -13,6 +13,7 @@ use Rattle.model.specs.Layouts.{weight, capacity}
 use Rattle.model.specs.Checks.{Check}
 use Rattle.model.specs.Charts.{sameList, padded, layoutWith, readAs, Answer, answer}
 use Rattle.model.specs.Writing.{Format}
+use Rattle.model.specs.WrittenCharts.{unitWeighted}
 
 -- ---- six bits a byte
 
@@ -64,9 +65,13 @@ chosen (b ∷ bs) (e ∷ es) = cond (eqb b 1) (e ∷ chosen bs es) (chosen bs es
 unfoldable pub graph6Of : Layout → List ℕ
 graph6Of l = sizePart (l .n) ++ packed (pairBits (l .n) (l .adjacency))
 
+-- "26 when graph6 export meets a weight other than 1, after 11 and before 19" (Note 8)
+unfoldable pub exportChecks : Layout → List Check
+exportChecks l = record { passes = unitWeighted l; code = 26 } ∷ []
+
 -- "Export to a short buffer gives 19."
 abbrev pub graph6Format : Format
-graph6Format = record { entries = graph6Of; checks = λ l. []; short = 19 }
+graph6Format = record { entries = graph6Of; checks = exportChecks; short = 19 }
 
 -- ---- import
 
@@ -101,9 +106,11 @@ graph6Checks s =
 unfoldable pub graph6Edges : ℕ → List ℕ → List Edge
 graph6Edges n bytes = chosen (unpacked bytes) (pairsByHigher n)
 
--- "gives the order 0, 1, 2 and so on and the true count"
+-- "gives the order 0, 1, 2 and so on and the true count"; "graph6 import gives [the weight] 1" (Note 8)
 unfoldable pub graph6Layout : List ℕ → Layout
-graph6Layout s = layoutWith (graph6Size s) (graph6Edges (graph6Size s) (graph6Data s)) (upto (graph6Size s))
+graph6Layout s =
+    let es = graph6Edges (graph6Size s) (graph6Data s) in
+    layoutWith (graph6Size s) es (replicate (length es) 1) (upto (graph6Size s))
 
 -- "A refused import returns the empty ring."
 unfoldable pub importOf : List ℕ → LayoutRead
@@ -112,7 +119,13 @@ importOf s = readAs (graph6Checks s) (graph6Layout s)
 -- "Export then import keeps n and every link": the layout in the order 0, 1, 2 and so on, with its true crossings there
 unfoldable pub inRisingOrder : Layout → Layout
 inRisingOrder l =
-    record { n = l .n; order = padded (upto (l .n)); adjacency = l .adjacency; count = crossings (l .n) (upto (l .n)) (weight l) }
+    record {
+      n = l .n;
+      order = padded (upto (l .n));
+      adjacency = l .adjacency;
+      weights = l .weights;
+      count = crossings (l .n) (upto (l .n)) (weight l);
+    }
 
 -- ---- the passes of the reader, as Charts has them: 20 finds the number of vertices
 

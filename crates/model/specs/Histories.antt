@@ -53,7 +53,7 @@ ofConverged a = outcome (a .refusal) (a .layout) (a .reduction) (a .rounds) (one
 -- what a call answers on a layout: the definition of each
 unfoldable pub answerOf : Layout → Call → Outcome
 answerOf l call.AddVertex = ofAdded (addOf l)
-answerOf l (call.AddEdge a b) = ofChanged (linkOf l a b)
+answerOf l (call.AddEdge a b w) = ofChanged (linkOf l a b w)
 answerOf l (call.RemoveEdge a b) = ofChanged (unlinkOf l a b)
 answerOf l (call.MoveAfter a b) = ofChanged (moveOf l a b)
 answerOf l (call.GreedyAppend s) = ofAppended (layOf l s)
@@ -76,7 +76,7 @@ sweepOf (call.Sift u) = one-sift u
 sweepOf call.SiftingRound = one-round
 sweepOf (call.Converge limit) = some-rounds limit
 sweepOf call.AddVertex = no-sift
-sweepOf (call.AddEdge a b) = no-sift
+sweepOf (call.AddEdge a b w) = no-sift
 sweepOf (call.RemoveEdge a b) = no-sift
 sweepOf (call.MoveAfter a b) = no-sift
 sweepOf (call.GreedyAppend s) = no-sift

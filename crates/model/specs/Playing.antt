@@ -1,5 +1,5 @@
 -- Lists of calls written as numbers, and what playing one gives: the layout at the end and a table of the answers.
-use Prim.Native.Nat.{ℕ, zero, suc, _*_, _/_}
+use Prim.Native.Nat.{ℕ, zero, suc, _*_, _/_, _%_}
 use mathlib.Core.Bool.{cond}
 use mathlib.Core.List.{List, [], _∷_, _++_, flatMap}
 use lib.ListN.{length, getD, drop}
@@ -22,11 +22,15 @@ use Rattle.model.specs.Histories.{Step, steps, played}
 
 -- ---- calls as numbers
 
--- a call is three numbers: which one, and what it names; a number that stands for no call ends the list
-unfoldable pub callOf : ℕ → ℕ → ℕ → Decoded
-callOf op a b =
+-- how many numbers a call takes in a list: which one, what it names, and the weight of a link
+abbrev pub callWidth : ℕ
+callWidth = 4
+
+-- a number that stands for no call ends the list; of a weight one byte is taken
+unfoldable pub callOf : ℕ → ℕ → ℕ → ℕ → Decoded
+callOf op a b w =
     cond (eqb op 16) (decoded.Next call.AddVertex)
-    (cond (eqb op 17) (decoded.Next (call.AddEdge a b))
+    (cond (eqb op 17) (decoded.Next (call.AddEdge a b (w % 256)))
     (cond (eqb op 18) (decoded.Next (call.RemoveEdge a b))
     (cond (eqb op 19) (decoded.Next (call.MoveAfter a b))
     (cond (eqb op 20) (decoded.Next (call.GreedyAppend a))
@@ -34,9 +38,9 @@ callOf op a b =
     (cond (eqb op 22) (decoded.Next call.SiftingRound)
     (cond (eqb op 23) (decoded.Next (call.Converge a)) decoded.End)))))))
 
--- the call that the first three numbers are
+-- the call that the first numbers are
 unfoldable pub firstCall : List ℕ → Decoded
-firstCall s = callOf (getD s 0 0) (getD s 1 0) (getD s 2 0)
+firstCall s = callOf (getD s 0 0) (getD s 1 0) (getD s 2 0) (getD s 3 0)
 
 -- a call and those behind it, or none
 unfoldable pub followed : Decoded → List Call → List Call
@@ -46,11 +50,11 @@ followed decoded.End rest = []
 -- at most k calls
 unfoldable pub callsIn : ℕ → List ℕ → List Call
 callsIn zero s = []
-callsIn (suc k) s = followed (firstCall s) (callsIn k (drop 3 s))
+callsIn (suc k) s = followed (firstCall s) (callsIn k (drop callWidth s))
 
--- one or two numbers behind the last call are not looked at
+-- numbers behind the last whole call are not looked at
 unfoldable pub callsOf : List ℕ → List Call
-callsOf s = callsIn (length s / 3) s
+callsOf s = callsIn (length s / callWidth) s
 
 -- ---- the table of the answers
 

@@ -1,19 +1,19 @@
 -- The starred rings of document 01, "Rings worked by hand", rings with isolated vertices (document 02, Note 2), how many places of a vertex are best
--- (Note 3), and lays that leave crossings (Note 6): four tables, and one theorem about the definitions that covers them.
+-- (Note 3), lays that leave crossings (Note 6), and rings whose links weigh (Note 8): five tables, and one theorem about the definitions that covers them.
 use Prim.Native.Nat.{ℕ, _-_, _^_}
 use mathlib.Core.Bool.{Bool, true, false, Bool·beq, xor, _&&_}
-use mathlib.Core.List.{List, [], _∷_, _++_, map, flatMap}
-use lib.ListN.{length, take, replicate}
+use mathlib.Core.List.{List, [], _∷_, _++_, flatMap}
+use lib.ListN.{length, replicate}
 use lib.Dec.{T, eqb}
 use Rattle.model.specs.declared.Edge.{Edge}
 use Rattle.model.specs.declared.Layout.{Layout}
 use Rattle.model.specs.declared.Appended.{Appended}
 use Rattle.model.specs.Lists.{one, upto, every, any, keep, firstWith, sumOver, sumPairs, noRepeats, member, occurrences, place}
 use Rattle.model.specs.Crossings.{bit, linked, edges, between, alternate, crosses, adjacent, weightedEdges, crossingWeight, crossings}
-use Rattle.model.specs.Layouts.{capacity, uncounted, vertexOrder, weight, crossingsOf, eachOnce, zeroFrom, symmetric, loopless, bitsBelow}
-use Rattle.model.specs.Layouts.{valid, carried, changed, reordered}
+use Rattle.model.specs.Layouts.{vertexOrder, tableWeight, weight, crossingsOf, eachOnce, zeroFrom, symmetric, loopless, bitsBelow}
+use Rattle.model.specs.Layouts.{rowOf, isWeight, evenWeights, weighsEdges, blankFrom, weightsFit, valid, carried, changed, reordered}
 use Rattle.model.specs.Checks.{refusal, byRefusal, checked, isValid, isVertex, differ, limitFits}
-use Rattle.model.specs.Edits.{changedOr, insertAfter, movedAfter, moveChecks, moveOf}
+use Rattle.model.specs.Edits.{bothWays, changedOr, insertAfter, movedAfter, moveChecks, moveOf}
 use Rattle.model.specs.Reading.{pairWith, orElse, firstPair, firstCrossingOf}
 use Rattle.model.specs.GreedyAppend.{unplaced, waiting, isolated, hasEdges, degreeIn, preferred, bestOf, nextVertex, closing, open′}
 use Rattle.model.specs.GreedyAppend.{frontCrossings, backCrossings, alone, placeFront, placeBack, placeVertex, placeMore, placeAtBack, placeLinked}
@@ -22,7 +22,7 @@ use Rattle.model.specs.Search.{least, countWith, reached, movedIn, lastS
 use Rattle.model.specs.Search.{siftsOfAll, roundAt, roundsWithin}
 use Rattle.model.specs.Sifting.{clockwiseFrom, candidateLayouts, reduction, siftChecks, siftOf, optimaIn, swept, siftRound, roundOf, settled}
 use Rattle.model.specs.Sifting.{roundsUpTo, settleChecks, settleOf}
-use Rattle.model.specs.Charts.{sameList, sameEdge, joins, wordIn}
+use Rattle.model.specs.Charts.{sameList, sameEdge, joins, wordIn, withWeights, tableIn, layoutWith}
 
 -- ---- the tables
 
@@ -57,6 +57,12 @@ pub data Claim : Type 0 where
 
 pub record Row : Type 0 where
   pub ring : Ring
+  pub claims : List Claim
+
+-- the same of a ring whose links have these weights, in their sequence
+pub record WeightedRow : Type 0 where
+  pub ring : Ring
+  pub weights : List ℕ
   pub claims : List Claim
 
 -- the edge a-b, written lower end first
@@ -152,13 +158,47 @@ withTally =
     }
     ∷ []
 
+-- a crossing counts the product; lay goes by weights at its ends, and by numbers of links in its choice; a sift and a settling go by weights
+unfoldable pub withLinkWeights : List WeightedRow
+withLinkWeights =
+    record {
+      ring = first;
+      weights = 2 ∷ 3 ∷ [];
+      claims =
+          crossing 6
+          ∷ showing (0 to 2 ∷ 1 to 3 ∷ [])
+          ∷ sifting 0 (1 ∷ 0 ∷ 2 ∷ 3 ∷ []) 6
+          ∷ siftOptima 0 2
+          ∷ settling 1 1 false 0 (1 ∷ 0 ∷ 2 ∷ 3 ∷ [])
+          ∷ settling 2 2 true 0 (1 ∷ 0 ∷ 2 ∷ 3 ∷ [])
+          ∷ [];
+    }
+    ∷ record {
+      ring = record { vertices = 4; links = complete 4; order = 0 ∷ 1 ∷ 2 ∷ 3 ∷ [] };
+      weights = 1 ∷ 2 ∷ 1 ∷ 2 ∷ 3 ∷ 1 ∷ [];
+      claims = crossing 6 ∷ tallying 2 (1 ∷ 2 ∷ 0 ∷ 3 ∷ []) 1 ∷ [];
+    }
+    ∷ record {
+      ring = record { vertices = 4; links = complete 4; order = 0 ∷ 1 ∷ 2 ∷ 3 ∷ [] };
+      weights = replicate 6 1;
+      claims = crossing 1 ∷ tallying 2 (2 ∷ 0 ∷ 1 ∷ 3 ∷ []) 1 ∷ [];
+    }
+    ∷ record {
+      ring = record { vertices = 5; links = 0 to 2 ∷ 0 to 3 ∷ 0 to 4 ∷ 1 to 3 ∷ 1 to 4 ∷ 2 to 3 ∷ []; order = 0 ∷ 1 ∷ 2 ∷ 3 ∷ 4 ∷ [] };
+      weights = 1 ∷ 1 ∷ 255 ∷ 1 ∷ 5 ∷ 1 ∷ [];
+      claims = crossing 11 ∷ sifting 0 (1 ∷ 2 ∷ 3 ∷ 0 ∷ 4 ∷ []) 10 ∷ settling 50 2 true 0 (1 ∷ 3 ∷ 2 ∷ 0 ∷ 4 ∷ []) ∷ settleOptima 50 10 ∷ [];
+    }
+    ∷ []
+
 -- ---- the theorem
 
--- the layout of a ring of a table, with its true count
+-- the layout of a ring whose links have these weights, with its true count
+unfoldable pub weightedLayoutOf : Ring → List ℕ → Layout
+weightedLayoutOf r ws = layoutWith (r .vertices) (r .links) ws (r .order)
+
+-- of a ring of a table: every link weighs 1
 unfoldable pub layoutOf : Ring → Layout
-layoutOf r =
-    let l = uncounted (r .vertices) (take capacity (r .order ++ replicate capacity 0)) (map (wordIn (r .links)) (upto capacity)) in
-    record { n = l .n; order = l .order; adjacency = l .adjacency; count = crossingsOf l }
+layoutOf r = weightedLayoutOf r (replicate (length (r .links)) 1)
 
 -- are two lists of edges the same?
 unfoldable pub sameEdges : List Edge → List Edge → Bool
@@ -197,8 +237,10 @@ holds l (roundOptima k) = let r = roundOf l in eqb (r .refusal) 0 && eqb (r .opt
 holds l (settleOptima limit k) = let r = settleOf l limit in eqb (r .refusal) 0 && eqb (r .optima) k
 
 -- every claim of the tables holds, by computation
-pub starred-holds : T (every (λ row. every (holds (layoutOf (row .ring))) (row .claims)) (starred ++ withIsolated ++ withOptima ++ withTally))
-unfolding starred withIsolated withOptima withTally first complete _to_ layoutOf sameEdges gives lays holds one upto every any keep firstWith sumOver
+pub starred-holds : T (every (λ row. every (holds (layoutOf (row .ring))) (row .claims)) (starred ++ withIsolated ++ withOptima ++ withTally)
+    && every (λ row. every (holds (weightedLayoutOf (row .ring) (row .weights))) (row .claims)) withLinkWeights)
+unfolding starred withIsolated withOptima withTally withLinkWeights first complete _to_ weightedLayoutOf layoutOf sameEdges gives lays holds
+    rowOf isWeight evenWeights weighsEdges blankFrom weightsFit tableWeight withWeights tableIn bothWays one upto every any keep firstWith sumOver
     sumPairs noRepeats member occurrences place bit linked edges between alternate crosses adjacent weightedEdges crossingWeight crossings vertexOrder
     weight crossingsOf eachOnce zeroFrom symmetric loopless bitsBelow valid carried changed reordered refusal byRefusal checked isValid isVertex
     differ limitFits changedOr insertAfter movedAfter moveChecks moveOf pairWith orElse firstPair firstCrossingOf unplaced waiting isolated hasEdges

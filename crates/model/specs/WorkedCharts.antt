@@ -7,12 +7,14 @@ use lib.Dec.{T, eqb}
 use Rattle.model.specs.declared.Layout.{Layout}
 use Rattle.model.specs.Lists.{one, upto, every, any, keep, sumOver, sumPairs, noRepeats, occurrences, place}
 use Rattle.model.specs.Crossings.{bit, linked, edges, between, alternate, crosses, adjacent, weightedEdges, crossingWeight, crossings}
-use Rattle.model.specs.Layouts.{vertexOrder, eachOnce, zeroFrom, symmetric, loopless, bitsBelow, valid}
+use Rattle.model.specs.Layouts.{vertexOrder, weight, eachOnce, zeroFrom, symmetric, loopless, bitsBelow, valid}
+use Rattle.model.specs.Layouts.{rowOf, isWeight, evenWeights, weighsEdges, blankFrom, weightsFit, tableWeight}
 use Rattle.model.specs.Checks.{refusal, byRefusal, checked, isValid, roomFor}
 use Rattle.model.specs.Charts.{fieldsIn, fieldsOf, bodyOf, bodyLength, startsWithField, firstField, chartSize, edgesIn, chartEdges, chartOrder}
-use Rattle.model.specs.Charts.{sameList, sameEdge, joins, wordIn, chartLayout}
+use Rattle.model.specs.Charts.{sameList, sameEdge, joins, wordIn, hasWeights, chartWeights, withWeights, tableIn, chartLayout}
+use Rattle.model.specs.Edits.{bothWays}
 use Rattle.model.specs.Writing.{writeOf, writtenBytes}
-use Rattle.model.specs.WrittenCharts.{fieldBytes, edgeBytes, chartOf, chartFormat}
+use Rattle.model.specs.WrittenCharts.{fieldBytes, edgeBytes, weightsOf, unitWeighted, weightField, chartOf, chartFormat}
 
 unfoldable pub chartWithLinks : List ℕ → List ℕ
 chartWithLinks links = 0x44 ∷ 0 ∷ 1 ∷ 4 ∷ 0x4C ∷ 0 ∷ 4 ∷ (links ++ (0x52 ∷ 0 ∷ 4 ∷ 0 ∷ 1 ∷ 2 ∷ 3 ∷ []))
@@ -32,7 +34,7 @@ writesInto l size code chart =
 -- by computation
 pub worked-writes : let first : List ℕ = 0 ∷ 2 ∷ 1 ∷ 3 ∷ [] in
     let l = chartLayout (chartWithLinks first) in
-    let invalid : Layout = record { n = 2; order = l .adjacency; adjacency = l .adjacency; count = 0 } in
+    let invalid : Layout = record { n = 2; order = l .adjacency; adjacency = l .adjacency; weights = l .weights; count = 0 } in
     T (writesLinks first first
     && writesLinks (3 ∷ 1 ∷ 0 ∷ 2 ∷ []) first
     && writesLinks (2 ∷ 1 ∷ 3 ∷ 0 ∷ []) (0 ∷ 3 ∷ 1 ∷ 2 ∷ [])
@@ -41,8 +43,9 @@ pub worked-writes : let first : List ℕ = 0 ∷ 2 ∷ 1 ∷ 3 ∷ [] in
     && writesInto l 20 0 (chartWithLinks first)
     && writesInto invalid 0 11 []
     && writesInto invalid 20 11 [])
-unfolding chartWithLinks writesLinks writesInto chartOf fieldBytes edgeBytes writeOf writtenBytes chartLayout chartSize chartEdges chartOrder bodyOf
-    fieldsOf fieldsIn startsWithField bodyLength firstField edgesIn wordIn joins sameEdge sameList adjacent weightedEdges crossingWeight crossings
-    crosses edges linked bit between alternate upto every any keep one sumOver sumPairs noRepeats occurrences place refusal byRefusal checked isValid
-    roomFor valid eachOnce zeroFrom symmetric loopless bitsBelow vertexOrder flatMap xor
+unfolding rowOf isWeight evenWeights weighsEdges blankFrom weightsFit tableWeight withWeights tableIn bothWays weight hasWeights chartWeights
+    weightsOf unitWeighted weightField chartWithLinks writesLinks writesInto chartOf fieldBytes edgeBytes writeOf writtenBytes chartLayout chartSize
+    chartEdges chartOrder bodyOf fieldsOf fieldsIn startsWithField bodyLength firstField edgesIn wordIn joins sameEdge sameList adjacent weightedEdges
+    crossingWeight crossings crosses edges linked bit between alternate upto every any keep one sumOver sumPairs noRepeats occurrences place refusal
+    byRefusal checked isValid roomFor valid eachOnce zeroFrom symmetric loopless bitsBelow vertexOrder flatMap xor
 worked-writes = tt

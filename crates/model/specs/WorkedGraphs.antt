@@ -7,9 +7,10 @@ use lib.ListN.{replicate}
 use lib.Dec.{T, eqb}
 use Rattle.model.specs.Lists.{one, upto, every, any, keep, firstWith, sumOver, sumPairs, noRepeats, place}
 use Rattle.model.specs.Crossings.{bit, linked, edges, between, alternate, crosses, adjacent, weightedEdges, crossingWeight, crossings}
-use Rattle.model.specs.Layouts.{weight}
+use Rattle.model.specs.Layouts.{tableWeight, weight}
 use Rattle.model.specs.Checks.{refusal}
-use Rattle.model.specs.Charts.{sameList, sameEdge, joins, wordIn}
+use Rattle.model.specs.Charts.{sameList, sameEdge, joins, wordIn, withWeights, tableIn}
+use Rattle.model.specs.Edits.{bothWays}
 use Rattle.model.specs.WrittenCharts.{edgeBytes}
 use Rattle.model.specs.Graph6.{byteOf, bytesFor, packed, bitsOf, unpacked, holdsSix, sizePart, pairsByHigher, pairBits, chosen, graph6Of}
 use Rattle.model.specs.Graph6.{startsWithSize, graph6Size, graph6Data, graph6SizeChecks, dataChecks, paddingChecks, graph6Checks, graph6Edges}
@@ -33,10 +34,10 @@ pub worked-imports : T (importsAs (63 ∷ []) 0 [] 0
     && importsAs (65 ∷ 95 ∷ []) 2 (0 ∷ 1 ∷ []) 0
     && importsAs (67 ∷ 81 ∷ []) 4 (0 ∷ 2 ∷ 1 ∷ 3 ∷ []) 1
     && importsAs (68 ∷ 81 ∷ 99 ∷ []) 5 (0 ∷ 2 ∷ 1 ∷ 3 ∷ 0 ∷ 4 ∷ 3 ∷ 4 ∷ []) 1)
-unfolding importsAs byteOf bytesFor packed bitsOf unpacked holdsSix sizePart pairsByHigher pairBits chosen graph6Of startsWithSize graph6Size
-    graph6Data graph6SizeChecks dataChecks paddingChecks graph6Checks graph6Edges graph6Layout edgeBytes wordIn joins sameEdge sameList weight
-    adjacent weightedEdges crossingWeight crossings crosses edges linked bit between alternate upto every any keep firstWith one sumOver sumPairs
-    noRepeats place refusal flatMap xor
+unfolding tableWeight withWeights tableIn bothWays importsAs byteOf bytesFor packed bitsOf unpacked holdsSix sizePart pairsByHigher pairBits chosen
+    graph6Of startsWithSize graph6Size graph6Data graph6SizeChecks dataChecks paddingChecks graph6Checks graph6Edges graph6Layout edgeBytes wordIn
+    joins sameEdge sameList weight adjacent weightedEdges crossingWeight crossings crosses edges linked bit between alternate upto every any keep
+    firstWith one sumOver sumPairs noRepeats place refusal flatMap xor
 worked-imports = tt
 
 -- are these bytes refused with this number, or accepted with 0?

@@ -2,13 +2,15 @@
 
 // A circular layout (document 01: a ring). Vertices (devices) are 0 to n - 1. The first n places
 // of order hold them clockwise. Bit i of adjacency[v] (the neighbour word of v) is set exactly
-// when v and i are joined by an edge (a link). count is the carried count.
+// when v and i are joined by an edge (a link). The weight of u towards v stands at 64 * u + v of
+// weights, 0 where there is no edge (document 02, Note 8). count is the carried count.
 #[repr(C)]
 pub struct Layout {
     pub n: usize,
     pub order: [u8; 64],
     pub adjacency: [u64; 64],
-    pub count: u32,
+    pub weights: [u8; 4096],
+    pub count: u64,
 }
 
 // An edge (a link), the lower end first.
@@ -39,7 +41,7 @@ pub struct Added {
 pub struct Appended {
     pub refusal: u8,
     pub layout: Layout,
-    pub tally: u32,
+    pub tally: u64,
 }
 
 // Sifting one vertex (sift): the reduction (saving), crossings before less crossings after; and how
@@ -47,7 +49,7 @@ pub struct Appended {
 pub struct Sifted {
     pub refusal: u8,
     pub layout: Layout,
-    pub reduction: u32,
+    pub reduction: u64,
     pub optima: u32,
 }
 
@@ -55,7 +57,7 @@ pub struct Sifted {
 pub struct Rounded {
     pub refusal: u8,
     pub layout: Layout,
-    pub reduction: u32,
+    pub reduction: u64,
     pub moved: u32,
     pub optima: u32,
 }
@@ -65,7 +67,7 @@ pub struct Rounded {
 pub struct Converged {
     pub refusal: u8,
     pub layout: Layout,
-    pub reduction: u32,
+    pub reduction: u64,
     pub rounds: u32,
     pub converged: bool,
     pub optima: u32,
@@ -75,7 +77,7 @@ pub struct Converged {
 #[repr(C)]
 pub struct Counted {
     pub refusal: u8,
-    pub count: u32,
+    pub count: u64,
 }
 
 // The search for a crossing pair of edges (the shown crossing pair).
@@ -108,7 +110,7 @@ pub struct EdgesCounted {
 // What the passes of the chart reader and of the graph6 reader answer. specs/Charts.antt says for each
 // case which number and values of document 01 it stands for.
 
-// A pass that only asks: questions 1 and 2, 3, 5 and 6, 7, and 8; of graph6 21, and 22.
+// A pass that only asks: questions 1 and 2, 3, 5 and 6, 7, 8, and 24 and 25; of graph6 21, and 22.
 pub enum Asked {
     Passed,
     Refused(u8),
@@ -130,7 +132,7 @@ pub enum SizeFound {
 // A call that changes a layout, with what it names: any numbers at all.
 pub enum Call {
     AddVertex,
-    AddEdge(usize, usize),
+    AddEdge(usize, usize, u8),
     RemoveEdge(usize, usize),
     MoveAfter(usize, usize),
     GreedyAppend(usize),
@@ -153,7 +155,10 @@ pub struct Outcome {
 // How many numbers an answer takes in the table of a list of calls: its refusal code, and those of its outcome.
 pub const ANSWER_WIDTH: usize = 5;
 
-// A call read from three numbers, or the end of the list.
+// How many numbers a call takes in a list: which one, what it names, and the weight of an edge.
+pub const CALL_WIDTH: usize = 4;
+
+// A call read from its numbers, or the end of the list.
 pub enum Decoded {
     Next(Call),
     End,
@@ -185,20 +190,20 @@ pub struct AddReport {
 #[repr(C)]
 pub struct AppendReport {
     pub refusal: u8,
-    pub tally: u32,
+    pub tally: u64,
 }
 
 #[repr(C)]
 pub struct SiftReport {
     pub refusal: u8,
-    pub reduction: u32,
+    pub reduction: u64,
     pub optima: u32,
 }
 
 #[repr(C)]
 pub struct RoundReport {
     pub refusal: u8,
-    pub reduction: u32,
+    pub reduction: u64,
     pub moved: u32,
     pub optima: u32,
 }
@@ -206,7 +211,7 @@ pub struct RoundReport {
 #[repr(C)]
 pub struct ConvergeReport {
     pub refusal: u8,
-    pub reduction: u32,
+    pub reduction: u64,
     pub rounds: u32,
     pub converged: bool,
     pub optima: u32,

@@ -6,7 +6,7 @@ use mathlib.Core.Path.{_≡_, refl, sym, ap, ap₂, _∙_}
 use mathlib.Core.Bool.{Bool, true, false, cond, _&&_}
 use mathlib.Core.List.{List, [], _∷_, _++_, map}
 use lib.ListN.{length, getD, take, drop, length-append, length-drop, length-map, List·getD-append}
-use lib.Seq.{getD-take, getD-drop, getD-append-add, ext-getD, take-at}
+use lib.Seq.{getD-take, getD-drop, getD-append-add, ext-getD}
 use lib.Dec.{T, eqb, ltb, leb}
 use borrow.Author.Tests.{lt-ltb, le-ltb, eq-eqb, ne-eqb}
 use Rattle.laws.specs.Layouts.Refusals.{Pair}
@@ -18,7 +18,8 @@ use Rattle.laws.specs.Sums.Indicators.{Order, less, same, more, order}
 use Rattle.laws.specs.Sums.Lists.{length-upto, map-upto-at}
 use Rattle.laws.specs.Orders.Permutations.{at, Permutation, place-below, at-of-place}
 use Rattle.laws.specs.Layouts.Validity.{sound}
-use Rattle.laws.specs.Layouts.Recount.{drawn, recounted, recounted-changed}
+use Rattle.laws.specs.Layouts.Reordering.{reordered-valid}
+use Rattle.laws.specs.Layouts.Recount.{recounted, recounted-changed}
 use Rattle.laws.specs.Orders.Moves.{movedFrom, moved-entry, moved-permutation, back-beyond, on-beyond}
 
 -- the entries of 64 places after the one at place p was moved behind the one at place q
@@ -96,16 +97,11 @@ shifted-moved n places size small perm a b ha hb d =
 
 -- a layout with its vertices in another order, by the counter
 pub reordered-recounted : (l : Layout) (o : List ℕ) → T (valid l) → Permutation (l .n) o → {places : List ℕ} → places ≡ o ++ drop (l .n) (l .order)
-    → recounted l (l .n) places (l .adjacency) ≡ reordered l o
+    → recounted l (l .n) places (l .adjacency) (l .weights) ≡ reordered l o
 unfolding reordered
 reordered-recounted l o t perm e =
-    ap (λ (x : List ℕ). recounted l (l .n) x (l .adjacency)) e
-    ∙ recounted-changed l (l .n) (o ++ drop (l .n) (l .order)) (l .adjacency) t
-    (record {
-      small = drawn l t .small;
-      permutation = rw (take-at o (drop (l .n) (l .order)) (l .n) (perm .size)) perm;
-      symmetry = drawn l t .symmetry;
-    })
+    ap (λ (x : List ℕ). recounted l (l .n) x (l .adjacency) (l .weights)) e
+    ∙ recounted-changed l (l .n) (o ++ drop (l .n) (l .order)) (l .adjacency) (l .weights) t (reordered-valid l o t perm)
 
 -- ---- the place of a vertex, found by going through the list
 
@@ -143,10 +139,10 @@ moved-array {l} {a} {b} pair size {p} {q} {places} hp hq e =
     ∙ shifted-moved (l .n) (l .order) size small perm a b (pair .first) (pair .second) (pair .different)
   where
     small : l .n ≤ 64
-    small = drawn l (pair .is-valid) .small
+    small = sound l (pair .is-valid) .small
 
     perm : Permutation (l .n) (take (l .n) (l .order))
-    perm = drawn l (pair .is-valid) .permutation
+    perm = sound l (pair .is-valid) .permutation
 
     below-p : p < l .n
     below-p = rw hp (place-below perm a (pair .first))
@@ -156,7 +152,7 @@ moved-array {l} {a} {b} pair size {p} {q} {places} hp hq e =
 
 -- the layout of an accepted move, by the counter
 pub move-recounted : {l : Layout} {a b : ℕ} → Pair l a b → {places : List ℕ} → places ≡ movedAfter a b (vertexOrder l) ++ drop (l .n) (l .order)
-    → recounted l (l .n) places (l .adjacency) ≡ reordered l (movedAfter a b (vertexOrder l))
+    → recounted l (l .n) places (l .adjacency) (l .weights) ≡ reordered l (movedAfter a b (vertexOrder l))
 move-recounted {l} {a} {b} pair e =
     reordered-recounted l (movedAfter a b (vertexOrder l)) (pair .is-valid)
     (moved-permutation (sound l (pair .is-valid) .permutation) a (pair .first) b (pair .second) (pair .different)) e

@@ -36,18 +36,34 @@ pub fn put_head(line: &mut [u8], name: &[u8], refusal: u8) -> usize
     put_small(line, at, refusal)
 }
 
-// The line's second half, from place at on: the layout that now stands, and the words that differ
-// from those before.
+// The line's second half, from place at on: the layout that now stands, and the words and weights that
+// differ from those before.
 pub fn told(line: &mut [u8], at: usize, before: Layout, after: Layout) -> Played
-    ensures { λ r. ⌜ r .written ≤ at + 1923 ⌝ }
+    ensures { λ r. ⌜ r .written ≤ at + 51083 ⌝ }
 {
     let fields_end = put_fields(line, at, after);
     let old_words = before.adjacency;
     let words = after.adjacency;
     let words_end = put_words(line, fields_end, &old_words, &words);
-    let end = put_text(line, words_end, b"\n");
+    let old_weights = before.weights;
+    let weights = after.weights;
+    let weights_end = put_weights(line, words_end, &old_weights, &weights);
+    let end = put_text(line, weights_end, b"\n");
     Played {
         layout: after,
+        written: end,
+        ended: false,
+    }
+}
+
+// The same for a call that only reads: no word and no weight differs.
+pub fn told_same(line: &mut [u8], at: usize, l: Layout) -> Played
+    ensures { λ r. ⌜ r .written ≤ at + 331 ⌝ }
+{
+    let fields_end = put_fields(line, at, l);
+    let end = put_text(line, fields_end, b" words weights\n");
+    Played {
+        layout: l,
         written: end,
         ended: false,
     }
@@ -59,7 +75,7 @@ fn put_fields(line: &mut [u8], at: usize, l: Layout) -> usize
     let order = l.order;
     let n_end = put_field(line, at, b" n", l.n as u64);
     let order_end = put_order(line, n_end, &order);
-    put_field(line, order_end, b" count", l.count as u64)
+    put_field(line, order_end, b" count", l.count)
 }
 
 fn put_field(line: &mut [u8], at: usize, name: &[u8], number: u64) -> usize
@@ -90,6 +106,32 @@ fn put_words(line: &mut [u8], at: usize, before: &[u64], after: &[u64]) -> usize
         v += 1;
     }
     end
+}
+
+// The two vertices and the value of each weight that differs from the one before.
+fn put_weights(line: &mut [u8], at: usize, before: &[u8], after: &[u8]) -> usize
+    requires { ⌜ (length (now before) ≡ 4096) × (length (now after) ≡ 4096) ⌝ }
+    ensures { λ r. ⌜ r ≤ at + 49160 ⌝ }
+{
+    let mut end = put_text(line, at, b" weights");
+    let mut i = 0;
+    while i < 4096 {
+        end = put_weight(line, end, i, before[i], after[i]);
+        i += 1;
+    }
+    end
+}
+
+fn put_weight(line: &mut [u8], at: usize, i: usize, before: u8, after: u8) -> usize
+    requires { ⌜ i < 4096 ⌝ }
+    ensures { λ r. ⌜ r ≤ at + 12 ⌝ }
+{
+    if before == after {
+        return at;
+    }
+    let first = put_small(line, at, (i / 64) as u8);
+    let second = put_small(line, first, (i % 64) as u8);
+    put_small(line, second, after)
 }
 
 fn put_changed(line: &mut [u8], at: usize, v: usize, before: u64, after: u64) -> usize

@@ -22,7 +22,8 @@ pub fn play(l: Layout, record: &[u8], line: &mut [u8; 65536]) -> Played
     let op = number(record, 0);
     let a = number(record, 8);
     let b = number(record, 16);
-    play_op(l, op, a, b, line)
+    let c = number(record, 24);
+    play_op(l, op, a, b, c, line)
 }
 
 // Is the record whole, and a start from bytes that follow it in the list: a chart, or a graph in
@@ -59,7 +60,7 @@ pub fn play_start(
 }
 
 // What the table of ops says, but for starts from bytes.
-fn play_op(l: Layout, op: u64, a: u64, b: u64, line: &mut [u8]) -> Played
+fn play_op(l: Layout, op: u64, a: u64, b: u64, c: u64, line: &mut [u8]) -> Played
     ensures { λ r. ⌜ r .written ≤ lineRoom ⌝ }
 {
     match op {
@@ -68,13 +69,18 @@ fn play_op(l: Layout, op: u64, a: u64, b: u64, line: &mut [u8]) -> Played
         3 => silent(play_records::with_place(l, a, b)),
         4 => silent(play_records::with_word(l, a, b)),
         5 => silent(play_records::with_count(l, a)),
+        6 => silent(play_records::with_weight(l, a, b, c)),
         24 => play_views::count(l, line),
         25 => play_views::order(l, a, b, line),
         26 => play_views::pair(l, line),
         27 => play_views::write(l, Format::Chart, a, b, line),
         29 => play_views::write(l, Format::Graph6, a, b, line),
         30 => play_tables::edge_crossings(l, a, b, line),
-        _ => play_decoded(l, calls_encoding::call_of(op, a as usize, b as usize), line),
+        _ => play_decoded(
+            l,
+            calls_encoding::call_of(op, a as usize, b as usize, c),
+            line,
+        ),
     }
 }
 

@@ -28,6 +28,20 @@ pub fn with_word(l: Layout, place: u64, word: u64) -> Layout {
 
 pub fn with_count(l: Layout, count: u64) -> Layout {
     let mut next = l;
-    next.count = (count % 4294967296) as u32;
+    next.count = count;
+    next
+}
+
+// The weight of one vertex towards another, one way round. Vertices that are not there set nothing.
+pub fn with_weight(l: Layout, from: u64, to: u64, weight: u64) -> Layout {
+    let mut next = l;
+    if from < 64 {
+        if to < 64 {
+            let u = from as usize;
+            let v = to as usize;
+            let at = 64 * u + v;
+            next.weights[at] = (weight % 256) as u8;
+        }
+    }
     next
 }

@@ -8,6 +8,7 @@ ghost use lib.ListN.{length};
 pub use fields::with_count;
 pub use fields::with_n;
 pub use fields::with_place;
+pub use fields::with_weight;
 pub use fields::with_word;
 
 // The number from byte at on; 0 if the record has not so many bytes.

@@ -35,7 +35,7 @@ fn put_name(line: &mut [u8], c: Call) -> usize
 {
     match c {
         Call::AddVertex => put_text(line, 0, b"add"),
-        Call::AddEdge(_, _) => put_text(line, 0, b"link"),
+        Call::AddEdge(_, _, _) => put_text(line, 0, b"link"),
         Call::RemoveEdge(_, _) => put_text(line, 0, b"unlink"),
         Call::MoveAfter(_, _) => put_text(line, 0, b"move"),
         Call::GreedyAppend(_) => put_text(line, 0, b"lay"),
@@ -49,7 +49,7 @@ fn put_name(line: &mut [u8], c: Call) -> usize
 fn numbers_of(c: Call) -> u8 {
     match c {
         Call::AddVertex => 1,
-        Call::AddEdge(_, _) => 0,
+        Call::AddEdge(_, _, _) => 0,
         Call::RemoveEdge(_, _) => 0,
         Call::MoveAfter(_, _) => 0,
         Call::GreedyAppend(_) => 1,

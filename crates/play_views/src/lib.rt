@@ -11,7 +11,7 @@ use model::Layout;
 use model::LayoutWritten;
 use play_answers::Played;
 use play_answers::put_head;
-use play_answers::told;
+use play_answers::told_same;
 use play_records::at_most;
 use text::put_text;
 
@@ -20,8 +20,8 @@ pub fn count(l: Layout, line: &mut [u8]) -> Played
 {
     let answer = queries::count(l);
     let at = put_head(line, b"count", answer.refusal);
-    let end = put_number(line, at, answer.count as u64);
-    told(line, end, l, l)
+    let end = put_number(line, at, answer.count);
+    told_same(line, end, l)
 }
 
 // Reads the order into a buffer of size bytes, or 255 if that is less, each of which holds fill
@@ -41,7 +41,7 @@ fn order_into(l: Layout, line: &mut [u8], buffer: &mut [u8]) -> Played
     let refusal = queries::order(l, buffer);
     let head_end = put_head(line, b"order", refusal);
     let end = put_buffer(line, head_end, buffer);
-    told(line, end, l, l)
+    told_same(line, end, l)
 }
 
 // What a layout is written as.
@@ -66,7 +66,7 @@ fn write_into(l: Layout, format: Format, line: &mut [u8], buffer: &mut [u8]) -> 
 {
     let length_end = write_as(l, format, line, buffer);
     let end = put_buffer(line, length_end, buffer);
-    told(line, end, l, l)
+    told_same(line, end, l)
 }
 
 // Answers where the line's name and numbers end.
@@ -106,7 +106,7 @@ pub fn pair(l: Layout, line: &mut [u8]) -> Played
 {
     let answer = first_crossing::first_crossing(l);
     let end = put_crossing(line, answer);
-    told(line, end, l, l)
+    told_same(line, end, l)
 }
 
 fn put_crossing(line: &mut [u8], answer: FirstCrossing) -> usize

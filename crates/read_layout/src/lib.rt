@@ -19,16 +19,17 @@ pub fn refused(code: u8) -> LayoutRead
 }
 
 // Accepted: the layout with its crossings counted.
-pub fn accepted(n: usize, order: [u8; 64], adjacency: [u64; 64]) -> LayoutRead
-    ensures { λ r. ⌜ r ≡ acceptedRead (countedLayout n order adjacency) ⌝ }
+pub fn accepted(n: usize, order: [u8; 64], adjacency: [u64; 64], weights: [u8; 4096]) -> LayoutRead
+    ensures { λ r. ⌜ r ≡ acceptedRead (countedLayout n order adjacency weights) ⌝ }
 {
-    let count = counting::count_crossings(n, &order, &adjacency);
+    let count = counting::count_crossings(n, &order, &weights);
     LayoutRead {
         refusal: 0,
         layout: Layout {
             n: n,
             order: order,
             adjacency: adjacency,
+            weights: weights,
             count: count,
         },
     }

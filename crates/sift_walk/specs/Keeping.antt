@@ -1,4 +1,4 @@
--- What the walk keeps of the candidates so far: their least crossings, the first that has them, and how many have them (document 02, Note 5).
+-- What the walk keeps of the candidates so far: their least number, the first that has it, and how many have it (document 02, Note 5).
 use Prim.Native.Nat.{ℕ, suc, _+_, _≤_, _<_}
 use native.Mathlib.Omega.{arith}
 use mathlib.Core.Path.{_≡_, ap}
@@ -10,15 +10,15 @@ use Rattle.laws.specs.Sums.Indicators.{less, same, more, order, one-eq, one-ne,
 use Rattle.laws.specs.Sifting.Keeping.{BestOf, best-taken, best-left}
 use Rattle.sift_walk.specs.declared.Kept.{Kept}
 
--- more than any crossings: nothing is kept yet
+-- more than any number: nothing is kept yet
 abbrev pub nothing : ℕ
-nothing = 4294967295
+nothing = 18446744073709551615
 
--- of the first k candidates, where candidate i has f i crossings
+-- of the first k candidates, where candidate i has the number f i
 abbrev pub KeptOf : (ℕ → ℕ) → ℕ → Kept → Type 0
 KeptOf f k kept = BestOf nothing f k (kept .least) (kept .first) (kept .optima)
 
--- one candidate more: fewer crossings take the place of what is kept, as many stand beside it
+-- one candidate more: a smaller number takes the place of what is kept, an equal one stands beside it
 abbrev pub taking : ℕ → ℕ → Kept
 taking c j = record { least = c; first = j; optima = 1 }
 

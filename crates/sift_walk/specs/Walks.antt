@@ -1,220 +1,275 @@
--- The walk: the vertex is exchanged with its next neighbour in the order, again and again. After each exchange the running number is the crossings of
--- the present candidate, and what is kept is right for the candidates so far.
-use Prim.Native.Nat.{ℕ, zero, suc, _+_, _*_, _-_, _≤_, _<_}
-use native.Mathlib.Nat.{lt-of-lt-of-le}
+-- The walk: the vertex is exchanged with its next neighbour in the order, again and again. After each exchange the running number is that of the present
+-- candidate, and what is kept is right for the candidates so far.
+use Prim.Native.Nat.{ℕ, zero, suc, _+_, _*_, _-_, _%_, _≤_, _<_}
+use native.Mathlib.Nat.{lt-of-lt-of-le, mod-eq-of-lt}
 use native.Mathlib.Numerals.{add-one}
 use native.Mathlib.Omega.{arith}
 use mathlib.Core.Path.{_≡_, refl, sym, ap, ap₂, _∙_, subst}
-use mathlib.Core.List.{List, [], _∷_, _++_}
-use lib.ListN.{length, getD, take, drop}
-use lib.Seq.{split-at}
-use Rattle.model.specs.Lists.{sumOver, occurrences}
-use Rattle.model.specs.Crossings.{bit, linked, crossings, unitWeight}
+use mathlib.Core.List.{List}
+use lib.ListN.{length, getD, take, replicate, getD-replicate, length-replicate}
+use borrow.Author.Count.{below-more}
+use Rattle.model.specs.Lists.{upto, sumOver}
+use Rattle.model.specs.Crossings.{crossings}
 use Rattle.model.specs.Edits.{movedAfter}
-use Rattle.laws.specs.Sums.Indicators.{one-eq, one-le}
-use Rattle.laws.specs.Sums.Lists.{all-take, sumOver-last}
-use Rattle.laws.specs.Sums.Bits.{bit-lt, bit-none, maskedOnes, set-within}
-use Rattle.laws.specs.Orders.Permutations.{at, occurrences-nil, occurrences-split}
-use Rattle.laws.specs.Crossings.Masks.{Holds, holds-set}
-use Rattle.laws.specs.Crossings.Bound.{mostCrossings}
-use Rattle.laws.specs.Crossings.Exchange.{lost, gained, lost-ranked, gained-ranked}
-use Rattle.laws.specs.Sifting.Walk.{other-at, other-once, walked, walked-next, walked-lost, walked-few, present-walked, candidate-walked}
-use Rattle.sift_ranks.specs.Ranks.{rankSum}
-use Rattle.sift_walk.specs.declared.Vertex.{Vertex}
-use Rattle.sift_walk.specs.declared.Step.{Step}
-use Rattle.sift_walk.specs.Exchanges.{Passed}
+use Rattle.laws.specs.Sums.Lists.{sumOver-last}
+use Rattle.laws.specs.Sums.Pairs.{Symmetric}
+use Rattle.laws.specs.Tables.Rows.{tableWeight, rowWeight, rowSum, RowsOf, AddedRow, row-weight, row-products}
+use Rattle.laws.specs.Orders.Permutations.{at}
+use Rattle.laws.specs.Crossings.Reaches.{row-reached}
 use Rattle.laws.specs.Sifting.Keeping.{best-start}
-use Rattle.sift_walk.specs.Keeping.{KeptOf, nothing, next-few, next-first, kept-next}
-use Rattle.sift_walk.specs.Words.{otherAt, vertexWords, Seated, othersOf, Joined, small, perm, below, others-length, others-below, within}
-use Rattle.sift_walk.specs.Rankings.{RanksOf}
-use Rattle.sift_walk.specs.Words.{weighed, other-right, taken-next, degree-counted, neighbours-joined, others-counted, shared-counted}
+use Rattle.laws.specs.Sifting.Walk.{other-at, walked, present-walked, candidate-walked}
+use Rattle.sift_walk.specs.declared.Kept.{Kept}
+use Rattle.sift_walk.specs.declared.Step.{Step}
+use Rattle.sift_walk.specs.Keeping.{KeptOf, keptNext, nothing, next-few, next-first, kept-next}
+use Rattle.sift_walk.specs.Seats.{otherAt, Seated, othersOf, small, perm, below, other-right, taken-next}
+use Rattle.sift_walk.specs.Reaching.{ReachesOf}
+
+-- ---- one exchange
+
+-- the number that stands for the crossings of the present order
+abbrev pub start : ℕ
+start = 1099511627776
+
+-- no number changes by more in one exchange
+abbrev pub mostChange : ℕ
+mostChange = 4294967296
+
+pub record Exchanged (number factor row w reached r : ℕ) : Type 0 where
+  pub exact : r + (factor * w + reached) ≡ number + factor * row
+  pub not-lower : number ≤ r + mostChange
+  pub not-higher : r ≤ number + mostChange
+
+-- one more vertex v passed, its row's weight given, and its weight on those passed before
+pub record Passed (step : Step) (ws rs : List ℕ) (whole row behind u v j : ℕ) (r : Step) : Type 0 where
+  pub number-is :
+      Exchanged (step .number) (whole + tableWeight ws u v + 2 * step .met) row (tableWeight ws u v) (rowSum ws v rs + 2 * whole * behind) (r .number)
+  pub light : tableWeight ws u v ≤ 255
+  pub met-is : r .met ≡ step .met + tableWeight ws u v
+  pub kept-is : r .kept ≡ keptNext (step .kept) (r .number) j
+
+-- by what is read of the table, where a vertex is taken modulo 64
+pub passed-made : {step : Step} {ws rs : List ℕ} {whole row behind u v j w reached number : ℕ} {kept : Kept} → u < 64 → v < 64
+    → w ≡ tableWeight ws (u % 64) (v % 64) → w ≤ 255 → reached ≡ rowSum ws (v % 64) rs
+    → Exchanged (step .number) (whole + w + 2 * step .met) row w (reached + 2 * whole * behind) number
+    → kept ≡ keptNext (step .kept) number j → Passed step ws rs whole row behind u v j (record { number = number; met = step .met + w; kept = kept })
+passed-made {step} {ws} {rs} {u = u} {v} {w = w} {reached} h k e few g x next =
+    let weight-is : w ≡ tableWeight ws u v = rw (mod-eq-of-lt h, mod-eq-of-lt k) at e in
+    let sum-is : reached ≡ rowSum ws v rs = rw (mod-eq-of-lt k) at g in
+    record {
+      number-is = rw (← weight-is, ← sum-is) x;
+      light = rw (← weight-is) few;
+      met-is = ap (λ (y : ℕ). step .met + y) weight-is;
+      kept-is = next;
+    }
 
 -- ---- after j candidates
 
--- the crossings of candidate i, and of the present one once j were passed: the present order at first
+-- the crossings of candidate i, and of the present order
 abbrev pub candidateCrossings : ℕ → List ℕ → List ℕ → ℕ → ℕ → ℕ
-candidateCrossings n places adj u i = crossings n (movedAfter u (at (othersOf n places u) i) (take n places)) (unitWeight adj)
+candidateCrossings n places ws u i = crossings n (movedAfter u (at (othersOf n places u) i) (take n places)) (tableWeight ws)
 
-unfoldable pub presentCrossings : ℕ → List ℕ → List ℕ → ℕ → ℕ → ℕ
-presentCrossings n places adj u zero = crossings n (take n places) (unitWeight adj)
-presentCrossings n places adj u (suc i) = candidateCrossings n places adj u i
+abbrev pub presentCrossings : ℕ → List ℕ → List ℕ → ℕ
+presentCrossings n places ws = crossings n (take n places) (tableWeight ws)
 
-pub record WalkedUpTo (n : ℕ) (places adj : List ℕ) (u : ℕ) (step : Step) (j : ℕ) : Type 0 where
+-- once j of the others were passed: of the present order at first, then of candidate j - 1
+unfoldable pub walkedCrossings : ℕ → List ℕ → List ℕ → ℕ → ℕ → ℕ
+walkedCrossings n places ws u zero = presentCrossings n places ws
+walkedCrossings n places ws u (suc i) = candidateCrossings n places ws u i
+
+-- the running number of candidate i: its crossings, as much above the start as they are above those of the present order
+abbrev pub running : ℕ → List ℕ → List ℕ → ℕ → ℕ → ℕ
+running n places ws u i = start + candidateCrossings n places ws u i - presentCrossings n places ws
+
+pub record WalkedUpTo (n : ℕ) (places ws : List ℕ) (u : ℕ) (step : Step) (bs : List ℕ) (j : ℕ) : Type 0 where
   pub inside : j < n
-  -- the running number is the crossings of the present candidate
-  pub present : step .crossings ≡ presentCrossings n places adj u j
-  -- what is kept is right for the candidates so far
-  pub kept-right : KeptOf (candidateCrossings n places adj u) j (step .kept)
-  pub passed-held : Holds (step .passed) (take j (othersOf n places u))
-  pub met-are : step .met ≡ sumOver (unitWeight adj u) (take j (othersOf n places u))
+  -- the running number is that of the present candidate
+  pub present : step .number + presentCrossings n places ws ≡ start + walkedCrossings n places ws u j
+  -- what is kept is right for the candidates so far, none of which is below the start by more than that
+  pub kept-right : KeptOf (running n places ws u) j (step .kept)
+  pub exact : (i : ℕ) → i < j → presentCrossings n places ws ≤ start + candidateCrossings n places ws u i
+  pub met-are : step .met ≡ sumOver (tableWeight ws u) (take j (othersOf n places u))
+  -- of each vertex, its weight on those passed
+  pub behind-are : (y : ℕ) → y < n → getD bs y 0 ≡ sumOver (tableWeight ws y) (take j (othersOf n places u))
 
 -- small numbers, whatever the bytes are
-pub record SmallStep (step : Step) (j : ℕ) : Type 0 where
-  pub met-few : step .met ≤ j
+pub record SmallStep (step : Step) (bs : List ℕ) (j : ℕ) : Type 0 where
+  pub size : length bs ≡ 64
+  pub behind-few : (y : ℕ) → y < 64 → getD bs y 0 ≤ 255 * j
+  pub met-few : step .met ≤ 255 * j
   pub optima-few : step .kept .optima ≤ j
   pub first-few : step .kept .first ≤ j
+  pub not-lower : start ≤ step .number + mostChange * j
+  pub not-higher : step .number ≤ start + mostChange * j
 
-abbrev pub firstStep : ℕ → Step
-firstStep before = record { crossings = before; passed = 0; met = 0; kept = record { least = nothing; first = 0; optima = 0 } }
+abbrev pub firstStep : Step
+firstStep = record { number = start; met = 0; kept = record { least = nothing; first = 0; optima = 0 } }
 
-pub small-start : (before : ℕ) → SmallStep (firstStep before) 0
-small-start before = record { met-few = omega arith; optima-few = omega arith; first-few = omega arith }
+-- all right for the candidates so far
+pub record KeptRight (n : ℕ) (places ws : List ℕ) (u : ℕ) (kept : Kept) : Type 0 where
+  pub kept-all : KeptOf (running n places ws u) (n - 1) kept
+  pub exact-all : (i : ℕ) → i < n - 1 → presentCrossings n places ws ≤ start + candidateCrossings n places ws u i
 
-pub small-next : {step r : Step} {vertex : Vertex} {ranks : List ℕ} {word v j : ℕ} → SmallStep step j → Passed step vertex ranks word v j r
-    → SmallStep r (j + 1)
-small-next {step} {r} {vertex} {ranks} {word} {v} {j} s p =
+small-start : SmallStep firstStep (replicate 64 0) 0
+small-start =
     record {
-      met-few = rw (p .met-are) (omega (arith, s .met-few, bit-lt (vertex .neighbours) v));
-      optima-few = rw (p .kept-is) (next-few (step .kept) (r .crossings) j (s .optima-few));
-      first-few = rw (p .kept-is) (next-first (step .kept) (r .crossings) j (s .first-few));
+      size = length-replicate {A = ℕ} 64 0;
+      behind-few = λ y l. rw (getD-replicate {A = ℕ} 64 y 0 0 l) (omega arith);
+      met-few = omega arith;
+      optima-few = omega arith;
+      first-few = omega arith;
+      not-lower = omega arith;
+      not-higher = omega arith;
     }
 
-module _ {n : ℕ} {places adj : List ℕ} {u p : ℕ} (seat : Seated n places adj u p) where
+small-next : {step r : Step} {ws rs bs cs : List ℕ} {whole row behind u v j : ℕ} → j < 64 → SmallStep step bs j → Passed step ws rs whole row behind u v j r
+    → AddedRow ws v bs cs → SmallStep r cs (j + 1)
+small-next {step} {r} {ws} {rs} {bs} {cs} {whole} {row} {behind} {u} {v} {j} l s p added =
+    record {
+      size = added .size;
+      behind-few = λ y b. rw (added .added y b) (omega (arith, s .behind-few y b, added .light y b));
+      met-few = rw (p .met-is) (omega (arith, s .met-few, p .light));
+      optima-few = rw (p .kept-is) (next-few (step .kept) (r .number) j (s .optima-few));
+      first-few = rw (p .kept-is) (next-first (step .kept) (r .number) j (s .first-few));
+      not-lower = omega (arith, s .not-lower, p .number-is .not-lower);
+      not-higher = omega (arith, s .not-higher, p .number-is .not-higher);
+    }
+
+module _ {n : ℕ} {places ws : List ℕ} {u p : ℕ} (seat : Seated n places ws u p) where
   abbrev W : ℕ → ℕ → ℕ
-  W = unitWeight adj
+  W = tableWeight ws
 
   abbrev others : List ℕ
   others = othersOf n places u
 
-  pub walk-start : {before : ℕ} → before ≡ crossings n (take n places) (unitWeight adj) → WalkedUpTo n places adj u (firstStep before) 0
-  unfolding presentCrossings sumOver
-  walk-start e =
+  abbrev symmetry : Symmetric n (tableWeight ws)
+  symmetry = seat .walker .symmetry
+
+  walk-start : WalkedUpTo n places ws u firstStep (replicate 64 0) 0
+  unfolding walkedCrossings sumOver
+  walk-start =
       record {
         inside = omega (arith, below seat);
-        present = e;
+        present = refl;
         kept-right = best-start;
-        passed-held = λ v l. bit-none v ∙ sym (occurrences-nil v);
+        exact = λ i l. absurd (omega arith);
         met-are = refl;
+        behind-are = λ y l. getD-replicate {A = ℕ} 64 y 0 0 (lt-of-lt-of-le l (small seat));
       }
 
-  -- by the exchanges
-  present-exchanged : (j : ℕ) → j < n → presentCrossings n places adj u j ≡ walked W u others j
-  unfolding presentCrossings
-  present-exchanged zero l = present-walked (perm seat) W (seat .walker .drawn .symmetry) u (below seat)
-  present-exchanged (suc i) l = candidate-walked (perm seat) W (seat .walker .drawn .symmetry) u (below seat) i l
+  crossings-walked : (j : ℕ) → j < n → walkedCrossings n places ws u j ≡ walked W u others j
+  unfolding walkedCrossings
+  crossings-walked zero l = present-walked (perm seat) W symmetry u (below seat)
+  crossings-walked (suc i) l = candidate-walked (perm seat) W symmetry u (below seat) i l
 
-  few : (i : ℕ) → i < n → walked W u others i ≤ mostCrossings
-  few i h = walked-few 1 (λ x y. one-le (linked adj x y)) u others i (omega (arith, others-length seat, small seat)) (omega (arith, others-length seat))
+  row-of : (x : ℕ) → x < n → rowWeight ws x ≡ sumOver (W x) (upto n)
+  row-of x l = row-weight ws x (small seat) (λ y h k. seat .walker .blank x y l h k)
 
-  pub present-few : crossings n (take n places) (unitWeight adj) ≤ mostCrossings
-  unfolding presentCrossings
-  present-few = rw (present-exchanged 0 (omega (arith, below seat))) (few 0 (omega (arith, below seat)))
-
-  -- the vertices passed, and those still to pass behind the next one
-  abbrev passed : ℕ → List ℕ
-  passed j = take j others
-
-  abbrev rest : ℕ → List ℕ
-  rest j = drop (suc j) others
-
-  module _ {vertex : Vertex} {ranks : List ℕ} (e : vertex ≡ vertexWords n adj u) (ranked : RanksOf n places adj u ranks)
-      {step r : Step} {v j : ℕ} (s : WalkedUpTo n places adj u step j) (l : j + 1 < n) (there : v ≡ otherAt n p places j)
-      (told : Passed step vertex ranks (getD adj v 0) v j r) where
+  module _ {whole : ℕ} (e : whole ≡ rowWeight ws u) {rs rows : List ℕ} (started : ReachesOf n places ws u rs) (given : RowsOf ws rows)
+      {step r : Step} {bs cs : List ℕ} {v j : ℕ} (s : WalkedUpTo n places ws u step bs j) (small-step : SmallStep step bs j)
+      (high : r .number < nothing) (l : j + 1 < n) (there : v ≡ otherAt n p places j)
+      (told : Passed step ws rs whole (getD rows v 0) (getD bs v 0) u v j r) (added : AddedRow ws v bs cs) where
     here : v ≡ at others j
     here = there ∙ other-right seat j l
 
-    inside : v < n
-    inside = rw here (other-at (perm seat) u (below seat) j (omega arith) .0)
+    inside-v : v < n
+    inside-v = rw here (other-at (perm seat) u (below seat) j (omega arith) .0)
 
-    joined : bit (vertex .neighbours) v ≡ W u v
-    joined = ap (bit (vertex .neighbours)) here ∙ neighbours-joined seat e .joined j (omega arith) ∙ ap (W u) (sym here)
+    in-table : v < 64
+    in-table = lt-of-lt-of-le inside-v (small seat)
 
-    parts : passed j ++ (v ∷ rest j) ≡ others
-    parts = ap (λ (x : ℕ). passed j ++ (x ∷ rest j)) here ∙ sym (split-at others j 0 (omega (arith, others-length seat)))
+    factor : ℕ
+    factor = whole + W u v + 2 * step .met
 
-    -- the sums that the words give
-    met-next : r .met ≡ sumOver (W u) (passed j) + W u v
-    met-next = told .met-are ∙ ap₂ _+_ (s .met-are) joined
-
-    passed-weight : maskedOnes (getD adj v 0) (step .passed) ≡ sumOver (W v) (passed j)
-    passed-weight = weighed seat v (step .passed) (s .passed-held) (all-take j (within seat))
-
-    lost-told : rankSum ranks (getD adj v 0) + vertex .degree * maskedOnes (getD adj v 0) (step .passed)
-        ≡ lost W u v (rest j ++ passed j) + (step .met + bit (vertex .neighbours) v) * maskedOnes (getD adj v 0) (vertex .others)
-    lost-told =
-        ap₂ _+_ (ranked .sums v) (ap₂ _*_ (degree-counted seat e) passed-weight)
-        ∙ rw parts at (lost-ranked (W u) (W v) (passed j) v (rest j) (seat .walker .drawn .symmetry .diagonal v inside))
-        ∙ sym (ap (λ (x : ℕ). lost W u v (rest j ++ passed j) + x) (ap₂ _*_ (ap₂ _+_ (s .met-are) joined) (others-counted seat e v)))
-
-    gained-told : vertex .degree * maskedOnes (getD adj v 0) (vertex .others)
-        ≡ gained W u v (rest j ++ passed j) + lost W u v (rest j ++ passed j)
-        + (maskedOnes (getD adj v 0) (vertex .neighbours) + bit (vertex .neighbours) v * maskedOnes (getD adj v 0) (vertex .others))
-    gained-told =
-        ap₂ _*_ (degree-counted seat e) (others-counted seat e v)
-        ∙ rw parts at (gained-ranked (W u) (W v) (passed j) v (rest j) (seat .walker .drawn .symmetry .diagonal v inside))
-        ∙ sym
-        (ap (λ (x : ℕ). gained W u v (rest j ++ passed j) + lost W u v (rest j ++ passed j) + x)
-        (ap₂ _+_ (shared-counted seat e v) (ap₂ _*_ joined (others-counted seat e v))))
-
-    crossings-next : r .crossings ≡ walked W u others (suc j)
-    crossings-next =
-        let more : j < length others = omega (arith, others-length seat) in
-        let now : step .crossings ≡ walked W u others j = s .present ∙ present-exchanged j (s .inside) in
-        let next : walked W u others (suc j) + lost W u v (rest j ++ passed j) ≡ walked W u others j + gained W u v (rest j ++ passed j) =
-        rw (← here) at (walked-next (seat .walker .drawn .symmetry) (below seat) (others-below seat) j more) in
-        let lost-now : lost W u v (rest j ++ passed j) ≤ walked W u others j =
-        rw (← here) at (walked-lost (seat .walker .drawn .symmetry) (below seat) (others-below seat) j more) in
-        let exact : r .crossings + lost W u v (rest j ++ passed j) ≡ step .crossings + gained W u v (rest j ++ passed j) =
-        told .crossings-are .exact (lost W u v (rest j ++ passed j)) (gained W u v (rest j ++ passed j)) lost-told gained-told
-        (omega (arith, now, lost-now)) (omega (arith, now, next, lost-now, few j (s .inside), few (suc j) (omega arith))) in
-        omega (arith, exact, now, next)
-
-    pub walk-next : WalkedUpTo n places adj u r (j + 1)
-    unfolding presentCrossings
-    walk-next =
+    -- what the law of the walk says, in the sums of the code
+    law : walked W u others (suc j) + (factor * W u v + (rowSum ws v rs + 2 * whole * getD bs v 0)) ≡ walked W u others j + factor * getD rows v 0
+    unfolding factor
+    law =
         let more : suc j < n = omega arith in
-        let now = crossings-next ∙ sym (present-exchanged (suc j) more) in
-        let bounded : r .crossings < nothing = omega (arith, crossings-next, few (suc j) more) in
-        let once = other-once (perm seat) u (below seat) j more in
-        let new : occurrences v (passed j) ≡ 0 =
+        let by-rows = rw (← here) at (row-reached symmetry (perm seat) (below seat) j more (started .reached) (started .of-itself)) in
+        let sums : rowSum ws v rs ≡ sumOver (λ y. W v y * getD rs y 0) (upto n) =
+        row-products ws v (small seat) (λ y h k. seat .walker .blank v y inside-v h k) rs (started .low) in
+        let row : getD rows v 0 ≡ sumOver (W v) (upto n) = given .row-is v in-table ∙ row-of v inside-v in
+        rw (sums, row, s .behind-are v inside-v, e, row-of u (below seat), s .met-are) (omega (arith, by-rows))
+
+    number-next : r .number + presentCrossings n places ws ≡ start + walkedCrossings n places ws u (suc j)
+    unfolding factor
+    number-next =
         omega (
           arith,
-          ap (λ (x : ℕ). occurrences x others) here ∙ once,
-          occurrences-split v others j (omega (arith, others-length seat)),
-          one-eq v (at others j) here,
-        ) in
+          law,
+          told .number-is .exact,
+          s .present,
+          crossings-walked j (s .inside),
+          crossings-walked (suc j) (omega arith),
+        )
+
+    -- one more of the others passed, in any sum over them
+    passed-more : (f : ℕ → ℕ) → sumOver f (take (suc j) others) ≡ sumOver f (take j others) + f v
+    passed-more f = ap (sumOver f) (taken-next seat j l there) ∙ sumOver-last v f (take j others)
+
+    behind-next : (y : ℕ) → y < n → getD cs y 0 ≡ sumOver (W y) (take (suc j) others)
+    behind-next y b =
+        let in-row : y < 64 = lt-of-lt-of-le b (small seat) in
+        let fits : getD bs y 0 + W v y < 65536 = omega (arith, small-step .behind-few y in-row, added .light y in-row, s .inside, small seat) in
+        added .added y in-row
+        ∙ mod-eq-of-lt fits
+        ∙ ap₂ (λ (a b : ℕ). a + b) (s .behind-are y b) (symmetry .swap v y inside-v b)
+        ∙ sym (passed-more (W y))
+
+    walk-next : WalkedUpTo n places ws u r cs (j + 1)
+    unfolding walkedCrossings
+    walk-next =
+        let more : suc j < n = omega arith in
+        let now : r .number ≡ running n places ws u j = omega (arith, number-next) in
         rw (add-one j)
         (record {
           inside = more;
-          present = now;
-          kept-right = rw (told .kept-is) (kept-next (s .kept-right) now bounded);
-          passed-held =
-              rw (taken-next seat j l there)
-              (subst (λ (m : ℕ). Holds m (passed j ++ (v ∷ []))) (sym (set-within (step .passed) v (lt-of-lt-of-le inside (small seat)) (told .passed-is)))
-              (holds-set (step .passed) v (passed j) (s .passed-held) new));
-          met-are = met-next ∙ sym (ap (sumOver (W u)) (taken-next seat j l there) ∙ sumOver-last v (W u) (passed j));
+          present = number-next;
+          kept-right = rw (told .kept-is) (kept-next (s .kept-right) now high);
+          exact =
+              rw (add-one j)
+              at (below-more (λ i. presentCrossings n places ws ≤ start + candidateCrossings n places ws u i) j (s .exact) (omega (arith, number-next)));
+          met-are = told .met-is ∙ ap (λ (y : ℕ). y + W u v) (s .met-are) ∙ sym (passed-more (W u));
+          behind-are = behind-next;
         })
 
 -- ---- the loop
 
--- small numbers whatever the bytes are, and all right where u is seated and the crossings are given
-pub record WalkUpTo (n p : ℕ) (places adj : List ℕ) (u before : ℕ) (step : Step) (j : ℕ) : Type 0 where
+-- small numbers whatever the bytes are, and all right where u is seated and the weights of the vertices are given
+pub record WalkUpTo (n p : ℕ) (places ws rows : List ℕ) (u : ℕ) (step : Step) (bs : List ℕ) (j : ℕ) : Type 0 where
   pub inside : j ≤ n
-  pub small-step : SmallStep step j
-  pub right : Seated n places adj u p → before ≡ crossings n (take n places) (unitWeight adj) → WalkedUpTo n places adj u step j
+  pub small-step : SmallStep step bs j
+  pub right : Seated n places ws u p → RowsOf ws rows → WalkedUpTo n places ws u step bs j
 
-module _ {n p : ℕ} {places adj : List ℕ} {u before : ℕ} where
-  pub walking-start : WalkUpTo n p places adj u before (firstStep before) 0
-  walking-start = record { inside = omega arith; small-step = small-start before; right = λ seat e. walk-start seat e }
+module _ {n p : ℕ} {places ws rows : List ℕ} {u : ℕ} where
+  pub walking-start : WalkUpTo n p places ws rows u firstStep (replicate 64 0) 0
+  walking-start = record { inside = omega arith; small-step = small-start; right = λ seat given. walk-start seat }
 
-  module _ {step : Step} {j : ℕ} (s : WalkUpTo n p places adj u before step j) where
-    pub walking-next : {vertex : Vertex} {ranks : List ℕ} {v : ℕ} {next : Step} → vertex ≡ vertexWords n adj u
-        → (Seated n places adj u p → Joined n places adj u (vertex .neighbours) → RanksOf n places adj u ranks)
-        → j + 1 < n → v ≡ otherAt n p places j → Passed step vertex ranks (getD adj v 0) v j next → WalkUpTo n p places adj u before next (j + 1)
-    walking-next e ranked l there told =
+  module _ {step : Step} {bs : List ℕ} {j : ℕ} (s : WalkUpTo n p places ws rows u step bs j) (h : n ≤ 64) where
+    pub walking-next : {whole v : ℕ} {rs cs : List ℕ} {r : Step} → u < 64 → v < 64 → whole ≡ rowWeight ws (u % 64)
+        → (Seated n places ws u p → ReachesOf n places ws u rs) → j + 1 < n → v ≡ otherAt n p places j
+        → Passed step ws rs whole (getD rows v 0) (getD bs v 0) u v j r → (length bs ≡ 64 → AddedRow ws (v % 64) bs cs)
+        → WalkUpTo n p places ws rows u r cs (j + 1)
+    walking-next {whole} {v} {rs} {cs} {r} u-few v-few weighed started l there told row =
+        let e : whole ≡ rowWeight ws u = rw (mod-eq-of-lt u-few) at weighed in
+        let added : AddedRow ws v bs cs = rw (mod-eq-of-lt v-few) at (row (s .small-step .size)) in
+        let small-then = small-next (omega arith) (s .small-step) told added in
         record {
           inside = omega arith;
-          small-step = small-next (s .small-step) told;
-          right = λ seat d. walk-next seat e (ranked seat (neighbours-joined seat e)) (s .right seat d) l there told;
+          small-step = small-then;
+          right = λ seat given.
+              walk-next seat e (started seat) given (s .right seat given) (s .small-step) (omega (arith, small-then .not-higher)) l there told added;
         }
 
-    pub walking-end : n ≤ j + 1 → n ≤ 64
-        → (step .kept .first ≤ 64)
-        × (Seated n places adj u p → before ≡ crossings n (take n places) (unitWeight adj) → KeptOf (candidateCrossings n places adj u) (n - 1) (step .kept))
-    walking-end l h = (
+    pub walking-end : n ≤ j + 1
+        → (step .kept .first ≤ 64) × (Seated n places ws u p → RowsOf ws rows → KeptRight n places ws u (step .kept))
+    walking-end l = (
       omega (arith, s .inside, s .small-step .first-few),
-      λ seat d.
-          let walked = s .right seat d in
+      λ seat given.
+          let walked = s .right seat given in
           let all : j ≡ n - 1 = omega (arith, walked .inside) in
-          subst (λ (k : ℕ). KeptOf (candidateCrossings n places adj u) k (step .kept)) all (walked .kept-right),
+          record {
+            kept-all = subst (λ (k : ℕ). KeptOf (running n places ws u) k (step .kept)) all (walked .kept-right);
+            exact-all = λ i b. walked .exact i (omega arith);
+          },
     )

@@ -1,76 +1,80 @@
-// The best place of one vertex, found in one walk (document 02, Note 5): the vertex is exchanged with
-// its next neighbour in the order until it has passed all others, and each exchange tells the
-// crossings of the next candidate from those of the present one.
+// The best place of one vertex with weighted crossings, found in one walk (document 02, Notes 5 and
+// 8): the vertex is exchanged with its next neighbour in the order until it has passed all others,
+// and one sum over the row of the vertex passed tells by how much the next candidate differs.
+// The numbers that the sum goes by, the reaches, stay as they are at the start; what those passed add
+// to it is kept apart, for each vertex its weight on them.
 ghost use mathlib.Core.Path.{_≡_};
-ghost use mathlib.Core.List.{List};
-ghost use Prim.Native.Nat.{ℕ, _+_, _-_, _<_, _≤_};
-ghost use lib.ListN.{take};
-ghost use Rattle.model.specs.Crossings.{unitWeight, crossings};
-ghost use Rattle.sift_walk.specs.Keeping.{KeptOf, keptNext, keeping};
-ghost use Rattle.sift_walk.specs.Words.{turned as turnedPlace, otherAt, vertexWords, Walker, Seated, Joined};
-ghost use Rattle.sift_walk.specs.Rankings.{RanksOf, rankedNext};
-ghost use Rattle.sift_walk.specs.Exchanges.{Exchanged, Told, Passed};
-ghost use Rattle.sift_walk.specs.Walks.{candidateCrossings};
+ghost use Prim.Native.Nat.{_+_, _*_, _<_, _≤_};
+ghost use Rattle.laws.specs.Tables.Rows.{mostWeight, mostSum, RowsOf};
+ghost use Rattle.sift_walk.specs.Keeping.{keptNext, keeping};
+ghost use Rattle.sift_walk.specs.Seats.{turned as turnedPlace, otherAt, Walker, Seated};
+ghost use Rattle.sift_walk.specs.Reaching.{ReachesOf};
+ghost use Rattle.sift_walk.specs.Walks.{start, mostChange, Exchanged, Passed, KeptRight};
 ghost use Rattle.sift_walk.specs.Finding.{Found, chosen as chosenWalk};
 use places::moved;
 use places::place_of;
-use sift_ranks::rank_sum;
-use sift_ranks::with_rank;
+use weights::add_row;
+use weights::row_sum;
+use weights::row_weight;
+use weights::weight_at;
 
-// The order after a sift, its crossings, and how many candidates have as few.
+// It stands for the crossings of the present order, which are not counted: the crossings of a
+// candidate differ from those of the present order as its running number does from this.
+const START: u64 = 1099511627776;
+
+// The order after a sift, by how much its crossings are fewer, and how many candidates have as few.
 pub struct Walk {
     pub order: [u8; 64],
-    pub after: u32,
+    pub saving: u64,
     pub optima: u32,
 }
 
-// What is kept of the candidates so far: their least crossings, the first that has them, and how many
-// have them.
+// What is kept of the candidates so far: their least number, the first that has it, and how many have
+// it.
 struct Kept {
-    least: u32,
+    least: u64,
     first: usize,
     optima: u32,
 }
 
-// The vertex that is sifted: the others, its neighbours, and how many these are.
-struct Vertex {
-    others: u64,
-    neighbours: u64,
-    degree: u32,
-}
-
-// The ranks of the vertices so far, and how many of them are neighbours.
-struct Ranking {
-    ranks: [u64; 6],
-    met: u32,
-}
-
-// How far the walk is: the crossings of the present candidate, the vertices passed, how many of them
-// are neighbours, and what is kept.
+// How far the walk is: the number of the present candidate, the weight of the vertex on those passed,
+// and what is kept.
 struct Step {
-    crossings: u32,
-    passed: u64,
+    number: u64,
     met: u32,
     kept: Kept,
 }
 
-// Of the present order, whose crossings are given, and the n - 1 candidates, the first with fewest
-// crossings, and how many of the candidates have them. Of bytes that are no valid layout nothing is
-// said.
-pub fn best_order(n: usize, order: [u8; 64], adjacency: &[u64; 64], u: usize, before: u32) -> Walk
-    ensures { λ r. ⌜ (Walker n order (now (adjacency .entry)) u → before ≡ crossings n (take n order) (unitWeight (now (adjacency .entry)))
-        → Found n order (now (adjacency .entry)) u r) ⌝ }
+// Of the present order and the n - 1 candidates the first with fewest crossings, and how many of the
+// candidates have them. The weights of the vertices are given. Of bytes that are no valid layout
+// nothing is said.
+pub fn best_order(
+    n: usize,
+    order: [u8; 64],
+    weights: &[u8; 4096],
+    rows: &[u16; 64],
+    u: usize,
+) -> Walk
+    ensures { λ r. ⌜ (Walker n order (now (weights .entry)) u → RowsOf (now (weights .entry)) (now (rows .entry))
+        → Found n order (now (weights .entry)) u r) ⌝ }
 {
     if 64 < n {
         return Walk {
             order,
-            after: before,
+            saving: 0,
+            optima: 0,
+        };
+    }
+    if n <= u {
+        return Walk {
+            order,
+            saving: 0,
             optima: 0,
         };
     }
     let p = place_of(&order[..n], u);
-    let kept = pass_all(n, p, &order, adjacency, u, before);
-    chosen(n, p, order, kept, before)
+    let kept = pass_all(n, p, &order, weights, rows, u);
+    chosen(n, p, order, kept)
 }
 
 // All others passed, one after the other.
@@ -78,25 +82,23 @@ fn pass_all(
     n: usize,
     p: usize,
     order: &[u8; 64],
-    adjacency: &[u64; 64],
+    weights: &[u8; 4096],
+    rows: &[u16; 64],
     u: usize,
-    before: u32,
 ) -> Kept
-    requires { ⌜ (n ≤ 64) × (p ≤ n) ⌝ }
+    requires { ⌜ (n ≤ 64) × (p ≤ n) × (u < 64) ⌝ }
     ensures { λ r. ⌜ (r .first ≤ 64)
-        × (Seated n (now (order .entry)) (now (adjacency .entry)) u p
-        → before ≡ crossings n (take n (now (order .entry))) (unitWeight (now (adjacency .entry)))
-        → KeptOf (candidateCrossings n (now (order .entry)) (now (adjacency .entry)) u) (n - 1) r) ⌝ }
+        × (Seated n (now (order .entry)) (now (weights .entry)) u p → RowsOf (now (weights .entry)) (now (rows .entry))
+        → KeptRight n (now (order .entry)) (now (weights .entry)) u r) ⌝ }
 {
-    let vertex = vertex_of(n, adjacency, u);
-    let ranking = ranks_of(n, p, order, vertex.neighbours);
-    let ranks = ranking.ranks;
+    let whole = row_weight(weights, u);
+    let reaches = reaches_of(n, p, order, weights, u);
+    let mut behind = [0u16; 64];
     let mut step = Step {
-        crossings: before,
-        passed: 0,
+        number: START,
         met: 0,
         kept: Kept {
-            least: u32::MAX,
+            least: u64::MAX,
             first: 0,
             optima: 0,
         },
@@ -104,120 +106,100 @@ fn pass_all(
     let mut j = 0;
     while j + 1 < n {
         let v = other_at(n, p, order, j);
-        step = passing(step, vertex, &ranks, adjacency[v], v, j);
+        step = passing(step, weights, &reaches, whole, rows[v], behind[v], u, v, j);
+        add_row(&mut behind, weights, v);
         j += 1;
     }
     step.kept
 }
 
-// The vertex u.
-fn vertex_of(n: usize, adjacency: &[u64; 64], u: usize) -> Vertex
-    ensures { λ r. ⌜ (r ≡ vertexWords n (now (adjacency .entry)) u) × (r .degree ≤ 64) ⌝ }
+// One more vertex v passed, whose weight is given, and its weight on those passed before.
+fn passing(
+    step: Step,
+    weights: &[u8; 4096],
+    reaches: &[u16; 64],
+    whole: u32,
+    row: u16,
+    behind: u16,
+    u: usize,
+    v: usize,
+    j: usize,
+) -> Step
+    requires { ⌜ (step .met ≤ mostWeight) × (whole ≤ mostWeight) × (step .kept .optima ≤ 64) × (u < 64) × (v < 64)
+        × (mostChange ≤ step .number) × (step .number ≤ 2 * start) ⌝ }
+    ensures { λ r. ⌜ Passed step (now (weights .entry)) (now (reaches .entry)) whole row behind u v j r ⌝ }
 {
-    let others = words::clear(words::low_bits(n), u);
-    let word = adjacency[u % 64];
-    Vertex {
-        others,
-        neighbours: words::common(word, others),
-        degree: words::count(word, others),
+    let w = weight_at(weights, u, v);
+    let reached = row_sum(weights, v, reaches);
+    let met = step.met;
+    let factor = whole + w + 2 * met;
+    let number = exchanged(step.number, factor, row, w, reached, 2 * whole, behind);
+    Step {
+        number,
+        met: met + w,
+        kept: better(step.kept, number, j),
     }
 }
 
-// The rank of each other vertex: how many neighbours stand before it, clockwise from u.
-fn ranks_of(n: usize, p: usize, order: &[u8; 64], neighbours: u64) -> Ranking
-    requires { ⌜ (n ≤ 64) × (p ≤ n) ⌝ }
-    ensures { λ r. ⌜ ((adj : List ℕ) → (u : ℕ) → Seated n (now (order .entry)) adj u p → Joined n (now (order .entry)) adj u neighbours
-        → RanksOf n (now (order .entry)) adj u (r .ranks)) ⌝ }
+// The number of the next candidate: a row's weight is taken without that towards u.
+fn exchanged(
+    number: u64,
+    factor: u32,
+    row: u16,
+    w: u32,
+    reached: u32,
+    twice: u32,
+    behind: u16,
+) -> u64
+    requires { ⌜ (factor ≤ 3 * mostWeight + 255) × (w ≤ 255) × (reached ≤ mostSum) × (twice ≤ 2 * mostWeight)
+        × (mostChange ≤ number) × (number ≤ 2 * start) ⌝ }
+    ensures { λ r. ⌜ Exchanged number factor row w (reached + twice * behind) r ⌝ }
 {
-    let mut ranking = Ranking {
-        ranks: [0; 6],
-        met: 0,
-    };
+    let gained = factor * row as u32;
+    let own = factor * w;
+    let around = twice * behind as u32;
+    number + gained as u64 - own as u64 - around as u64 - reached as u64
+}
+
+// The reaches that the walk starts with: of each other vertex y, twice the weight of u on those
+// before y clockwise from u, and the weight between u and y. Of u itself 0.
+fn reaches_of(n: usize, p: usize, order: &[u8; 64], weights: &[u8; 4096], u: usize) -> [u16; 64]
+    requires { ⌜ (n ≤ 64) × (p ≤ n) × (u < 64) ⌝ }
+    ensures { λ r. ⌜ (Seated n (now (order .entry)) (now (weights .entry)) u p → ReachesOf n (now (order .entry)) (now (weights .entry)) u r) ⌝ }
+{
+    let mut reaches = [0u16; 64];
+    let mut met: u32 = 0;
     let mut i = 0;
     while i + 1 < n {
         let v = other_at(n, p, order, i);
-        ranking = ranked(ranking, neighbours, v);
+        let w = weight_at(weights, u, v);
+        reaches[v] = (2 * met + w) as u16;
+        met += w;
         i += 1;
     }
-    ranking
+    reaches
 }
 
-// One more vertex v ranked.
-fn ranked(ranking: Ranking, neighbours: u64, v: usize) -> Ranking
-    requires { ⌜ ranking .met ≤ 64 ⌝ }
-    ensures { λ r. ⌜ r ≡ rankedNext ranking neighbours v ⌝ }
-{
-    let rank = ranking.met;
-    let before = ranking.ranks;
-    let ranks = with_rank(before, v, rank);
-    let joined = words::bit_at(neighbours, v);
-    let met = rank + joined;
-    Ranking { ranks, met }
-}
-
-// One more vertex v passed, whose adjacency word is given.
-fn passing(step: Step, vertex: Vertex, ranks: &[u64; 6], word: u64, v: usize, j: usize) -> Step
-    requires { ⌜ (step .met ≤ 64) × (step .kept .optima ≤ 64) × (vertex .degree ≤ 64) ⌝ }
-    ensures { λ r. ⌜ Passed step vertex (now (ranks .entry)) word v j r ⌝ }
-{
-    let joined = words::bit_at(vertex.neighbours, v);
-    let met = step.met + joined;
-    let crossings = exchange(step, vertex, ranks, word, joined);
-    Step {
-        crossings,
-        passed: words::set(step.passed, v),
-        met,
-        kept: better(step.kept, crossings, j),
-    }
-}
-
-// The crossings after the exchange with the next vertex, by sums over its neighbours: of their ranks,
-// to which the passed ones have the whole degree added, and of those that the two have in common.
-fn exchange(step: Step, vertex: Vertex, ranks: &[u64; 6], word: u64, joined: u32) -> u32
-    requires { ⌜ (step .met ≤ 64) × (vertex .degree ≤ 64) × (joined ≤ 1) ⌝ }
-    ensures { λ r. ⌜ Told step vertex (now (ranks .entry)) word joined r ⌝ }
-{
-    let degree = words::count(word, vertex.others);
-    let around = vertex.degree * words::count(word, step.passed);
-    let ranked = rank_sum(ranks, word) + around;
-    let excess = (step.met + joined) * degree;
-    let pairs = vertex.degree * degree;
-    let shared = words::count(word, vertex.neighbours) + joined * degree;
-    exchanged(step.crossings, ranked, excess, pairs, shared)
-}
-
-// The crossings after an exchange: what the ranks exceed is lost, and gained what then is left of all
-// pairs of edges that share no end.
-fn exchanged(crossings: u32, ranked: u32, excess: u32, pairs: u32, shared: u32) -> u32
-    ensures { λ r. ⌜ Exchanged crossings ranked excess pairs shared r ⌝ }
-{
-    let lost = std::num::wrapping_sub_u32(ranked, excess);
-    let apart = std::num::wrapping_sub_u32(pairs, shared);
-    let gained = std::num::wrapping_sub_u32(apart, lost);
-    let left = std::num::wrapping_sub_u32(crossings, lost);
-    std::num::wrapping_add_u32(left, gained)
-}
-
-// One candidate more, which has so many crossings.
-fn better(kept: Kept, crossings: u32, j: usize) -> Kept
+// One candidate more, which has this number.
+fn better(kept: Kept, number: u64, j: usize) -> Kept
     requires { ⌜ kept .optima ≤ 64 ⌝ }
-    ensures { λ r. ⌜ r ≡ keptNext kept crossings j ⌝ }
+    ensures { λ r. ⌜ r ≡ keptNext kept number j ⌝ }
 {
     let least = kept.least;
-    if crossings < least {
+    if number < least {
         return Kept {
-            least: crossings,
+            least: number,
             first: j,
             optima: 1,
         };
     }
-    if least < crossings {
+    if least < number {
         return kept;
     }
     one_more(kept)
 }
 
-// It has as few as what is kept.
+// It has the number that is kept.
 fn one_more(kept: Kept) -> Kept
     requires { ⌜ kept .optima ≤ 64 ⌝ }
     ensures { λ r. ⌜ r ≡ keeping kept (kept .optima + 1) ⌝ }
@@ -228,23 +210,24 @@ fn one_more(kept: Kept) -> Kept
 }
 
 // The first best candidate, if it has fewer crossings than the present order.
-fn chosen(n: usize, p: usize, order: [u8; 64], kept: Kept, before: u32) -> Walk
+fn chosen(n: usize, p: usize, order: [u8; 64], kept: Kept) -> Walk
     requires { ⌜ (p ≤ 64) × (kept .first ≤ 64) ⌝ }
-    ensures { λ r. ⌜ r ≡ chosenWalk n p order kept before ⌝ }
+    ensures { λ r. ⌜ r ≡ chosenWalk n p order kept ⌝ }
 {
     let least = kept.least;
     let optima = kept.optima;
-    if least < before {
+    if least < START {
         let q = turned(n, p, kept.first);
+        let saving = START - least;
         return Walk {
             order: moved(order, p, q),
-            after: least,
+            saving,
             optima,
         };
     }
     Walk {
         order,
-        after: before,
+        saving: 0,
         optima,
     }
 }

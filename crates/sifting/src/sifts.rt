@@ -2,14 +2,14 @@
 ghost use mathlib.Core.Path.{_≡_};
 ghost use Prim.Native.Nat.{_<_};
 ghost use lib.Dec.{T};
-ghost use Rattle.model.specs.Layouts.{valid, crossingsOf};
+ghost use Rattle.model.specs.Layouts.{valid};
 ghost use Rattle.model.specs.Sifting.{siftAnswer, siftOf};
-use carrying::carried;
-use counting::crossings_of;
+use super::layouts::relaid;
 use model::Layout;
 use model::Sifted;
 use sift_walk::best_order;
 use validity::vertex_refusal;
+use weights::row_weights;
 
 pub fn sift(l: Layout, u: usize) -> Sifted
     ensures { λ r. ⌜ r ≡ siftOf l u ⌝ }
@@ -23,32 +23,23 @@ pub fn sift(l: Layout, u: usize) -> Sifted
             optima: 0,
         };
     }
-    // counted from nothing, once for a sift, a round or a settling
-    sift_vertex(l, u, crossings_of(l))
+    sift_vertex(l, u)
 }
 
-// A sift whose checks have passed, of a layout whose crossings are known.
-pub(crate) fn sift_vertex(l: Layout, u: usize, before: u32) -> Sifted
-    requires { ⌜ T (valid l) × (u < l .n) × (before ≡ crossingsOf l) ⌝ }
+// A sift whose checks have passed.
+fn sift_vertex(l: Layout, u: usize) -> Sifted
+    requires { ⌜ T (valid l) × (u < l .n) ⌝ }
     ensures { λ r. ⌜ r ≡ siftAnswer l u ⌝ }
 {
     let n = l.n;
-    let places = l.order;
-    let adjacency = l.adjacency;
-    let best = best_order(n, places, &adjacency, u, before);
+    let present = l.order;
+    let rows = row_weights(&l.weights);
+    let best = best_order(n, present, &l.weights, &rows, u);
     let order = best.order;
-    let after = best.after;
-    let reduction = before - after;
-    let count = carried(l.count, before, after);
-    let layout = Layout {
-        n,
-        order,
-        adjacency,
-        count,
-    };
+    let reduction = best.saving;
     Sifted {
         refusal: 0,
-        layout,
+        layout: relaid(l, order, reduction),
         reduction,
         optima: best.optima,
     }

@@ -9,8 +9,9 @@ pub fn is_valid(l: Layout) -> bool
     let n = l.n;
     let order = l.order;
     let adjacency = l.adjacency;
+    let weights = l.weights;
     if !orders::order_valid(n, &order) {
         return false;
     }
-    graphs::is_graph(n, &adjacency)
+    weights_valid::is_weighted_graph(n, &adjacency, &weights)
 }

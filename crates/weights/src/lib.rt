@@ -1,8 +1,12 @@
 // A table of weights (document 02, Note 8): the weight of u towards v stands at 64 * u + v. Only here is
 // the table read. Calls of other crates are total: a vertex is taken modulo 64.
+mod units;
+
+pub use units::unit_table;
 ghost use mathlib.Core.Path.{_≡_};
 ghost use Prim.Native.Nat.{_+_, _*_, _-_, _%_, _<_, _≤_};
 ghost use lib.ListN.{length};
+ghost use Rattle.model.specs.Edits.{bothWays};
 ghost use Rattle.laws.specs.Sums.Numbers.{Bounded};
 ghost use Rattle.laws.specs.Tables.Rows.{tableWeight, rowWeight, rowSum, mostWeight, mostSum, RowsOf, AddedRow, TakenRow};
 
@@ -138,4 +142,14 @@ fn lessened(x: u16, w: u32) -> u16
     ensures { λ r. ⌜ (r ≡ (x + (65536 - w)) % 65536) × (x < 65536) ⌝ }
 {
     ((x as u32 + (65536 - w)) % 65536) as u16
+}
+
+// A weight between two vertices, both ways round. Vertices are taken modulo 64.
+pub fn set_both(weights: &mut [u8; 4096], a: usize, b: usize, w: u8)
+    ensures { λ _. ⌜ now (weights .exit) ≡ bothWays (now (weights .entry)) (a % 64) (b % 64) w ⌝ }
+{
+    let u = a % 64;
+    let v = b % 64;
+    weights[64 * u + v] = w;
+    weights[64 * v + u] = w;
 }

@@ -24,7 +24,7 @@ macro_rules! lines_of {
 /// All lines.
 pub fn text() -> String {
     let mut lines = String::new();
-    lines_of!(lines, "rl_layout", Fields, n order adjacency count);
+    lines_of!(lines, "rl_layout", Fields, n order adjacency weights count);
     lines_of!(lines, "rl_edge", Edge, low high);
     lines_of!(lines, "rl_vertex", Vertex, refusal vertex);
     lines_of!(lines, "rl_tally", Tally, refusal tally);

@@ -1,6 +1,6 @@
 //! A row that somebody else printed, checked.
 
-use crate::layout::Layout;
+use crate::layout::{with_unit_weights, Layout};
 use crate::refusal::Refusal;
 
 /// A move of one vertex that lowers the crossings.
@@ -11,14 +11,14 @@ pub struct Move {
     /// the one that it is put directly after (document 01: behind),
     pub after: usize,
     /// and how many crossings fewer there are then.
-    pub reduction: u32,
+    pub reduction: u64,
 }
 
 /// What is true of an order that somebody printed.
 #[derive(Clone, Copy, Debug, PartialEq, Eq)]
 pub struct Checked {
     /// Its crossings.
-    pub crossings: u32,
+    pub crossings: u64,
     /// Whether these are what was printed.
     pub right: bool,
     /// A move that betters it. `None`: a local minimum, no move of one vertex
@@ -28,8 +28,8 @@ pub struct Checked {
 
 /// Whether printed crossings are those of a printed order, and whether a move
 /// of one vertex betters it. The order holds each vertex once, the isolated ones
-/// too, and each edge is given once: what is refused is refused as by
-/// [`Layout::from_order`]. Each vertex is sifted, in the order's own sequence,
+/// too, and each edge, of weight 1, is given once: what is refused is refused as
+/// by [`Layout::from_order`]. Each vertex is sifted, in the order's own sequence,
 /// and the first one that moves gives the move, to its best place.
 ///
 /// ```
@@ -44,9 +44,28 @@ pub struct Checked {
 pub fn check_row(
     edges: &[(usize, usize)],
     order: &[usize],
-    crossings: u32,
+    crossings: u64,
 ) -> Result<Checked, Refusal> {
-    let mut layout = Layout::from_order(edges, order)?;
+    check_weighted_row(&with_unit_weights(edges), order, crossings)
+}
+
+/// The same for edges with weights, as [`Layout::from_weighted_order`] takes
+/// them.
+///
+/// ```
+/// use rostulanda::check_weighted_row;
+///
+/// let checked = check_weighted_row(&[(0, 2, 5), (1, 3, 4)], &[0, 1, 2, 3], 20)?;
+/// assert!(checked.right);
+/// assert_eq!(checked.better.unwrap().reduction, 20);
+/// # Ok::<(), rostulanda::Refusal>(())
+/// ```
+pub fn check_weighted_row(
+    edges: &[(usize, usize, u8)],
+    order: &[usize],
+    crossings: u64,
+) -> Result<Checked, Refusal> {
+    let mut layout = Layout::from_weighted_order(edges, order)?;
     let counted = layout.count()?;
     Ok(Checked {
         crossings: counted,
@@ -77,11 +96,12 @@ fn better(layout: &mut Layout, order: &[usize]) -> Result<Option<Move>, Refusal>
 mod tests {
     use super::*;
 
-    /// Vertices 0 to n − 1 in rising number and one edge in so many.
-    fn scattered(n: usize, one_in: usize) -> Vec<(usize, usize)> {
+    /// One edge in so many of n vertices, with weights from 1 to 255.
+    fn scattered(n: usize, one_in: usize) -> Vec<(usize, usize, u8)> {
         let pairs = (0..n).flat_map(|a| (a + 1..n).map(move |b| (a, b)));
         pairs
             .filter(|(a, b)| (7 * a + 5 * b) % one_in == 0)
+            .map(|(a, b)| (a, b, 1 + ((97 * a + 31 * b) % 255) as u8))
             .collect()
     }
 
@@ -115,7 +135,7 @@ mod tests {
             let edges = scattered(n, one_in);
             let order: Vec<usize> = (0..n).map(|i| (i * 3 + 1) % n).collect();
             let order = if n % 3 == 0 { (0..n).collect() } else { order };
-            let layout = Layout::from_order(&edges, &order).unwrap();
+            let layout = Layout::from_weighted_order(&edges, &order).unwrap();
             let crossings = layout.count().unwrap();
             let reached = |vertex, after| {
                 let mut moved = layout.clone();
@@ -127,7 +147,7 @@ mod tests {
                 others.map(|&v| reached(vertex, v)).min().unwrap()
             };
             let first = order.iter().find(|&&v| fewest(v) < crossings);
-            let checked = check_row(&edges, &order, crossings).unwrap();
+            let checked = check_weighted_row(&edges, &order, crossings).unwrap();
             assert_eq!((checked.crossings, checked.right), (crossings, true));
             assert_eq!(checked.better.map(|m| m.vertex), first.copied());
             if let Some(Move {
@@ -145,9 +165,9 @@ mod tests {
     #[test]
     fn a_converged_row_cannot_be_bettered() {
         let edges = scattered(16, 3);
-        let mut layout = Layout::from_edges(16, &edges).unwrap();
+        let mut layout = Layout::from_weighted_edges(16, &edges).unwrap();
         let row = layout.row(50).unwrap();
-        let checked = check_row(&edges, &row.order, row.after).unwrap();
+        let checked = check_weighted_row(&edges, &row.order, row.after).unwrap();
         assert!(row.converged && checked.right);
         assert_eq!(checked.better, None);
     }

@@ -11,13 +11,16 @@ use crate::{Edge, Fields, Start};
 pub const PLACES: usize = 64;
 
 /// The most bytes that a written chart has.
-pub const WRITTEN_CHART_BYTES: usize = 4106;
+pub const WRITTEN_CHART_BYTES: usize = 6125;
 
 /// The most bytes that a graph6 has.
 pub const GRAPH6_BYTES: usize = 340;
 
 /// The most edges.
 pub const MOST_EDGES: usize = 2016;
+
+/// The numbers of each call of a list: which it is, and what it names.
+pub const CALL_NUMBERS: usize = 4;
 
 /// The numbers of each answer of a list of calls: the refusal code, and four
 /// more.
@@ -32,20 +35,20 @@ pub struct Vertex {
 #[repr(C)]
 pub struct Tally {
     pub refusal: u8,
-    pub tally: u32,
+    pub tally: u64,
 }
 
 #[repr(C)]
 pub struct Sifted {
     pub refusal: u8,
-    pub reduction: u32,
+    pub reduction: u64,
     pub optima: u32,
 }
 
 #[repr(C)]
 pub struct Round {
     pub refusal: u8,
-    pub reduction: u32,
+    pub reduction: u64,
     pub moved: u32,
     pub optima: u32,
 }
@@ -53,7 +56,7 @@ pub struct Round {
 #[repr(C)]
 pub struct Convergence {
     pub refusal: u8,
-    pub reduction: u32,
+    pub reduction: u64,
     pub rounds: u32,
     pub converged: bool,
     pub optima: u32,
@@ -62,7 +65,7 @@ pub struct Convergence {
 #[repr(C)]
 pub struct Counted {
     pub refusal: u8,
-    pub count: u32,
+    pub count: u64,
 }
 
 #[repr(C)]
@@ -95,7 +98,7 @@ pub struct Played {
 unsafe extern "C" {
     pub safe fn rl_empty() -> Fields;
     pub safe fn rl_add_vertex(l: &mut Fields) -> Vertex;
-    pub safe fn rl_add_edge(l: &mut Fields, a: usize, b: usize) -> u8;
+    pub safe fn rl_add_edge(l: &mut Fields, a: usize, b: usize, weight: u8) -> u8;
     pub safe fn rl_remove_edge(l: &mut Fields, a: usize, b: usize) -> u8;
     pub safe fn rl_move_after(l: &mut Fields, a: usize, b: usize) -> u8;
     pub safe fn rl_greedy_append(l: &mut Fields, start: usize) -> Tally;
@@ -108,10 +111,10 @@ unsafe extern "C" {
 
     pub unsafe fn rl_read_chart(l: &mut Fields, chart: *const u8, length: usize) -> u8;
     unsafe fn rl_import_graph6(l: &mut Fields, graph6: *const u8, length: usize) -> u8;
-    unsafe fn rl_order(l: &Fields, buffer: *mut u8, length: usize) -> u8;
+    pub unsafe fn rl_order(l: &Fields, buffer: *mut u8, length: usize) -> u8;
     pub unsafe fn rl_write_chart(l: &Fields, buffer: *mut u8, length: usize) -> Written;
     pub unsafe fn rl_export_graph6(l: &Fields, buffer: *mut u8, length: usize) -> Written;
-    pub unsafe fn rl_edge_crossings(l: &Fields, table: *mut u32, length: usize) -> EdgesCounted;
+    pub unsafe fn rl_edge_crossings(l: &Fields, table: *mut u64, length: usize) -> EdgesCounted;
     unsafe fn rl_list_chart(
         chart: *const u8,
         length: usize,
@@ -156,7 +159,7 @@ pub fn export_graph6(l: &Fields, buffer: &mut [u8]) -> Written {
     unsafe { rl_export_graph6(l, buffer.as_mut_ptr(), buffer.len()) }
 }
 
-pub fn edge_crossings(l: &Fields, table: &mut [u32]) -> EdgesCounted {
+pub fn edge_crossings(l: &Fields, table: &mut [u64]) -> EdgesCounted {
     // SAFETY: pointer and length are those of a slice.
     unsafe { rl_edge_crossings(l, table.as_mut_ptr(), table.len()) }
 }

@@ -16,8 +16,11 @@ pub struct Fields {
     /// Bit w of word v (document 01: neighbour word) is set exactly when an
     /// edge joins v and w.
     pub adjacency: [u64; PLACES],
+    /// Entry 64 · v + w is the weight of the edge between v and w, the same as
+    /// entry 64 · w + v, and 0 exactly where no edge joins them.
+    pub weights: [u8; PLACES * PLACES],
     /// The carried count, which no call examines.
-    pub count: u32,
+    pub count: u64,
 }
 
 /// An edge (document 01: link), the lower end first.
@@ -33,7 +36,7 @@ pub struct Edge {
 pub struct Sifted {
     /// The reduction (document 01: saving): crossings before less crossings
     /// after.
-    pub reduction: u32,
+    pub reduction: u64,
     /// How many of the n − 1 candidate places have the least crossings, the
     /// present one being a candidate; 0 below two vertices (document 02,
     /// Note 3).
@@ -44,7 +47,7 @@ pub struct Sifted {
 #[derive(Clone, Copy, Debug, PartialEq, Eq)]
 pub struct Round {
     /// The summed reduction.
-    pub reduction: u32,
+    pub reduction: u64,
     /// How many vertices moved.
     pub moved: u32,
     /// The summed [`Sifted::optima`].
@@ -55,7 +58,7 @@ pub struct Round {
 #[derive(Clone, Copy, Debug, PartialEq, Eq)]
 pub struct Convergence {
     /// The summed reduction.
-    pub reduction: u32,
+    pub reduction: u64,
     /// The rounds run, the last one included.
     pub rounds: u32,
     /// Whether the last round moved no vertex (document 01: settled). The
@@ -92,10 +95,10 @@ impl Layout {
         accepted(refusal, layout)
     }
 
-    /// The layout of a graph in graph6: the order 0, 1, 2 and so on, and its
-    /// true crossings (document 02, Note 4). A header `>>graph6<<` and a line
-    /// end, as files have them, are passed over; [`Layout::import_graph6`], the
-    /// library's own call, refuses them.
+    /// The layout of a graph in graph6: the order 0, 1, 2 and so on, every edge
+    /// of weight 1, and its true crossings (document 02, Note 4). A header
+    /// `>>graph6<<` and a line end, as files have them, are passed over;
+    /// [`Layout::import_graph6`], the library's own call, refuses them.
     pub fn from_graph6(graph6: &[u8]) -> Result<Layout, Refusal> {
         Layout::imported(bare_graph6(graph6))
     }
@@ -107,24 +110,47 @@ impl Layout {
         accepted(refusal, layout)
     }
 
-    /// Vertices 0 to n − 1 in rising number, with these edges, each given once.
+    /// Vertices 0 to n − 1 in rising number, with these edges of weight 1, each
+    /// given once.
     pub fn from_edges(n: usize, edges: &[(usize, usize)]) -> Result<Layout, Refusal> {
+        Layout::from_weighted_edges(n, &with_unit_weights(edges))
+    }
+
+    /// Vertices 0 to n − 1 in rising number, with these edges, each given once
+    /// and with its weight.
+    pub fn from_weighted_edges(n: usize, edges: &[(usize, usize, u8)]) -> Result<Layout, Refusal> {
         let mut layout = Layout::empty();
         for _ in 0..n {
             layout.add_vertex()?;
         }
-        for &(a, b) in edges {
-            layout.add_edge(a, b)?;
+        for &(a, b, weight) in edges {
+            layout.add_weighted_edge(a, b, weight)?;
         }
         Ok(layout)
     }
 
-    /// The vertices in this order, which holds each once, with these edges, each
-    /// given once. What is refused is refused as in a chart: 4, 6, 7 or 8, and 1
-    /// for more than a chart can hold.
+    /// The vertices in this order, which holds each once, with these edges of
+    /// weight 1, each given once. What is refused is refused as in a chart: 4, 6,
+    /// 7 or 8, and 1 for more than a chart can hold.
     pub fn from_order(edges: &[(usize, usize)], order: &[usize]) -> Result<Layout, Refusal> {
-        let ends: Vec<usize> = edges.iter().flat_map(|&(a, b)| [a, b]).collect();
-        let bodies = [(0x44, &[order.len()][..]), (0x4C, &ends), (0x52, order)];
+        Layout::from_weighted_order(&with_unit_weights(edges), order)
+    }
+
+    /// The vertices in this order, which holds each once, with these edges, each
+    /// given once and with its weight. What is refused is refused as by
+    /// [`Layout::from_order`], and 25 for a weight of 0.
+    pub fn from_weighted_order(
+        edges: &[(usize, usize, u8)],
+        order: &[usize],
+    ) -> Result<Layout, Refusal> {
+        let ends: Vec<usize> = edges.iter().flat_map(|&(a, b, _)| [a, b]).collect();
+        let weights: Vec<usize> = edges.iter().map(|&(.., weight)| weight.into()).collect();
+        let bodies = [
+            (0x44, &[order.len()][..]),
+            (0x4C, &ends),
+            (0x52, order),
+            (0x57, &weights),
+        ];
         let mut chart = Vec::new();
         for (tag, body) in bodies {
             // A body whose length needs more than two bytes makes the chart too long.
@@ -162,12 +188,19 @@ impl Layout {
         accepted(answer.refusal, answer.vertex)
     }
 
-    /// Joins two vertices by an edge (document 01: link).
+    /// Joins two vertices by an edge of weight 1 (document 01: link).
     pub fn add_edge(&mut self, a: usize, b: usize) -> Result<(), Refusal> {
-        accepted(ffi::rl_add_edge(&mut self.fields, a, b), ())
+        self.add_weighted_edge(a, b, 1)
     }
 
-    /// Takes the edge between two vertices away (document 01: unlink).
+    /// Joins two vertices by an edge of this weight, which is at least 1
+    /// (document 02, Note 8).
+    pub fn add_weighted_edge(&mut self, a: usize, b: usize, weight: u8) -> Result<(), Refusal> {
+        accepted(ffi::rl_add_edge(&mut self.fields, a, b, weight), ())
+    }
+
+    /// Takes the edge between two vertices away, and its weight (document 01:
+    /// unlink).
     pub fn remove_edge(&mut self, a: usize, b: usize) -> Result<(), Refusal> {
         accepted(ffi::rl_remove_edge(&mut self.fields, a, b), ())
     }
@@ -180,9 +213,10 @@ impl Layout {
 
     /// Makes a new order by greedy append from a first vertex (document 01: lay
     /// from s), and gives the tally of the crossings at the ends taken, which is
-    /// the crossings of the new order. The vertices without edges stand last, in
-    /// rising number, but for the first.
-    pub fn greedy_append(&mut self, start: usize) -> Result<u32, Refusal> {
+    /// the crossings of the new order. Vertices are chosen by their numbers of
+    /// edges, and go to the end with fewer crossings; those without edges stand
+    /// last, in rising number, but for the first.
+    pub fn greedy_append(&mut self, start: usize) -> Result<u64, Refusal> {
         let answer = ffi::rl_greedy_append(&mut self.fields, start);
         accepted(answer.refusal, answer.tally)
     }
@@ -223,8 +257,9 @@ impl Layout {
     }
 
     /// The carried count. Of a layout that came from [`Layout::empty`], a chart
-    /// or a graph6 and was changed by calls alone, it is the number of crossings.
-    pub fn count(&self) -> Result<u32, Refusal> {
+    /// or a graph6 and was changed by calls alone, it is the crossings, each
+    /// counted as the product of its two edges' weights.
+    pub fn count(&self) -> Result<u64, Refusal> {
         let answer = ffi::rl_count(&self.fields);
         accepted(answer.refusal, answer.count)
     }
@@ -244,7 +279,8 @@ impl Layout {
     }
 
     /// The first two edges that cross (document 01: shown crossing pair), edges
-    /// sorted by lower, then higher end, or `None` if no two edges cross.
+    /// sorted by lower, then higher end, whatever they weigh, or `None` if no two
+    /// edges cross.
     pub fn first_crossing(&self) -> Result<Option<(Edge, Edge)>, Refusal> {
         let answer = ffi::rl_first_crossing(&self.fields);
         let pair = (answer.first, answer.second);
@@ -252,8 +288,9 @@ impl Layout {
     }
 
     /// The chart of this layout: edges lower end first, sorted by lower, then
-    /// higher end. The carried count is not in it: read again, it gives this
-    /// layout with its true crossings.
+    /// higher end, and their weights exactly where some edge does not weigh 1.
+    /// The carried count is not in it: read again, it gives this layout with its
+    /// true crossings.
     pub fn chart(&self) -> Result<Vec<u8>, Refusal> {
         written(WRITTEN_CHART_BYTES, |buffer| self.write_chart(buffer))
     }
@@ -266,7 +303,8 @@ impl Layout {
     }
 
     /// The graph6 of this layout, without header or line end. Neither the order
-    /// nor the carried count is in it.
+    /// nor the carried count is in it, nor are weights: where some edge does not
+    /// weigh 1, that is refused.
     pub fn graph6(&self) -> Result<Vec<u8>, Refusal> {
         written(GRAPH6_BYTES, |buffer| self.export_graph6(buffer))
     }
@@ -278,18 +316,18 @@ impl Layout {
         accepted(answer.refusal, answer.length)
     }
 
-    /// The edges, sorted by lower, then higher end, each with the number of
-    /// crossings that it takes part in (document 02, Note 7). The carried count is
-    /// not looked at: the numbers' sum is twice the crossings.
-    pub fn edge_crossings(&self) -> Result<Vec<(Edge, u32)>, Refusal> {
+    /// The edges, sorted by lower, then higher end, each with the crossings that
+    /// it takes part in (document 02, Note 7). The carried count is not looked at:
+    /// the numbers' sum is twice the crossings.
+    pub fn edge_crossings(&self) -> Result<Vec<(Edge, u64)>, Refusal> {
         let numbers = written(MOST_EDGES, |table| self.write_edge_crossings(table))?;
         Ok(self.edges().into_iter().zip(numbers).collect())
     }
 
-    /// Writes each edge's number of crossings to the start of the table, and gives
-    /// how many edges there are, at most [`MOST_EDGES`]; the entries beyond keep
-    /// what they hold.
-    pub fn write_edge_crossings(&self, table: &mut [u32]) -> Result<usize, Refusal> {
+    /// Writes each edge's crossings to the start of the table, and gives how many
+    /// edges there are, at most [`MOST_EDGES`]; the entries beyond keep what they
+    /// hold.
+    pub fn write_edge_crossings(&self, table: &mut [u64]) -> Result<usize, Refusal> {
         let answer = ffi::edge_crossings(&self.fields, table);
         accepted(answer.refusal, answer.edges)
     }
@@ -307,6 +345,21 @@ impl Layout {
             .filter(|&(low, high)| joined(low, high))
             .map(|(low, high)| Edge { low, high })
             .collect()
+    }
+
+    /// The weight of the edge between two vertices, 0 where none joins them.
+    pub fn weight(&self, a: usize, b: usize) -> u8 {
+        if a < PLACES && b < PLACES {
+            self.fields.weights[PLACES * a + b]
+        } else {
+            0
+        }
+    }
+
+    /// The edges, sorted by lower, then higher end, each with its weight.
+    pub fn weighted_edges(&self) -> Vec<(usize, usize, u8)> {
+        let weighted = |Edge { low, high }| (low, high, self.weight(low, high));
+        self.edges().into_iter().map(weighted).collect()
     }
 
     /// Converges with a limit, and gives what the program `ringlist` prints of
@@ -333,6 +386,11 @@ impl Layout {
     pub fn fields_mut(&mut self) -> &mut Fields {
         &mut self.fields
     }
+}
+
+/// Each edge with the weight 1.
+pub(crate) fn with_unit_weights(edges: &[(usize, usize)]) -> Vec<(usize, usize, u8)> {
+    edges.iter().map(|&(a, b)| (a, b, 1)).collect()
 }
 
 /// A graph6 without the header and the line end that a file has.
@@ -364,11 +422,16 @@ mod tests {
         Layout::from_chart(FIRST_CHART).unwrap()
     }
 
-    /// n vertices and all edges.
-    fn complete(n: usize) -> Layout {
-        let pairs = |a| (a + 1..n).map(move |b| (a, b));
+    /// The first layout, with the weights 200 and 100.
+    fn heavy() -> Layout {
+        Layout::from_weighted_edges(4, &[(2, 0, 200), (1, 3, 100)]).unwrap()
+    }
+
+    /// n vertices and all edges, each of one weight.
+    fn complete(n: usize, weight: u8) -> Layout {
+        let pairs = |a| (a + 1..n).map(move |b| (a, b, weight));
         let edges: Vec<_> = (0..n).flat_map(pairs).collect();
-        Layout::from_edges(n, &edges).unwrap()
+        Layout::from_weighted_edges(n, &edges).unwrap()
     }
 
     #[test]
@@ -447,7 +510,7 @@ mod tests {
     #[test]
     fn all_places_of_a_complete_graph_are_optima() {
         for n in 1..=4 {
-            let mut layout = complete(n);
+            let mut layout = complete(n, 1);
             let sifted = layout.sift(0).map(|sifted| sifted.optima);
             assert_eq!(sifted, Ok(n as u32 - 1));
             let round = layout.sifting_round().map(|round| round.optima);
@@ -498,11 +561,112 @@ mod tests {
     }
 
     #[test]
-    fn the_longest_chart() {
-        let layout = complete(PLACES);
-        let chart = layout.chart().unwrap();
-        assert_eq!(chart.len(), WRITTEN_CHART_BYTES);
-        assert_eq!(Layout::from_chart(&chart), Ok(layout));
+    fn the_longest_charts() {
+        for (weight, length, crossings) in [
+            (1, 4106, 635_376),
+            (255, WRITTEN_CHART_BYTES, 41_315_324_400),
+        ] {
+            let layout = complete(PLACES, weight);
+            let chart = layout.chart().unwrap();
+            assert_eq!(chart.len(), length);
+            assert_eq!(layout.count(), Ok(crossings));
+            assert_eq!(Layout::from_chart(&chart), Ok(layout));
+        }
+    }
+
+    #[test]
+    fn a_crossing_counts_the_product_of_its_weights() {
+        let mut layout = heavy();
+        assert_eq!(layout.count(), Ok(20_000));
+        assert_eq!(layout.weighted_edges(), [(0, 2, 200), (1, 3, 100)]);
+        for (a, b, weight) in [(0, 2, 200), (2, 0, 200), (3, 1, 100), (0, 1, 0), (3, 3, 0)] {
+            assert_eq!(layout.weight(a, b), weight);
+        }
+        assert_eq!(layout.weight(4, 0), 0);
+        assert_eq!(layout.weight(0, PLACES), 0);
+        let numbers = layout.edge_crossings().unwrap();
+        assert_eq!(numbers.iter().map(|edge| edge.1).sum::<u64>(), 40_000);
+        let sifted = layout.sift(0).map(|sifted| sifted.reduction);
+        assert_eq!((sifted, layout.count()), (Ok(20_000), Ok(0)));
+        assert_eq!(layout.remove_edge(0, 2), Ok(()));
+        assert_eq!((layout.weight(0, 2), layout.weight(2, 0)), (0, 0));
+        // The carried count of a layout that did not come from calls alone.
+        let mut layout = heavy();
+        layout.fields_mut().count = 0;
+        layout.sift(0).unwrap();
+        assert_eq!(layout.count(), Ok(u64::MAX - 19_999));
+    }
+
+    #[test]
+    fn a_weight_of_0_is_refused_last() {
+        let mut layout = heavy();
+        for (a, b, refusal) in [
+            (0, 4, Refusal::NoSuchVertex),
+            (0, 0, Refusal::SameVertex),
+            (0, 2, Refusal::EdgeIsThere),
+            (0, 1, Refusal::WeightOutOfRange),
+        ] {
+            assert_eq!(layout.add_weighted_edge(a, b, 0), Err(refusal));
+        }
+        assert_eq!(layout, heavy());
+        let refused = Layout::from_weighted_order(&[(0, 1, 0)], &[0, 1]);
+        assert_eq!(refused, Err(Refusal::WeightOutOfRange));
+    }
+
+    #[test]
+    fn greedy_append_goes_by_weights_at_its_ends() {
+        let pairs = [(0, 1), (0, 2), (0, 3), (1, 2), (1, 3), (2, 3)];
+        for (weights, order) in [
+            ([1, 1, 1, 1, 1, 1], [2, 0, 1, 3]),
+            ([1, 2, 1, 2, 3, 1], [1, 2, 0, 3]),
+        ] {
+            let edges: Vec<_> = pairs
+                .iter()
+                .zip(weights)
+                .map(|(&(a, b), weight)| (a, b, weight))
+                .collect();
+            let mut layout = Layout::from_weighted_edges(4, &edges).unwrap();
+            assert_eq!(layout.greedy_append(2), layout.count());
+            assert_eq!(layout.order(), Ok(order.to_vec()));
+        }
+    }
+
+    #[test]
+    fn a_chart_has_weights_where_some_edge_does_not_weigh_1() {
+        let due = [FIRST_CHART, &[0x57, 0, 2, 200, 100]].concat();
+        assert_eq!(heavy().chart().as_ref(), Ok(&due));
+        assert_eq!(Layout::from_chart(&due), Ok(heavy()));
+        let ones = [FIRST_CHART, &[0x57, 0, 2, 1, 1]].concat();
+        assert_eq!(Layout::from_chart(&ones), Ok(first()));
+        for (weights, refusal) in [
+            (&[0x57, 0, 1, 5][..], Refusal::ChartWeights),
+            (&[0x57, 0, 3, 5, 0, 5], Refusal::ChartWeights),
+            (&[0x57, 0, 2, 5, 0], Refusal::WeightOutOfRange),
+            (&[0x57, 0, 2, 5, 5, 0x57, 0, 2, 5, 5], Refusal::ChartTags),
+        ] {
+            let chart = [FIRST_CHART, weights].concat();
+            assert_eq!(Layout::from_chart(&chart), Err(refusal));
+        }
+    }
+
+    #[test]
+    fn a_graph6_has_no_weights() {
+        assert_eq!(heavy().graph6(), Err(Refusal::Graph6Weights));
+        let mut short = [77];
+        let refused = heavy().export_graph6(&mut short);
+        assert_eq!((refused, short), (Err(Refusal::Graph6Weights), [77]));
+        let mut layout = heavy();
+        assert_eq!(layout.import_graph6(FIRST_GRAPH6), Ok(()));
+        assert_eq!(layout, first());
+    }
+
+    #[test]
+    fn weights_are_those_of_the_edges() {
+        for (a, b, weight) in [(0, 2, 0), (0, 2, 201), (0, 1, 1), (0, 0, 1), (4, 0, 1)] {
+            let mut layout = heavy();
+            layout.fields_mut().weights[PLACES * a + b] = weight;
+            assert_eq!(layout.count(), Err(Refusal::InvalidLayout));
+        }
     }
 
     /// A call writes what is due to the start of a buffer that is long enough,
@@ -570,16 +734,19 @@ mod tests {
 
     #[test]
     fn the_crossings_of_the_most_edges() {
-        let layout = complete(PLACES);
-        let crossings = layout.edge_crossings().unwrap();
-        assert_eq!(crossings.len(), MOST_EDGES);
-        for &(edge, number) in &crossings {
-            // Each of so many on one side of the chord is joined to all on the other.
-            let between = edge.high - edge.low - 1;
-            assert_eq!(number as usize, between * (PLACES - 2 - between));
+        for weight in [1, 255] {
+            let layout = complete(PLACES, weight);
+            let crossings = layout.edge_crossings().unwrap();
+            assert_eq!(crossings.len(), MOST_EDGES);
+            for &(edge, number) in &crossings {
+                // Each of so many on one side of the chord is joined to all on the other.
+                let between = edge.high - edge.low - 1;
+                let crossed = between * (PLACES - 2 - between);
+                assert_eq!(number, crossed as u64 * u64::from(weight).pow(2));
+            }
+            let sum: u64 = crossings.iter().map(|&(_, number)| number).sum();
+            assert_eq!(Ok(sum), layout.count().map(|count| 2 * count));
         }
-        let sum: u32 = crossings.iter().map(|&(_, number)| number).sum();
-        assert_eq!(Ok(sum), layout.count().map(|count| 2 * count));
     }
 
     #[test]
@@ -623,10 +790,10 @@ mod tests {
         let edges = [(0, 2), (3, 1)];
         assert_eq!(Layout::from_order(&edges, &[0, 3, 1, 2]), Ok(layout));
         assert_eq!(Layout::from_order(&[], &[]), Ok(Layout::empty()));
-        let all: Vec<_> = complete(PLACES).edges();
+        let all: Vec<_> = complete(PLACES, 1).edges();
         let all: Vec<_> = all.iter().map(|edge| (edge.low, edge.high)).collect();
         let rising: Vec<_> = (0..PLACES).collect();
-        assert_eq!(Layout::from_order(&all, &rising), Ok(complete(PLACES)));
+        assert_eq!(Layout::from_order(&all, &rising), Ok(complete(PLACES, 1)));
     }
 
     #[test]
@@ -665,7 +832,7 @@ mod tests {
             (63, b"~??~", 330),
             (PLACES, b"~?@?", GRAPH6_BYTES),
         ] {
-            let layout = complete(n);
+            let layout = complete(n, 1);
             let graph6 = layout.graph6().unwrap();
             assert_eq!(graph6.len(), length);
             assert!(graph6.starts_with(size));
@@ -699,6 +866,7 @@ mod tests {
             n: usize::MAX,
             order: [255; PLACES],
             adjacency: [u64::MAX; PLACES],
+            weights: [255; PLACES * PLACES],
             count: 5,
         };
         let before = layout.clone();

@@ -16,6 +16,21 @@
 //! # Ok::<(), rostulanda::Refusal>(())
 //! ```
 //!
+//! Each edge has a weight from 1 to 255, which is 1 where none is given, and a
+//! crossing counts the product of its two edges' weights (document 02, Note 8):
+//! wherever crossings are counted or compared, it is by the sum of these
+//! products.
+//!
+//! ```
+//! use rostulanda::Layout;
+//!
+//! let edges = [(0, 2, 200), (1, 3, 100), (1, 4, 1)];
+//! let layout = Layout::from_weighted_edges(5, &edges)?;
+//! assert_eq!(layout.count()?, 200 * 100 + 200);
+//! assert_eq!(layout.weight(3, 1), 100);
+//! # Ok::<(), rostulanda::Refusal>(())
+//! ```
+//!
 //! The words are those of graph drawing; document 01's stand beside them once.
 
 #[doc(hidden)]
@@ -28,7 +43,7 @@ mod list;
 mod refusal;
 mod row;
 
-pub use check::{check_row, Checked, Move};
+pub use check::{check_row, check_weighted_row, Checked, Move};
 pub use ffi::{GRAPH6_BYTES, MOST_EDGES, PLACES, WRITTEN_CHART_BYTES};
 pub use layout::{Convergence, Edge, Fields, Layout, Round, Sifted};
 pub use list::{play, Answer, Call, Played, Start};
@@ -39,6 +54,10 @@ pub use row::{list_chart, Row};
 #[cfg(test)]
 const FIRST_CHART: &[u8] = include_bytes!("../../../charts/first.chart");
 
-/// The same in graph6: 0-2 is the second pair, 1-3 the fifth.
+/// Five vertices and seven edges with weights: one crossing, of 9 · 2.
+#[cfg(test)]
+const WEIGHTED_CHART: &[u8] = include_bytes!("../../../charts/weighted.chart");
+
+/// The first one in graph6: 0-2 is the second pair, 1-3 the fifth.
 #[cfg(test)]
 const FIRST_GRAPH6: &[u8] = &[4 + 63, 0b010010 + 63];

@@ -1,6 +1,6 @@
 //! Lists of calls, played in one go.
 
-use crate::ffi::{self, ANSWER_NUMBERS};
+use crate::ffi::{self, ANSWER_NUMBERS, CALL_NUMBERS};
 use crate::layout::Layout;
 use crate::refusal::{accepted, Refusal};
 
@@ -19,7 +19,9 @@ pub enum Start<'a> {
 #[derive(Clone, Copy, Debug, PartialEq, Eq)]
 pub enum Call {
     AddVertex,
+    /// An edge of weight 1.
     AddEdge(usize, usize),
+    AddWeightedEdge(usize, usize, u8),
     RemoveEdge(usize, usize),
     MoveAfter(usize, usize),
     GreedyAppend(usize),
@@ -29,19 +31,20 @@ pub enum Call {
 }
 
 impl Call {
-    /// The three numbers that the library reads.
-    fn numbers(self) -> [u64; 3] {
-        let (op, a, b) = match self {
-            Call::AddVertex => (16, 0, 0),
-            Call::AddEdge(a, b) => (17, a, b),
-            Call::RemoveEdge(a, b) => (18, a, b),
-            Call::MoveAfter(a, b) => (19, a, b),
-            Call::GreedyAppend(start) => (20, start, 0),
-            Call::Sift(u) => (21, u, 0),
-            Call::SiftingRound => (22, 0, 0),
-            Call::Converge(limit) => (23, limit, 0),
+    /// The numbers that the library reads.
+    fn numbers(self) -> [u64; CALL_NUMBERS] {
+        let (op, a, b, weight) = match self {
+            Call::AddVertex => (16, 0, 0, 0),
+            Call::AddEdge(a, b) => (17, a, b, 1),
+            Call::AddWeightedEdge(a, b, weight) => (17, a, b, weight),
+            Call::RemoveEdge(a, b) => (18, a, b, 0),
+            Call::MoveAfter(a, b) => (19, a, b, 0),
+            Call::GreedyAppend(start) => (20, start, 0, 0),
+            Call::Sift(u) => (21, u, 0, 0),
+            Call::SiftingRound => (22, 0, 0, 0),
+            Call::Converge(limit) => (23, limit, 0, 0),
         };
-        [op, a as u64, b as u64]
+        [op, a as u64, b as u64, weight.into()]
     }
 }
 
@@ -81,6 +84,8 @@ mod tests {
             Call::AddVertex,
             Call::AddEdge(4, 1),
             Call::AddEdge(4, 4),
+            Call::AddWeightedEdge(4, 2, 9),
+            Call::AddWeightedEdge(4, 3, 0),
             Call::MoveAfter(4, 0),
             Call::Sift(2),
             Call::SiftingRound,
@@ -93,18 +98,23 @@ mod tests {
         answers.push(layout.add_vertex().map(|v| [v as u64, 0, 0, 0]));
         answers.push(layout.add_edge(4, 1).map(|()| [0; 4]));
         answers.push(layout.add_edge(4, 4).map(|()| [0; 4]));
+        answers.push(layout.add_weighted_edge(4, 2, 9).map(|()| [0; 4]));
+        answers.push(layout.add_weighted_edge(4, 3, 0).map(|()| [0; 4]));
         answers.push(layout.move_after(4, 0).map(|()| [0; 4]));
-        let numbers = |numbers: [u32; 4]| numbers.map(u64::from);
         let sifted = layout.sift(2);
-        answers.push(sifted.map(|s| numbers([s.reduction, s.optima, 0, 0])));
+        answers.push(sifted.map(|s| [s.reduction, s.optima.into(), 0, 0]));
         let round = layout.sifting_round();
-        answers.push(round.map(|r| numbers([r.reduction, r.moved, r.optima, 0])));
+        answers.push(round.map(|r| [r.reduction, r.moved.into(), r.optima.into(), 0]));
         let tally = layout.greedy_append(3);
-        answers.push(tally.map(|tally| numbers([tally, 0, 0, 0])));
+        answers.push(tally.map(|tally| [tally, 0, 0, 0]));
         answers.push(layout.remove_edge(4, 1).map(|()| [0; 4]));
         let run = layout.converge(50);
-        answers.push(run.map(|c| numbers([c.reduction, c.rounds, c.converged.into(), c.optima])));
+        answers.push(run.map(|c| {
+            let (rounds, converged) = (c.rounds.into(), c.converged.into());
+            [c.reduction, rounds, converged, c.optima.into()]
+        }));
         assert_eq!(answers[2], Err(Refusal::SameVertex));
+        assert_eq!(answers[4], Err(Refusal::WeightOutOfRange));
         let due = Ok(Played { layout, answers });
         assert_eq!(play(Start::Chart(FIRST_CHART), &calls), due);
         assert_eq!(play(Start::Graph6(FIRST_GRAPH6), &calls), due);

@@ -49,7 +49,7 @@ macro_rules! refusals {
 refusals! {
     ChartTooLong 1 "is the chart at most 8,192 bytes long?"
     ChartFields 2 "does the chart divide exactly into fields, each header and body complete?"
-    ChartTags 3 "are the tags 44, 4C, 52, each once, in that sequence?"
+    ChartTags 3 "are the tags 44, 4C, 52, or 44, 4C, 52, 57, each once, in that sequence?"
     ChartVertices 4 "is the body of field 44 one byte, at most 64?"
     ChartOddEdges 5 "has the body of field 4C an even length?"
     ChartEdgeEnds 6 "are the ends of each edge below n and different?"
@@ -68,6 +68,9 @@ refusals! {
     Graph6Data 21 "has the graph6 as many bytes as its size asks for, each from 63 to 126?"
     Graph6Padding 22 "are the padding bits of the graph6 all 0?"
     TableTooShort 23 "has the table an entry for each edge?"
+    ChartWeights 24 "has the body of field 57 one byte for each edge?"
+    WeightOutOfRange 25 "is each weight a whole number from 1 to 255?"
+    Graph6Weights 26 "does each edge weigh 1 (a graph6 has no weights)?"
 }
 
 /// The value, unless the code says that the call was refused.

@@ -14,9 +14,9 @@ pub struct Row {
     pub vertices: usize,
     pub edges: usize,
     /// The crossings before the first round.
-    pub before: u32,
+    pub before: u64,
     /// The crossings after the last round.
-    pub after: u32,
+    pub after: u64,
     /// The rounds run, the last one included.
     pub rounds: u32,
     /// Whether the last round moved no vertex.
@@ -53,13 +53,26 @@ pub fn list_chart(chart: &[u8]) -> String {
 #[cfg(test)]
 mod tests {
     use super::*;
-    use crate::{Layout, FIRST_CHART};
+    use crate::{Layout, FIRST_CHART, WEIGHTED_CHART};
 
     #[test]
     fn a_row_is_what_ringlist_prints() {
         let row = Layout::from_chart(FIRST_CHART).unwrap().row(50).unwrap();
         assert_eq!(row.to_string(), list_chart(FIRST_CHART));
         assert_eq!((row.before, row.after, row.rounds), (1, 0, 2));
+    }
+
+    #[test]
+    fn a_row_goes_by_weights() {
+        let layout = Layout::from_chart(WEIGHTED_CHART).unwrap();
+        let row = layout.clone().row(50).unwrap();
+        assert_eq!(row.to_string(), list_chart(WEIGHTED_CHART));
+        assert_eq!((row.before, row.after, row.rounds), (18, 3, 2));
+        assert_eq!(row.order, [1, 0, 2, 3, 4]);
+        // Without weights its order cannot be bettered.
+        let edges: Vec<_> = layout.edges().iter().map(|e| (e.low, e.high)).collect();
+        let row = Layout::from_edges(5, &edges).unwrap().row(50).unwrap();
+        assert_eq!((row.before, row.after, row.rounds), (1, 1, 1));
     }
 
     #[test]

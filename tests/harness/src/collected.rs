@@ -2,10 +2,10 @@
 
 use crate::followed::{numbers, steps, Step};
 use crate::make::collections::{Collected, Collection};
-use crate::naive::layout::edges;
+use crate::naive::layout::weighted;
 
 /// Whether each graph of a file is imported with the vertices and the edges that
-/// nauty reads in it, and exported byte for byte as nauty wrote it. Tells the
+/// nauty reads in it, all of weight 1, and exported byte for byte as nauty wrote it. Tells the
 /// first line, counted from 1, in which one is not.
 pub fn check(file: &Collection, list: &[u8], lines: &str) -> Result<(), (usize, String)> {
     let steps: Vec<Step> = steps(list, lines).collect();
@@ -18,7 +18,8 @@ pub fn check(file: &Collection, list: &[u8], lines: &str) -> Result<(), (usize, 
 
 fn check_import(step: &Step, graph: &Collected) -> Result<(), String> {
     let accepted = step.answer() == Some(("import", 0));
-    if accepted && step.n() == graph.n && edges(&step.after) == graph.edges {
+    let due = graph.edges.iter().map(|&edge| (edge, 1));
+    if accepted && step.n() == graph.n && weighted(&step.after).into_iter().eq(due) {
         Ok(())
     } else {
         Err(format!("nauty reads other edges in {}", graph.graph6))

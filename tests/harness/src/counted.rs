@@ -4,7 +4,7 @@
 use crate::entries::Entry;
 use crate::followed::Step;
 use crate::naive::chart::read;
-use crate::naive::layout::{crossings, edges, list, valid, Layout};
+use crate::naive::layout::{crossings, edges, list, valid, weighted, Layout};
 
 /// The calls whose first answer is the saving.
 const SAVING: [&str; 3] = ["sift", "round", "settle"];
@@ -42,8 +42,8 @@ fn check_call(name: &str, step: &Step) -> Result<(), String> {
 }
 
 /// The crossings of a valid layout, whatever count it carries.
-pub fn true_count(layout: &Layout) -> u32 {
-    crossings(&list(layout), &edges(layout))
+pub fn true_count(layout: &Layout) -> u64 {
+    crossings(&list(layout), &weighted(layout))
 }
 
 /// Whether a listing has the edges and the crossings of its chart, and the
@@ -53,8 +53,7 @@ pub fn check_listing(chart: &[u8], listing: &str) -> Result<(), String> {
     if refusal != 0 {
         return Ok(());
     }
-    let edges = edges(&ring);
-    let before = crossings(&list(&ring), &edges);
+    let before = true_count(&ring);
     let order = listing
         .lines()
         .last()
@@ -69,8 +68,8 @@ pub fn check_listing(chart: &[u8], listing: &str) -> Result<(), String> {
     if !valid(&ring) {
         return Err("an order without some vertex".to_string());
     }
-    let after = crossings(&list(&ring), &edges);
-    let (n, m) = (ring.n, edges.len());
+    let after = true_count(&ring);
+    let (n, m) = (ring.n, edges(&ring).len());
     let due = format!("devices {n}\nlinks {m}\nbefore {before}\nafter {after}\nrounds ");
     if listing.starts_with(&due) {
         Ok(())
@@ -84,12 +83,12 @@ pub fn check_listing(chart: &[u8], listing: &str) -> Result<(), String> {
 #[cfg(test)]
 mod tests {
     use super::*;
-    use crate::followed::{change_found, check_lines, check_pairs};
+    use crate::followed::{change_found, check_fours, check_lines, check_pairs};
     use crate::imported;
     use crate::make::charts::Chart;
     use crate::make::graph::Graph;
     use crate::make::lists;
-    use crate::make::ops::{Known, SETTLE, SIFT};
+    use crate::make::ops::{Known, SETTLE, SET_COUNT, SIFT};
     use crate::make::records;
     use crate::naive::list::listing;
     use crate::naive::play::play;
@@ -98,8 +97,13 @@ mod tests {
 
     /// The chart of document 01's first ring.
     fn square() -> Vec<u8> {
-        let (edges, order) = (vec![(0, 2), (1, 3)], vec![0, 1, 2, 3]);
-        Chart::of(&Graph { edges, order }).bytes()
+        chart(None)
+    }
+
+    /// The same with weights.
+    fn chart(weights: Option<Vec<u8>>) -> Vec<u8> {
+        let square = Graph::of(vec![(0, 2), (1, 3)], vec![0, 1, 2, 3]);
+        Chart::of(&Graph { weights, ..square }).bytes()
     }
 
     #[test]
@@ -121,6 +125,8 @@ mod tests {
                     imported::check_again(last, step)
                 };
                 assert_eq!(check_pairs(&made.bytes, &lines, again), Ok(()));
+                let alike = written::check_alike;
+                assert_eq!(check_fours(&made.bytes, &lines, alike), Ok(()));
             }
         }
         assert_eq!(check_listing(&square(), &listing(&square())), Ok(()));
@@ -142,6 +148,39 @@ mod tests {
             (3, "settle 0 0", "settle 0 1"),
         ] {
             change_found(&list, &lines, check_line, change);
+        }
+    }
+
+    /// A count goes round at 2^64, not at 2^32, and by products.
+    #[test]
+    fn a_wrong_count_or_saving_by_weight_is_found() {
+        let calls = [[SET_COUNT, 9, 0, 0], [SIFT, 0, 0, 0]].map(records::bytes);
+        let start = records::chart(&chart(Some(vec![2, 255])));
+        let list = [start, calls.concat()].concat();
+        let lines = play(&list);
+        assert_eq!(check_lines(&list, &lines, check_line), Ok(()));
+        let after = 9u64.wrapping_sub(510);
+        let told = format!("count {after} words");
+        assert!(lines.contains(&told) && lines.contains("sift 0 510 2 n"));
+        for (line, from, to) in [
+            (1, "count 510 words", "count 1 words"),
+            (1, "weights 0 2 2 1 3 255", "weights 0 2 2 1 3 254"),
+            (2, "sift 0 510 2 n", "sift 0 1 2 n"),
+            (2, &told, "count 4294966795 words"),
+            (2, &told, "count 8 words"),
+        ] {
+            change_found(&list, &lines, check_line, (line, from, to));
+        }
+    }
+
+    #[test]
+    fn a_wrong_listing_by_weight_is_found() {
+        let heavy = chart(Some(vec![2, 255]));
+        let due = listing(&heavy);
+        assert_eq!(check_listing(&heavy, &due), Ok(()));
+        for wrong in ["before 1\n", "before 257\n"] {
+            let wrong = due.replace("before 510\n", wrong);
+            assert!(wrong != due && check_listing(&heavy, &wrong).is_err());
         }
     }
 

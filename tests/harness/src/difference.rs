@@ -198,6 +198,21 @@ mod tests {
     }
 
     #[test]
+    fn a_weight_more_or_another_is_told() {
+        let one = "link 0 n 8 order 0 count 0 words 3 128 weights 3 7 2 7 3 2\n";
+        let other = "link 0 n 8 order 0 count 0 words 3 128 weights 3 7 3 5 1 9\n";
+        let due = [
+            "word 15, weight of 3 towards 7: 2 against 3",
+            "word 18, weight of 7 towards 3: 2 against nothing",
+            "word 18, weight of 5 towards 1: nothing against 9",
+        ];
+        let (line, words) = found(Answers, one, other);
+        assert_eq!((line, &words[..]), (1, &due.map(String::from)[..]));
+        let (_, words) = found(Answers, one, &one.replace(" weights", ""));
+        assert_eq!(words[0], "word 12, `weights`: weights against nothing");
+    }
+
+    #[test]
     fn a_length_and_a_byte_are_told() {
         for name in ["write", "export"] {
             let one = format!("{name} 0 10 buffer 68 0 1 0 n 0 order 0 count 0 words\n");
@@ -343,6 +358,17 @@ mod tests {
             (2, "word 6, byte 1 of the buffer: 81 against 82"),
         ];
         are_planted(output, &due);
+    }
+
+    #[test]
+    fn planted_weights_and_wide_numbers_are_found() {
+        let output =
+            "count 0 9 n 2 order 0 1 count 18446744073709551615 words weights 0 1 2 1 0 2\n";
+        let due = [
+            "word 10, count: 18446744073709551615 against 18446744073709551616",
+            "word 15, weight of 0 towards 1: 2 against 3",
+        ];
+        are_planted(output, &due.map(|due| (1, due)));
     }
 
     #[test]

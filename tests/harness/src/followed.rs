@@ -2,7 +2,7 @@
 //! lines.
 
 use crate::entries::{entries, Entry};
-use crate::make::ops::{SET_COUNT, SET_N, SET_ORDER, SET_WORD};
+use crate::make::ops::{SET_COUNT, SET_N, SET_ORDER, SET_WEIGHT, SET_WORD};
 use crate::naive::layout::{empty, Layout};
 
 /// An answer line, its record, and the layout before and behind it.
@@ -62,6 +62,20 @@ pub fn check_pairs(
     Ok(())
 }
 
+/// Puts a check to each four lines of a list that follow each other. Tells the
+/// first line, counted from 1, that fails it together with the three before.
+pub fn check_fours(
+    list: &[u8],
+    lines: &str,
+    check: impl Fn(&[Step]) -> Result<(), String>,
+) -> Result<(), (usize, String)> {
+    let steps: Vec<Step> = steps(list, lines).collect();
+    for (i, four) in steps.windows(4).enumerate() {
+        check(four).map_err(|text| (i + 4, text))?;
+    }
+    Ok(())
+}
+
 /// Sees that lines which are changed once fail a check in the line named. Gives
 /// what is said of it.
 #[cfg(test)]
@@ -95,6 +109,13 @@ impl Step<'_> {
     pub fn m(&self) -> usize {
         edge_count(&self.after)
     }
+
+    /// Whether some edge has another weight than 1 behind the line, in a valid
+    /// layout.
+    pub fn is_weighted(&self) -> bool {
+        let mut weights = self.after.weights.iter().flatten();
+        weights.any(|&weight| weight > 1)
+    }
 }
 
 fn edge_count(layout: &Layout) -> usize {
@@ -108,7 +129,8 @@ fn set(layout: &mut Layout, entry: &Entry) {
         Entry::Record([SET_N, n, ..]) => layout.n = n,
         Entry::Record([SET_ORDER, place, v, _]) => put(&mut layout.order, place, v as u8),
         Entry::Record([SET_WORD, v, word, _]) => put(&mut layout.words, v, word),
-        Entry::Record([SET_COUNT, count, ..]) => layout.count = count as u32,
+        Entry::Record([SET_COUNT, count, ..]) => layout.count = count,
+        Entry::Record([SET_WEIGHT, v, w, weight]) => put_weight(layout, v, w, weight),
         _ => {}
     }
 }
@@ -122,10 +144,13 @@ fn take_in(layout: &mut Layout, line: &str) {
         put(&mut layout.order, place as u64, v as u8);
     }
     if let Some(&count) = numbers(line, " count ").first() {
-        layout.count = count as u32;
+        layout.count = count;
     }
     for changed in numbers(line, " words ").chunks_exact(2) {
         put(&mut layout.words, changed[0], changed[1]);
+    }
+    for changed in numbers(line, " weights ").chunks_exact(3) {
+        put_weight(layout, changed[0], changed[1], changed[2]);
     }
 }
 
@@ -149,6 +174,12 @@ fn put<T>(places: &mut [T], place: u64, value: T) {
     }
 }
 
+fn put_weight(layout: &mut Layout, v: u64, w: u64, weight: u64) {
+    if v < 64 {
+        put(&mut layout.weights[v as usize], w, weight as u8);
+    }
+}
+
 #[cfg(test)]
 mod tests {
     use super::*;
@@ -167,19 +198,28 @@ mod tests {
             [SET_WORD, 64, 3, 0],
             [SET_ORDER, 4, 256 + 4, 0],
             [SET_COUNT, (1 << 32) + 9, 0, 0],
+            [SET_WEIGHT, 4, 0, 256 + 7],
+            [SET_WEIGHT, 64, 0, 7],
+            [SET_WEIGHT, 0, 64, 7],
             [PAIR, 0, 0, 0],
         ] {
             list.extend(records::bytes(record));
         }
-        let lines = "chart 0 n 4 order 0 1 2 3 count 1 words 0 4 1 8 2 1 3 2\n\
-                     unlink 0 n 4 order 0 1 2 3 count 0 words 0 0 2 0\n\
+        let lines = "chart 0 n 4 order 0 1 2 3 count 1 \
+                     words 0 4 1 8 2 1 3 2 weights 0 2 1 1 3 255 2 0 1 3 1 255\n\
+                     unlink 0 n 4 order 0 1 2 3 count 0 words 0 0 2 0 weights 0 2 0 2 0 0\n\
                      end\n";
         let steps: Vec<Step> = steps(&list, lines).collect();
         let sizes: Vec<(usize, usize)> = steps.iter().map(|step| (step.n(), step.m())).collect();
         assert_eq!(sizes, [(4, 2), (4, 1), (5, 2)]);
         let layout = &steps[2].before;
-        assert_eq!((layout.n, layout.words[4], layout.count), (5, 3, 9));
+        let count = (1 << 32) + 9;
+        assert_eq!((layout.n, layout.words[4], layout.count), (5, 3, count));
         assert_eq!(layout.order[..6], [0, 1, 2, 3, 4, 0]);
+        let weight = |v: usize, w: usize| layout.weights[v][w];
+        assert_eq!([weight(0, 2), weight(1, 3), weight(3, 1)], [0, 255, 255]);
+        assert_eq!((weight(4, 0), weight(0, 4)), (7, 0));
+        assert!(steps.iter().all(Step::is_weighted));
         assert_eq!(*layout, steps[2].after);
         let answers: Vec<Option<(&str, u8)>> = steps.iter().map(Step::answer).collect();
         assert_eq!(answers, [Some(("chart", 0)), Some(("unlink", 0)), None]);
@@ -192,8 +232,8 @@ mod tests {
             [1, 0, 7]
         );
         assert_eq!(
-            lent("perlink 0 1 table 0 4294967295 n 2"),
-            [0, u32::MAX.into()]
+            lent("perlink 0 1 table 0 18446744073709551615 n 2"),
+            [0, u64::MAX]
         );
         for line in ["perlink 0 0 table n 2 order 1 0", "link 0 n 2 order 1 0"] {
             assert!(lent(line).is_empty());

@@ -18,7 +18,7 @@ pub fn check_line(step: &Step) -> Result<(), String> {
     if is_accepted(step) {
         let rising = |layout| list(layout).into_iter().eq(0..step.n());
         if !valid(after) || !rising(after) {
-            return Err("not in rising order".to_string());
+            return Err("not valid or not in rising order".to_string());
         }
         let count = true_count(after);
         if after.count != count {
@@ -91,10 +91,18 @@ mod tests {
             (1, "count 1 words", "count 0 words", "another count than 1"),
             (
                 1,
-                "count 1 words 0 4 1 8 2 1 3 2",
-                "count 0 words 0 8 3 1",
+                "count 1 words 0 4 1 8 2 1 3 2 weights 0 2 1 1 3 1 2 0 1 3 1 1",
+                "count 0 words 0 8 3 1 weights 0 3 1 3 0 1",
                 "another layout",
             ),
+            (
+                1,
+                "count 1 words 0 4 1 8 2 1 3 2 weights 0 2 1 1 3 1 2 0 1 3 1 1",
+                "count 2 words 0 4 1 8 2 1 3 2 weights 0 2 2 1 3 1 2 0 2 3 1 1",
+                "another layout",
+            ),
+            (1, "weights 0 2 1", "weights 0 2 2", "rising order"),
+            (1, "weights 0 2 1 1 3 1", "weights 0 2 1", "rising order"),
             (
                 4,
                 "import 22 n 0",

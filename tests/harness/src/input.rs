@@ -161,7 +161,7 @@ mod tests {
             [SET_N, 0, 0, 0],
             [ADD, 0, 0, 0],
             [ADD, 0, 0, 0],
-            [LINK, 0, 1, 0],
+            [LINK, 0, 1, 1],
         ];
         records.map(bytes).concat()
     }
@@ -170,7 +170,7 @@ mod tests {
     fn the_record_of_a_line_is_found() {
         let list = two_links();
         assert_eq!(record_of(&list, 1), "record 2, add");
-        assert_eq!(record_of(&list, 3), "record 4, link 0 1");
+        assert_eq!(record_of(&list, 3), "record 4, link 0 1 with weight 1");
         assert_eq!(record_of(&list, 4), "line 4, behind the last record");
     }
 
@@ -189,7 +189,10 @@ mod tests {
     fn sides_are_compared_among_themselves() {
         assert_eq!(told("link", "link"), Ok(naive::play::play(&two_links())));
         let text = told("link 0", "link 14").expect_err("a difference");
-        assert!(text.starts_with("record 4, link 0 1, "), "{text}");
+        assert!(
+            text.starts_with("record 4, link 0 1 with weight 1, "),
+            "{text}"
+        );
         assert!(
             text.ends_with("\nword 2, the refusal number: 0 against 14"),
             "{text}"

@@ -45,8 +45,8 @@ const ANSWERS: [(&str, &[&str]); 10] = [
     ("perlink", &["the number of edges"]),
 ];
 
-/// The words of a line with what they are. The numbers of neighbour words are
-/// not among them; they stand in what those words are.
+/// The words of a line with what they are. The numbers of neighbour words and
+/// of the vertices of weights are not among them; they stand in what those are.
 pub fn labelled(output: Output, line: &str) -> Vec<Labelled<'_>> {
     let words: Vec<&str> = line.split(' ').collect();
     let mut part = match output {
@@ -80,6 +80,8 @@ fn label(words: &[&str], i: usize, part: &str, in_part: usize) -> Option<String>
         ("", number) => answer(words[0], number - 1),
         ("words", number) if number % 2 == 1 => return None,
         ("words", _) => format!("neighbour word {}", words[i - 1]),
+        ("weights", number) if number % 3 != 0 => return None,
+        ("weights", _) => format!("weight of {} towards {}", words[i - 2], words[i - 1]),
         ("order", number) => format!("place {} of the order", number - 1),
         ("buffer", number) => format!("byte {} of the buffer", number - 1),
         ("table", number) => format!("entry {} of the table", number - 1),
@@ -96,6 +98,7 @@ fn begins(part: &str, behind: usize, word: &str) -> bool {
         "order" => part == "n",
         "count" => part == "order",
         "words" => part == "count",
+        "weights" => part == "words",
         _ => false,
     }
 }
@@ -138,8 +141,11 @@ mod tests {
             "`words`",
             "neighbour word 0",
             "neighbour word 7",
+            "`weights`",
+            "weight of 0 towards 1",
+            "weight of 7 towards 0",
         ];
-        let line = "settle 0 5 2 yes 4 n 2 order 1 0 count 9 words 0 2 7 1";
+        let line = "settle 0 5 2 yes 4 n 2 order 1 0 count 9 words 0 2 7 1 weights 0 1 9 7 0 8";
         assert_eq!(labels(Output::Answers, line), due);
     }
 
@@ -192,8 +198,9 @@ mod tests {
 
     #[test]
     fn words_are_numbered() {
-        let words = labelled(Output::Answers, "link 0 n 2 order 1 0 count 0 words 5 8");
+        let line = "link 0 n 2 order 1 0 count 0 words 5 8 weights 5 3 255";
+        let words = labelled(Output::Answers, line);
         let last = words.last().expect("a word");
-        assert_eq!((last.number, last.word), (12, "8"));
+        assert_eq!((last.number, last.word), (16, "255"));
     }
 }

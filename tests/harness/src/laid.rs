@@ -23,7 +23,7 @@ pub fn check_tally(step: &Step) -> Result<(), String> {
 
 /// What a lay would have answered and left by the former rule; none where no
 /// vertex but the start is isolated, so that the rules are the same.
-pub fn formerly(step: &Step) -> Option<(Reply<u32>, Layout)> {
+pub fn formerly(step: &Step) -> Option<(Reply<u64>, Layout)> {
     let Entry::Record([LAY, start, ..]) = step.entry else {
         return None;
     };
@@ -65,11 +65,29 @@ mod tests {
     /// these and from what isn't there; the answer lines too.
     fn laid_fives() -> (Vec<u8>, String) {
         let (edges, order) = (all_pairs(5), vertices(8));
-        let chart = Chart::of(&Graph { edges, order }).bytes();
+        let chart = Chart::of(&Graph::of(edges, order)).bytes();
         let lays = [[LAY, 6, 0, 0], [LAY, 8, 0, 0]].map(records::bytes);
         let list = [records::chart(&chart), lays.concat()].concat();
         let lines = play(&list);
         (list, lines)
+    }
+
+    /// Two cliques of four vertices, each with weights of its own, and an isolated
+    /// vertex: by number lay takes other ends.
+    #[test]
+    fn a_tally_by_number_is_found() {
+        let mut edges = all_pairs(8);
+        edges.retain(|(a, b)| (a < &4) == (b < &4));
+        let mut graph = Graph::of(edges, vertices(9));
+        graph.weights = Some([[1, 2, 1, 2, 3, 1], [3; 6]].concat());
+        let start = records::chart(&Chart::of(&graph).bytes());
+        let list = [start, records::bytes([LAY, 2, 0, 0])].concat();
+        let lines = play(&list);
+        let laid = |check: fn(&Step) -> Result<(), String>| check_lines(&list, &lines, check);
+        assert_eq!([check_tally, check_line].map(laid), [Ok(()), Ok(())]);
+        for check in [check_tally, check_line] {
+            change_found(&list, &lines, check, (2, "lay 0 10 n", "lay 0 2 n"));
+        }
     }
 
     /// The crossings of what was laid are counted, whatever count is told; of a
@@ -91,7 +109,11 @@ mod tests {
         assert_eq!(check_lines(&list, &lines, check_line), Ok(()));
         for change in [
             (2, "lay 0 5 n", "lay 0 4 n"),
-            (2, "count 5 words\nlay 12", "count 6 words\nlay 12"),
+            (
+                2,
+                "count 5 words weights\nlay 12",
+                "count 6 words weights\nlay 12",
+            ),
             (3, "lay 12 0 n", "lay 12 5 n"),
         ] {
             change_found(&list, &lines, check_line, change);

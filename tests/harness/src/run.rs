@@ -2,7 +2,7 @@
 
 use crate::collected;
 use crate::counted::{self, check_listing};
-use crate::followed::{check_lines, check_pairs, Step};
+use crate::followed::{check_fours, check_lines, check_pairs, Step};
 use crate::imported;
 use crate::input::{record_of, Failure, Input, Model};
 use crate::label::Output;
@@ -111,7 +111,8 @@ fn compare_list(
         imported::check_again(last, step)
     };
     let checked = check_lines(&made.bytes, &lines, check)
-        .and_then(|()| check_pairs(&made.bytes, &lines, check_pair));
+        .and_then(|()| check_pairs(&made.bytes, &lines, check_pair))
+        .and_then(|()| check_fours(&made.bytes, &lines, written::check_alike));
     checked.map_err(|found| failed(&input, found))?;
     tally.list(&made, &lines);
     Ok(())

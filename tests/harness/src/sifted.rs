@@ -8,12 +8,12 @@ use crate::followed::Step;
 use crate::make::density::possible;
 use crate::make::ops::{ROUND, SETTLE, SIFT};
 use crate::naive::calls::sift;
-use crate::naive::layout::isolated;
+use crate::naive::layout::{isolated, weighted, Layout};
 
 /// What an accepted call that sifts answers.
 #[derive(Debug, PartialEq)]
 pub struct Answers {
-    pub saving: u32,
+    pub saving: u64,
     /// The rounds run; 1 where the call doesn't answer them.
     pub rounds: u32,
     /// Whether it says `yes`.
@@ -72,10 +72,11 @@ fn check_accepted(step: &Step) -> Result<(), String> {
 }
 
 /// How many places can be best in so many rounds: for each sift one or more,
-/// for an isolated vertex, and where all edges are there, every place.
+/// for an isolated vertex, and where all edges are there and weigh the same,
+/// every place.
 fn possible_optima(step: &Step, rounds: u32) -> RangeInclusive<u64> {
     let n = step.n();
-    let free = if step.m() == possible(n) {
+    let free = if is_even(&step.before) {
         (0..n).collect()
     } else {
         isolated(&step.before)
@@ -88,6 +89,13 @@ fn possible_optima(step: &Step, rounds: u32) -> RangeInclusive<u64> {
     let of_each_round = [sifts - free + free * places, sifts * places];
     let [least, most] = of_each_round.map(|optima| u64::from(rounds) * optima as u64);
     least..=most
+}
+
+/// Whether a layout has all edges, and they all have one weight.
+fn is_even(layout: &Layout) -> bool {
+    let edges = weighted(layout);
+    let even = edges.windows(2).all(|two| two[0].1 == two[1].1);
+    even && edges.len() == possible(layout.n as usize)
 }
 
 /// Whether a sift is what the naive model makes of the layout before it.
@@ -137,10 +145,21 @@ mod tests {
     use crate::make::records;
     use crate::naive::play::play;
 
-    /// Calls on vertices in rising order, and what is printed.
-    fn played(n: usize, edges: &[Edge], calls: &[Record]) -> (Vec<u8>, String) {
-        let (edges, order) = (edges.to_vec(), vertices(n));
-        let mut list = records::chart(&Chart::of(&Graph { edges, order }).bytes());
+    /// Vertices in rising order.
+    fn graph(n: usize, edges: &[Edge]) -> Graph {
+        Graph::of(edges.to_vec(), vertices(n))
+    }
+
+    /// The same with weights.
+    fn heavy(n: usize, edges: &[Edge], weights: &[u8]) -> Graph {
+        let mut graph = graph(n, edges);
+        graph.weights = Some(weights.to_vec());
+        graph
+    }
+
+    /// Calls on a graph, and what is printed.
+    fn played(graph: &Graph, calls: &[Record]) -> (Vec<u8>, String) {
+        let mut list = records::chart(&Chart::of(graph).bytes());
         list.extend(calls.iter().flat_map(|&call| records::bytes(call)));
         let lines = play(&list);
         (list, lines)
@@ -177,7 +196,7 @@ mod tests {
 
     #[test]
     fn optima_that_cannot_be_are_found() {
-        let (list, lines) = played(4, &FIRST, &CALLS);
+        let (list, lines) = played(&graph(4, &FIRST), &CALLS);
         assert_eq!(check_lines(&list, &lines, check_line), Ok(()));
         for change in [
             (2, "sift 0 1 2 n", "sift 0 1 0 n"),
@@ -199,7 +218,7 @@ mod tests {
     /// any, and for an isolated vertex beside others.
     #[test]
     fn fewer_optima_than_all_are_found() {
-        let (list, lines) = played(4, &all_pairs(4), &CALLS);
+        let (list, lines) = played(&graph(4, &all_pairs(4)), &CALLS);
         for change in [
             (2, "sift 0 0 3 n", "sift 0 0 2 n"),
             (3, "round 0 0 0 12 n", "round 0 0 0 11 n"),
@@ -207,11 +226,14 @@ mod tests {
         ] {
             change_found(&list, &lines, check_line, change);
         }
-        let (list, lines) = played(3, &[], &CALLS);
+        let (list, lines) = played(&graph(3, &[]), &CALLS);
         let change = (3, "round 0 0 0 6 n", "round 0 0 0 5 n");
         change_found(&list, &lines, check_line, change);
-        let (list, lines) = played(5, &FIRST, &[[SIFT, 4, 0, 0]]);
+        let (list, lines) = played(&graph(5, &FIRST), &[[SIFT, 4, 0, 0]]);
         let change = (2, "sift 0 0 4 n", "sift 0 0 3 n");
+        change_found(&list, &lines, check_line, change);
+        let (list, lines) = played(&heavy(4, &all_pairs(4), &[7; 6]), &CALLS);
+        let change = (3, "round 0 0 0 12 n", "round 0 0 0 11 n");
         change_found(&list, &lines, check_line, change);
         for (n, change) in [
             (1, (2, "sift 0 0 0 n", "sift 0 0 1 n")),
@@ -219,12 +241,29 @@ mod tests {
             (2, (2, "sift 0 0 1 n", "sift 0 0 0 n")),
             (2, (2, "sift 0 0 1 n", "sift 0 0 2 n")),
         ] {
-            let (list, lines) = played(n, &[], &CALLS);
+            let (list, lines) = played(&graph(n, &[]), &CALLS);
             change_found(&list, &lines, check_line, change);
         }
-        let (list, lines) = played(0, &[], &CALLS);
+        let (list, lines) = played(&graph(0, &[]), &CALLS);
         let change = (4, "settle 0 0 1 yes 0 n", "settle 0 0 1 yes 1 n");
         change_found(&list, &lines, check_line, change);
+    }
+
+    /// With all edges, but of several weights, one place may be best; and the
+    /// naive model goes by weight.
+    #[test]
+    fn a_sift_by_number_is_found() {
+        let four = heavy(4, &all_pairs(4), &[1, 2, 1, 2, 3, 1]);
+        let (list, lines) = played(&four, &CALLS);
+        assert_eq!(check_lines(&list, &lines, check_line), Ok(()));
+        assert_eq!(check_lines(&list, &lines, check_sift), Ok(()));
+        for change in [
+            (2, "sift 0 5 1 n", "sift 0 0 3 n"),
+            (2, "sift 0 5 1 n", "sift 0 1 1 n"),
+            (2, "order 1 2 0 3", "order 0 1 2 3"),
+        ] {
+            change_found(&list, &lines, check_sift, change);
+        }
     }
 
     #[test]
@@ -235,7 +274,7 @@ mod tests {
             [SET_N, 5, 0, 0],
             [ROUND, 0, 0, 0],
         ];
-        let (list, lines) = played(4, &FIRST, &refused);
+        let (list, lines) = played(&graph(4, &FIRST), &refused);
         assert_eq!(check_lines(&list, &lines, check_line), Ok(()));
         for change in [
             (2, "sift 12 0 0 n", "sift 12 0 2 n"),
@@ -250,7 +289,7 @@ mod tests {
 
     #[test]
     fn another_sift_than_the_naive_model_s_is_found() {
-        let (list, lines) = played(4, &FIRST, &[[SIFT, 0, 0, 0], [SIFT, 4, 0, 0]]);
+        let (list, lines) = played(&graph(4, &FIRST), &[[SIFT, 0, 0, 0], [SIFT, 4, 0, 0]]);
         assert_eq!(check_lines(&list, &lines, check_sift), Ok(()));
         for change in [
             (2, "sift 0 1 2 n", "sift 0 1 1 n"),
@@ -273,7 +312,7 @@ mod tests {
             [SET_COUNT, 7, 0, 0],
             [SIFT, 1, 0, 0],
         ];
-        let (list, lines) = played(4, &FIRST, &calls);
+        let (list, lines) = played(&graph(4, &FIRST), &calls);
         let first = lines.replacen("sift 0 1 2 n", "sift 0 1 3 n", 1);
         let again = |wrong: &str| lines.replacen("sift 0 0 2 n", wrong, 1);
         let checked = |lines: &str| check_pairs(&list, lines, check_again);

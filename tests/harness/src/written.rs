@@ -107,12 +107,40 @@ pub fn is_read_back(last: &Step, step: &Step) -> bool {
     }
 }
 
+/// The charts of two starts, if four lines in a row start from one, write it,
+/// start from another of the same layout, and write that.
+pub fn alike<'a>(four: &[Step<'a>]) -> Option<(&'a [u8], &'a [u8])> {
+    let [first, one_written, second, other_written] = four else {
+        return None;
+    };
+    let (Entry::Chart(one), Entry::Chart(other)) = (&first.entry, &second.entry) else {
+        return None;
+    };
+    let goes_on = first.after == one_written.before && second.after == other_written.before;
+    let both_written = [one_written, other_written]
+        .iter()
+        .all(|step| step.answer() == Some(("write", 0)));
+    let [one_read, other_read] = [one, other].map(|chart| read(chart));
+    let same = one_read == other_read && one_read.0 == 0;
+    (goes_on && both_written && same).then_some((*one, *other))
+}
+
+/// Whether two charts of the same layout, however they list their edges and
+/// whether they have weights of 1 or none, are written alike.
+pub fn check_alike(four: &[Step]) -> Result<(), String> {
+    if alike(four).is_none() || written(four[1].line) == written(four[3].line) {
+        Ok(())
+    } else {
+        Err("another chart than that written of the same layout before".to_string())
+    }
+}
+
 #[cfg(test)]
 mod tests {
     use super::*;
-    use crate::followed::{change_found, check_lines, steps};
+    use crate::followed::{change_found, check_fours, check_lines, steps};
     use crate::make::charts::Chart;
-    use crate::make::graph::Graph;
+    use crate::make::graph::{Edge, Graph};
     use crate::make::ops::{MOVE, SET_COUNT, SET_N};
     use crate::make::records;
     use crate::naive::play::play;
@@ -121,7 +149,7 @@ mod tests {
     /// into 19, read back, and spoilt.
     fn list() -> Vec<u8> {
         let (edges, order) = (vec![(3, 1), (0, 2)], vec![0, 1, 2, 3]);
-        let start = records::chart(&Chart::of(&Graph { edges, order }).bytes());
+        let start = records::chart(&Chart::of(&Graph::of(edges, order)).bytes());
         let sorted = [
             0x44, 0, 1, 4, 0x4C, 0, 4, 0, 2, 1, 3, 0x52, 0, 4, 0, 1, 2, 3,
         ];
@@ -209,7 +237,7 @@ mod tests {
     /// true one, counted into 2 entries, into 3 and into 4, and spoilt.
     fn list_of_tables() -> Vec<u8> {
         let (edges, order) = (vec![(3, 1), (0, 2), (1, 0)], vec![0, 1, 2, 3]);
-        let start = records::chart(&Chart::of(&Graph { edges, order }).bytes());
+        let start = records::chart(&Chart::of(&Graph::of(edges, order)).bytes());
         let calls = [
             [SET_COUNT, 9, 0, 0],
             [PERLINK, 2, 6, 0],
@@ -225,7 +253,8 @@ mod tests {
     fn a_wrong_table_or_number_of_edges_is_found() {
         let (list, lines) = (list_of_tables(), play(&list_of_tables()));
         assert_eq!(check_lines(&list, &lines, check_line), Ok(()));
-        let (exact, longer) = ("3 table 0 1 1 n", "3 table 0 1 1 4294967295 n");
+        let most = u64::MAX;
+        let (exact, longer) = ("3 table 0 1 1 n", &format!("3 table 0 1 1 {most} n"));
         assert!(lines.contains(exact) && lines.contains(longer));
         for (line, from, to, due) in [
             (2, "perlink 23 0", "perlink 23 2", "not what"),
@@ -250,15 +279,15 @@ mod tests {
             ),
             (
                 4,
-                "4294967295 n 4 order 0 1",
-                "4294967295 n 4 order 1 0",
+                "551615 n 4 order 0 1",
+                "551615 n 4 order 1 0",
                 "with 0 crossings",
             ),
-            (4, "4294967295 n 4", "4294967295 n 3", "not valid"),
+            (4, "551615 n 4", "551615 n 3", "not valid"),
             (
                 4,
-                "count 9 words\nperlink 11",
-                "count 1 words\nperlink 11",
+                "count 9 words weights\nperlink 11",
+                "count 1 words weights\nperlink 11",
                 "not what",
             ),
             (5, "perlink 11 0", "perlink 23 0", "not what"),
@@ -288,8 +317,8 @@ mod tests {
             (3, "write 0 18", "write 0 20", "not what"),
             (
                 3,
-                "count 9 words\nchart",
-                "count 1 words\nchart",
+                "count 9 words weights\nchart",
+                "count 1 words weights\nchart",
                 "not what",
             ),
             (5, "write 11 0", "write 19 0", "not what"),
@@ -297,5 +326,69 @@ mod tests {
             let text = change_found(&list, &lines, check_line, (line, from, to));
             assert!(text.contains(due), "{to}: {text}");
         }
+    }
+
+    /// Document 01's first ring with the weights 2 and 3, listed in two ways and
+    /// written each time; the crossings of its edges counted; and exported.
+    fn list_of_weights() -> Vec<u8> {
+        let listed = |edges: [Edge; 2], weights: [u8; 2]| {
+            let mut graph = Graph::of(edges.to_vec(), vec![0, 1, 2, 3]);
+            graph.weights = Some(weights.to_vec());
+            records::chart(&Chart::of(&graph).bytes())
+        };
+        let write = records::bytes([WRITE, 23, 7, 0]);
+        let calls = [[PERLINK, 3, 8, 0], [EXPORT, 2, 7, 0], [EXPORT, 1, 7, 0]];
+        [
+            listed([(3, 1), (0, 2)], [3, 2]),
+            write.clone(),
+            listed([(2, 0), (3, 1)], [2, 3]),
+            write,
+            calls.map(records::bytes).concat(),
+        ]
+        .concat()
+    }
+
+    #[test]
+    fn wrong_weights_and_numbers_by_weight_are_found() {
+        let (list, lines) = (list_of_weights(), play(&list_of_weights()));
+        assert_eq!(check_lines(&list, &lines, check_line), Ok(()));
+        let (weights, table) = ("87 0 2 2 3 n", "2 table 6 6 8 n");
+        assert!(lines.contains(weights) && lines.contains(table));
+        for (line, from, to, due) in [
+            (2, weights, "87 0 2 3 2 n", "another layout"),
+            (2, weights, "87 0 2 2 2 n", "another layout"),
+            (2, weights, "87 0 2 2 0 n", "gets refusal 25"),
+            (2, weights, "87 0 1 2 3 n", "gets refusal 2"),
+            (2, "write 0 23", "write 0 18", "another layout"),
+            (5, table, "2 table 1 1 8 n", "with 6 crossings"),
+            (5, table, "2 table 5 5 8 n", "with 6 crossings"),
+            (5, table, "2 table 4 8 8 n", "not what"),
+            (6, "export 26 0", "export 0 2", "gets refusal 20"),
+            (6, "export 26 0", "export 19 0", "not what"),
+            (
+                7,
+                "export 26 0 buffer 7 n",
+                "export 19 0 buffer 7 n",
+                "not what",
+            ),
+        ] {
+            let text = change_found(&list, &lines, check_line, (line, from, to));
+            assert!(text.contains(due), "{to}: {text}");
+        }
+    }
+
+    #[test]
+    fn the_same_layout_written_otherwise_is_found() {
+        let (list, lines) = (list_of_weights(), play(&list_of_weights()));
+        assert_eq!(check_fours(&list, &lines, check_alike), Ok(()));
+        let last = lines.rfind("write 0 23").expect("a write");
+        for (from, to) in [("87 0 2 2 3", "87 0 2 3 2"), ("0 2 1 3", "1 3 0 2")] {
+            let wrong = [&lines[..last], &lines[last..].replacen(from, to, 1)].concat();
+            assert_ne!(wrong, lines, "{from}");
+            let (line, text) = check_fours(&list, &wrong, check_alike).expect_err(to);
+            assert_eq!(line, 4, "{text}");
+        }
+        let other = lines.replacen("write 0 23", "write 19 0", 1);
+        assert_eq!(check_fours(&list, &other, check_alike), Ok(()));
     }
 }

@@ -83,22 +83,25 @@ fn two_vertices(layout: &Layout, a: u64, b: u64) -> [Check; 2] {
     [(a < layout.n && b < layout.n, 12), (a != b, 13)]
 }
 
-/// Link and unlink, but for the last check.
-fn flip_edge(layout: Layout, a: u64, b: u64, last: Check) -> Answer<()> {
+/// Link, with a weight.
+pub fn add_edge(layout: Layout, a: u64, b: u64, weight: u8) -> Answer<()> {
     let [there, differ] = two_vertices(&layout, a, b);
-    answer(layout, &[there, differ, last], |layout| {
-        counting(layout, |layout| layout.flip_edge(a as usize, b as usize))
+    let unlinked = (!layout.has_edge(a, b), 14);
+    let checks = [there, differ, unlinked, (weight != 0, 25)];
+    answer(layout, &checks, |layout| {
+        counting(layout, |layout| {
+            layout.put_edge(a as usize, b as usize, weight)
+        })
     })
-}
-
-/// Link.
-pub fn add_edge(layout: Layout, a: u64, b: u64) -> Answer<()> {
-    flip_edge(layout, a, b, (!layout.has_edge(a, b), 14))
 }
 
 /// Unlink.
 pub fn remove_edge(layout: Layout, a: u64, b: u64) -> Answer<()> {
-    flip_edge(layout, a, b, (layout.has_edge(a, b), 15))
+    let [there, differ] = two_vertices(&layout, a, b);
+    let linked = (layout.has_edge(a, b), 15);
+    answer(layout, &[there, differ, linked], |layout| {
+        counting(layout, |layout| layout.cut_edge(a as usize, b as usize))
+    })
 }
 
 /// Move a behind b.
@@ -109,7 +112,7 @@ pub fn move_after(layout: Layout, a: u64, b: u64) -> Answer<()> {
 }
 
 /// Lay from a vertex. Answers the tally.
-pub fn greedy_append(layout: Layout, start: u64) -> Answer<u32> {
+pub fn greedy_append(layout: Layout, start: u64) -> Answer<u64> {
     answer(layout, &[(start < layout.n, 12)], |layout| {
         reordering(layout, |circle| {
             let appended = append::greedy_append(circle, start as usize);
@@ -141,7 +144,7 @@ pub fn converge(layout: Layout, limit: u32) -> Answer<Convergence> {
 }
 
 /// The carried count.
-pub fn count(layout: Layout) -> Answer<u32> {
+pub fn count(layout: Layout) -> Answer<u64> {
     answer(layout, &[], |layout| layout.count)
 }
 
@@ -154,12 +157,13 @@ pub fn order(layout: Layout, buffer: &mut [u8]) -> Answer<()> {
     })
 }
 
-/// What is made of a layout, written to the first entries of what is lent, which
-/// is refused with some number if it has too few. Answers how many are written.
+/// What is made of a layout, written to the first entries of what is lent, if
+/// it passes some checks and then has room, which is a check with a number too.
+/// Answers how many are written.
 fn write<E: Copy>(
     layout: Layout,
-    lent: &mut [E],
-    number: u8,
+    checks: &[Check],
+    (lent, number): (&mut [E], u8),
     make: fn(&Layout) -> Vec<E>,
 ) -> Answer<usize> {
     let made = if layout.is_valid() {
@@ -168,7 +172,8 @@ fn write<E: Copy>(
         Vec::new()
     };
     let length = made.len();
-    answer(layout, &[(length <= lent.len(), number)], |_| {
+    let room = (length <= lent.len(), number);
+    answer(layout, &[checks, &[room]].concat(), |_| {
         lent[..length].copy_from_slice(&made);
         length
     })
@@ -176,18 +181,19 @@ fn write<E: Copy>(
 
 /// The chart.
 pub fn write_chart(layout: Layout, buffer: &mut [u8]) -> Answer<usize> {
-    write(layout, buffer, 19, chart::bytes)
+    write(layout, &[], (buffer, 19), chart::bytes)
 }
 
-/// Export: the graph6.
+/// Export: the graph6, which has no place for weights.
 pub fn write_graph6(layout: Layout, buffer: &mut [u8]) -> Answer<usize> {
-    write(layout, buffer, 19, graph6::bytes)
+    let unweighted = (!layout.is_weighted(), 26);
+    write(layout, &[unweighted], (buffer, 19), graph6::bytes)
 }
 
 /// The crossings of each edge (document 02, Note 7), the edges in the sequence
 /// of the chart. Answers how many edges there are.
-pub fn edge_crossings(layout: Layout, table: &mut [u32]) -> Answer<usize> {
-    write(layout, table, 23, |layout| {
+pub fn edge_crossings(layout: Layout, table: &mut [u64]) -> Answer<usize> {
+    write(layout, &[], (table, 23), |layout| {
         crossings::edge_crossings(&Circle::new(layout))
     })
 }

@@ -4,15 +4,16 @@ use std::collections::BTreeSet;
 
 use crate::circle::Circle;
 use crate::crossings::counted;
-use crate::layout::{Layout, PLACES};
+use crate::layout::{Layout, WeightedEdge, PLACES};
 
 /// The longest input that passes the first check.
 pub const MAX_BYTES: usize = 8192;
 
-/// The tags of a chart's three fields.
+/// The tags of a chart's fields. The last may be missing.
 const SIZE: u8 = 0x44;
 const EDGES: u8 = 0x4C;
 const ORDER: u8 = 0x52;
+const WEIGHTS: u8 = 0x57;
 
 /// Reads a chart into a layout that carries its crossings, or gives the number
 /// of the first check (document 01: question) that fails.
@@ -21,8 +22,12 @@ pub fn read(input: &[u8]) -> Result<Layout, u8> {
         return Err(1);
     }
     let fields = fields(input).ok_or(2)?;
-    let [(SIZE, size), (EDGES, edges), (ORDER, order)] = fields[..] else {
-        return Err(3);
+    let (size, edges, order, weights) = match fields[..] {
+        [(SIZE, size), (EDGES, edges), (ORDER, order)] => (size, edges, order, None),
+        [(SIZE, size), (EDGES, edges), (ORDER, order), (WEIGHTS, weights)] => {
+            (size, edges, order, Some(weights))
+        }
+        _ => return Err(3),
     };
     let n = match *size {
         [n] if usize::from(n) <= PLACES => n,
@@ -34,7 +39,10 @@ pub fn read(input: &[u8]) -> Result<Layout, u8> {
     if !sorted.into_iter().eq(0..n) {
         return Err(8);
     }
-    Ok(counted(order, &edges))
+    let weights = read_weights(weights, edges.len())?;
+    let weighted = edges.into_iter().zip(weights);
+    let weighted: Vec<WeightedEdge> = weighted.map(|((a, b), weight)| (a, b, weight)).collect();
+    Ok(counted(order, &weighted))
 }
 
 /// Divides the input into fields of tag and body.
@@ -66,18 +74,40 @@ fn read_edges(body: &[u8], n: u8) -> Result<Vec<(u8, u8)>, u8> {
     Ok(edges)
 }
 
+/// The weights of m edges, each 1 where the field is missing.
+fn read_weights(body: Option<&[u8]>, m: usize) -> Result<Vec<u8>, u8> {
+    let Some(body) = body else {
+        return Ok(vec![1; m]);
+    };
+    if body.len() != m {
+        return Err(24);
+    }
+    if body.contains(&0) {
+        return Err(25);
+    }
+    Ok(body.to_vec())
+}
+
 /// The chart of a valid layout: its edges lower end first, sorted by lower,
-/// then by higher end.
+/// then by higher end, and their weights, unless each is 1.
 pub fn bytes(layout: &Layout) -> Vec<u8> {
     let circle = Circle::new(layout);
-    let edges = circle.edges().into_iter();
-    let ends: Vec<usize> = edges.flat_map(|(a, b)| [a, b]).collect();
-    [
+    let ends: Vec<usize> = circle
+        .edges()
+        .into_iter()
+        .flat_map(<[_; 2]>::from)
+        .collect();
+    let mut fields = vec![
         field(SIZE, &[circle.n()]),
         field(EDGES, &ends),
         field(ORDER, circle.order()),
-    ]
-    .concat()
+    ];
+    if layout.is_weighted() {
+        let edges = circle.weighted_edges().into_iter();
+        let weights: Vec<usize> = edges.map(|(_, weight)| weight as usize).collect();
+        fields.push(field(WEIGHTS, &weights));
+    }
+    fields.concat()
 }
 
 /// A field: its tag, the length of its body, and the body.

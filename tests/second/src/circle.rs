@@ -1,17 +1,24 @@
 //! A valid layout with adjacency lists sorted along the order, as the proof of
-//! Theorem 3 of document 004 keeps them.
+//! Theorem 3 of document 004 keeps them, each neighbour with its edge's weight.
 
 use crate::layout::{Layout, PLACES};
 
 /// An edge (document 01: link), lower end first.
 pub type Edge = (usize, usize);
 
+/// A neighbour of some vertex, and the weight of the edge that leads to it.
+#[derive(Clone, Copy, Debug, PartialEq, Eq)]
+pub struct Neighbour {
+    pub vertex: usize,
+    pub weight: u64,
+}
+
 /// The order, its inverse, and each vertex's neighbours by rising position.
 #[derive(Clone, Debug)]
 pub struct Circle {
     order: Vec<usize>,
     position: Vec<usize>,
-    adjacency: Vec<Vec<usize>>,
+    adjacency: Vec<Vec<Neighbour>>,
 }
 
 impl Circle {
@@ -19,9 +26,12 @@ impl Circle {
     pub fn new(layout: &Layout) -> Circle {
         let n = layout.n as usize;
         let neighbours = |v: usize| {
-            (0..n)
-                .filter(|&w| layout.has_edge(v as u64, w as u64))
-                .collect()
+            let joined = (0..n).filter(|&w| layout.has_edge(v as u64, w as u64));
+            let with_weight = |vertex| Neighbour {
+                vertex,
+                weight: layout.weights[v][vertex].into(),
+            };
+            joined.map(with_weight).collect()
         };
         let mut circle = Circle {
             order: Vec::new(),
@@ -38,10 +48,10 @@ impl Circle {
     pub fn reorder(&mut self, order: Vec<usize>) {
         let empty = vec![Vec::new(); order.len()];
         let unsorted = std::mem::replace(&mut self.adjacency, empty);
-        for (place, &v) in order.iter().enumerate() {
-            self.position[v] = place;
-            for &w in &unsorted[v] {
-                self.adjacency[w].push(v);
+        for (place, &vertex) in order.iter().enumerate() {
+            self.position[vertex] = place;
+            for &Neighbour { vertex: w, weight } in &unsorted[vertex] {
+                self.adjacency[w].push(Neighbour { vertex, weight });
             }
         }
         self.order = order;
@@ -81,7 +91,7 @@ impl Circle {
     }
 
     /// The neighbours of v by rising position.
-    pub fn neighbours(&self, v: usize) -> &[usize] {
+    pub fn neighbours(&self, v: usize) -> &[Neighbour] {
         &self.adjacency[v]
     }
 
@@ -97,9 +107,9 @@ impl Circle {
 
     /// The neighbours of v in the sequence in which they are met clockwise
     /// from the vertex `head`: the sorted list, read cyclically.
-    pub fn neighbours_from(&self, v: usize, head: usize) -> impl Iterator<Item = usize> + '_ {
+    pub fn neighbours_from(&self, v: usize, head: usize) -> impl Iterator<Item = Neighbour> + '_ {
         let list = &self.adjacency[v];
-        let start = list.partition_point(|&w| self.position[w] < self.position[head]);
+        let start = list.partition_point(|w| self.position[w.vertex] < self.position[head]);
         list[start..].iter().chain(&list[..start]).copied()
     }
 
@@ -111,9 +121,16 @@ impl Circle {
 
     /// The edges, sorted by lower, then by higher end.
     pub fn edges(&self) -> Vec<Edge> {
+        let edges = self.weighted_edges().into_iter();
+        edges.map(|(edge, _)| edge).collect()
+    }
+
+    /// The same, each with its weight.
+    pub fn weighted_edges(&self) -> Vec<(Edge, u64)> {
         let mut edges = Vec::new();
         for (v, list) in self.adjacency.iter().enumerate() {
-            edges.extend(list.iter().filter(|&&w| v < w).map(|&w| (v, w)));
+            let higher = list.iter().filter(|w| v < w.vertex);
+            edges.extend(higher.map(|w| ((v, w.vertex), w.weight)));
         }
         edges.sort_unstable();
         edges

@@ -1,19 +1,20 @@
-//! Counting crossings, all of them and those of each edge, and finding the
-//! first one.
+//! Counting crossings by weight, all of them and those of each edge, and
+//! finding the first one. A crossing counts the product of its two edges'
+//! weights (document 02, Note 8).
 
 use crate::circle::{Circle, Edge};
-use crate::layout::Layout;
+use crate::layout::{Layout, WeightedEdge};
 
 /// A layout of the vertices in `order` with these edges that carries its
 /// crossings.
-pub fn counted(order: &[u8], edges: &[(u8, u8)]) -> Layout {
+pub fn counted(order: &[u8], edges: &[WeightedEdge]) -> Layout {
     let mut layout = Layout::new(order, edges);
     layout.count = crossings(&Circle::new(&layout));
     layout
 }
 
 /// The sums of the first 0, 1, 2 and so on numbers.
-pub fn prefix_sums(numbers: &[u32]) -> Vec<u32> {
+pub fn prefix_sums(numbers: &[u64]) -> Vec<u64> {
     let mut sums = vec![0];
     for (i, number) in numbers.iter().enumerate() {
         sums.push(sums[i] + number);
@@ -23,22 +24,23 @@ pub fn prefix_sums(numbers: &[u32]) -> Vec<u32> {
 
 /// The crossings of a layout, found in one sweep along the order. An edge is
 /// open while the sweep stands between its ends. Where it closes, it crosses
-/// the open edges that began after it.
-pub fn crossings(circle: &Circle) -> u32 {
+/// the open edges that began after it, all of them together by their weights.
+pub fn crossings(circle: &Circle) -> u64 {
     let mut total = 0;
     let mut open = vec![0; circle.n()];
     for (place, &v) in circle.order().iter().enumerate() {
-        let starts = circle.neighbours(v).iter().map(|&w| circle.position(w));
-        let closing: Vec<usize> = starts.take_while(|&start| start < place).collect();
-        for &start in &closing {
-            open[start] -= 1;
+        let neighbours = circle.neighbours(v).iter();
+        let edges = neighbours.map(|w| (circle.position(w.vertex), w.weight));
+        let (closing, opening): (Vec<_>, Vec<_>) = edges.partition(|&(other, _)| other < place);
+        for &(start, weight) in &closing {
+            open[start] -= weight;
         }
         let before = prefix_sums(&open[..place]);
         let crossed = closing
             .iter()
-            .map(|&start| before[place] - before[start + 1]);
-        total += crossed.sum::<u32>();
-        open[place] = (circle.neighbours(v).len() - closing.len()) as u32;
+            .map(|&(start, weight)| weight * (before[place] - before[start + 1]));
+        total += crossed.sum::<u64>();
+        open[place] = opening.iter().map(|&(_, weight)| weight).sum();
     }
     total
 }
@@ -46,32 +48,33 @@ pub fn crossings(circle: &Circle) -> u32 {
 /// The crossings that each edge takes part in, the edges in their sequence. An
 /// edge is crossed by those that lead from a place between its ends to one
 /// outside.
-pub fn edge_crossings(circle: &Circle) -> Vec<u32> {
-    let before = neighbours_before(circle);
-    let crossed = |(a, b): Edge| {
+pub fn edge_crossings(circle: &Circle) -> Vec<u64> {
+    let before = weights_before(circle);
+    let crossed = |((a, b), weight): (Edge, u64)| {
         let (a, b) = (circle.position(a), circle.position(b));
         let (first, last) = (a.min(b), a.max(b));
-        let outside = |of: &Vec<u32>| of[first] + of[circle.n()] - of[last + 1];
-        before[first + 1..last].iter().map(outside).sum()
+        let outside = |of: &Vec<u64>| of[first] + of[circle.n()] - of[last + 1];
+        let across: u64 = before[first + 1..last].iter().map(outside).sum();
+        weight * across
     };
-    circle.edges().into_iter().map(crossed).collect()
+    circle.weighted_edges().into_iter().map(crossed).collect()
 }
 
-/// For each place, how many neighbours its vertex has in the first 0, 1, 2 and
-/// so on places.
-fn neighbours_before(circle: &Circle) -> Vec<Vec<u32>> {
+/// For each place, the weights of its vertex's edges to the first 0, 1, 2 and
+/// so on places, summed.
+fn weights_before(circle: &Circle) -> Vec<Vec<u64>> {
     let of_vertex = |&v: &usize| {
-        let mut joined = vec![0; circle.n()];
-        for &w in circle.neighbours(v) {
-            joined[circle.position(w)] = 1;
+        let mut weights = vec![0; circle.n()];
+        for w in circle.neighbours(v) {
+            weights[circle.position(w.vertex)] = w.weight;
         }
-        prefix_sums(&joined)
+        prefix_sums(&weights)
     };
     circle.order().iter().map(of_vertex).collect()
 }
 
 /// The lowest first edge that crosses another, with the lowest that it
-/// crosses (document 01: the shown crossing pair).
+/// crosses (document 01: the shown crossing pair). Weights don't matter.
 pub fn first_crossing(circle: &Circle) -> Option<(Edge, Edge)> {
     let edges = circle.edges();
     let across = |&first: &Edge| {

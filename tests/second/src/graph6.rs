@@ -6,7 +6,7 @@ use std::ops::RangeInclusive;
 
 use crate::circle::Circle;
 use crate::crossings::counted;
-use crate::layout::Layout;
+use crate::layout::{Layout, WeightedEdge};
 
 /// Each byte stands for so many bits, the high one first.
 const BITS: usize = 6;
@@ -21,8 +21,8 @@ const LONG: u8 = OFFSET + 63;
 const SHORT_SIZES: RangeInclusive<usize> = 0..=62;
 const LONG_SIZES: RangeInclusive<usize> = 63..=64;
 
-/// Reads a graph6 into a layout in rising order that carries its crossings, or
-/// gives the number of the first check that fails.
+/// Reads a graph6 into a layout in rising order with weights of 1 that carries
+/// its crossings, or gives the number of the first check that fails.
 pub fn read(input: &[u8]) -> Result<Layout, u8> {
     let (n, data) = read_size(input).ok_or(20)?;
     let bits: Option<Vec<usize>> = data.iter().map(|&byte| bits_of(byte)).collect();
@@ -35,8 +35,8 @@ pub fn read(input: &[u8]) -> Result<Layout, u8> {
         return Err(22);
     }
     let below = |w: usize| (0..w).filter(move |v| is_set(column(w) + v));
-    let edges = |w: usize| below(w).map(move |v| (v as u8, w as u8));
-    let edges: Vec<(u8, u8)> = (0..n).flat_map(edges).collect();
+    let edges = |w: usize| below(w).map(move |v| (v as u8, w as u8, 1));
+    let edges: Vec<WeightedEdge> = (0..n).flat_map(edges).collect();
     let order: Vec<u8> = (0..n as u8).collect();
     Ok(counted(&order, &edges))
 }
@@ -76,7 +76,7 @@ fn mask(bit: usize) -> usize {
     1 << (BITS - 1) >> (bit % BITS)
 }
 
-/// The graph6 of a valid layout. Each vertex has the bits of its neighbours
+/// The graph6 of a valid layout, which drops weights. Each vertex has the bits of its neighbours
 /// with lower numbers, which stand first in its sorted list.
 pub fn bytes(layout: &Layout) -> Vec<u8> {
     let mut circle = Circle::new(layout);
@@ -84,8 +84,8 @@ pub fn bytes(layout: &Layout) -> Vec<u8> {
     circle.reorder((0..n).collect());
     let mut data = vec![0; column(n).div_ceil(BITS)];
     for w in 0..n {
-        for v in circle.neighbours(w).iter().take_while(|&&v| v < w) {
-            let bit = column(w) + v;
+        for v in circle.neighbours(w).iter().take_while(|v| v.vertex < w) {
+            let bit = column(w) + v.vertex;
             data[bit / BITS] |= mask(bit);
         }
     }

@@ -1,6 +1,6 @@
 //! A second program, written from documents 004, 01 and 02 alone, with sorted
-//! adjacency lists and the published algorithms. It stands beside the proved
-//! one so that the two can be compared.
+//! adjacency lists, which hold weights, and the published algorithms. It stands
+//! beside the proved one so that the two can be compared.
 //!
 //! Words of document 01 and of this code: ring = circular layout, device =
 //! vertex, link = edge, whole = valid, saving = reduction, lay = greedy append,

@@ -6,7 +6,7 @@ use std::fmt::Display;
 use crate::calls::{self, Answer, Crossing};
 use crate::chart;
 use crate::graph6;
-use crate::layout::{Layout, PLACES};
+use crate::layout::Layout;
 use crate::list::yes_or_no;
 
 /// Bytes in a record; a chart or a graph6 is padded to a multiple of it.
@@ -71,20 +71,28 @@ fn take_padded<'a>(list: &mut &'a [u8], length: u64) -> Option<&'a [u8]> {
 
 /// Sets one field, if that is what the record asks for. A place that is not
 /// there sets nothing.
-fn set_field(layout: &mut Layout, [op, a, b, _]: Record) -> bool {
-    let place = usize::try_from(a).unwrap_or(usize::MAX);
+fn set_field(layout: &mut Layout, [op, a, b, c]: Record) -> bool {
     match op {
         2 => layout.n = a,
-        3 => set_place(&mut layout.order, place, b as u8),
-        4 => set_place(&mut layout.adjacency, place, b),
-        5 => layout.count = a as u32,
+        3 => set_place(&mut layout.order, a, b as u8),
+        4 => set_place(&mut layout.adjacency, a, b),
+        5 => layout.count = a,
+        6 => {
+            if let Some(row) = place_of(&mut layout.weights, a) {
+                set_place(row, b, c as u8);
+            }
+        }
         _ => return false,
     }
     true
 }
 
-fn set_place<T>(places: &mut [T], place: usize, value: T) {
-    if let Some(held) = places.get_mut(place) {
+fn place_of<T>(places: &mut [T], place: u64) -> Option<&mut T> {
+    places.get_mut(usize::try_from(place).ok()?)
+}
+
+fn set_place<T>(places: &mut [T], place: u64, value: T) {
+    if let Some(held) = place_of(places, place) {
         *held = value;
     }
 }
@@ -106,11 +114,13 @@ fn start([op, a, _, _]: Record, list: &mut &[u8]) -> Option<Told> {
 }
 
 /// Makes one call.
-fn call(layout: Layout, [op, a, b, _]: Record) -> Option<Told> {
+fn call(layout: Layout, [op, a, b, c]: Record) -> Option<Told> {
     let limit = u32::try_from(a).unwrap_or(u32::MAX);
     Some(match op {
         16 => told("add", calls::add_vertex(layout), |v| format!(" {v}")),
-        17 => told("link", calls::add_edge(layout, a, b), |()| String::new()),
+        17 => told("link", calls::add_edge(layout, a, b, c as u8), |()| {
+            String::new()
+        }),
         18 => told("unlink", calls::remove_edge(layout, a, b), |()| {
             String::new()
         }),
@@ -156,8 +166,8 @@ fn write(
 
 /// The call `perlink`, which counts the crossings of each edge into a table.
 fn count_each(layout: Layout, length: u64, fill: u64) -> Told {
-    let table = vec![fill as u32; length.min(TABLE) as usize];
-    let count = |table: &mut [u32]| calls::edge_crossings(layout, table);
+    let table = vec![fill; length.min(TABLE) as usize];
+    let count = |table: &mut [u64]| calls::edge_crossings(layout, table);
     lent("perlink", " table", table, count, |m| format!(" {m}"))
 }
 
@@ -197,15 +207,32 @@ fn numbers(numbers: impl IntoIterator<Item = impl Display>) -> String {
     words.collect()
 }
 
-/// The answer line, with the words that differ from those before.
+/// The answer line, with the words and the weights that differ from those
+/// before.
 fn line(told: &Told, before: &Layout) -> String {
     let Told { name, refusal, .. } = told;
     let Layout { n, count, .. } = told.layout;
-    let words: String = (0..PLACES)
-        .filter(|&v| told.layout.adjacency[v] != before.adjacency[v])
-        .map(|v| format!(" {v} {}", told.layout.adjacency[v]))
-        .collect();
     let answers = &told.answers;
     let order = numbers(told.layout.order);
-    format!("{name} {refusal}{answers} n {n} order{order} count {count} words{words}\n")
+    let words: String = changed(&before.adjacency, &told.layout.adjacency)
+        .map(|(v, word)| format!(" {v} {word}"))
+        .collect();
+    let weights: String = changed(&before.weights, &told.layout.weights)
+        .flat_map(|(v, row)| changed(&before.weights[v], row).map(move |(w, x)| (v, w, x)))
+        .map(|(v, w, weight)| format!(" {v} {w} {weight}"))
+        .collect();
+    format!(
+        "{name} {refusal}{answers} n {n} order{order} count {count} \
+         words{words} weights{weights}\n"
+    )
+}
+
+/// What differs from before, with its place.
+fn changed<'a, T: PartialEq>(
+    before: &'a [T],
+    after: &'a [T],
+) -> impl Iterator<Item = (usize, &'a T)> {
+    let both = before.iter().zip(after).enumerate();
+    both.filter(|(_, (before, after))| before != after)
+        .map(|(place, (_, after))| (place, after))
 }

@@ -1,5 +1,5 @@
 //! Circular sifting: Algorithm 2 of document 004, with the places that
-//! document 01 chooses.
+//! document 01 chooses, and with weights as the end of its section 4 says.
 
 use std::cmp::Ordering;
 
@@ -9,7 +9,7 @@ use crate::circle::Circle;
 #[derive(Clone, Copy, Debug, Default, PartialEq, Eq)]
 pub struct Sift {
     /// The reduction (document 01: saving).
-    pub reduction: u32,
+    pub reduction: u64,
     /// How many of the n - 1 candidate places have the least crossings
     /// (document 02, Note 3).
     pub optima: u32,
@@ -19,7 +19,7 @@ pub struct Sift {
 #[derive(Clone, Copy, Debug, Default, PartialEq, Eq)]
 pub struct Round {
     /// The summed reduction.
-    pub reduction: u32,
+    pub reduction: u64,
     /// How many vertices moved.
     pub moved: u32,
     /// The sum of the sifts' optima.
@@ -29,7 +29,7 @@ pub struct Round {
 /// What converging (document 01: settling) answers.
 #[derive(Clone, Copy, Debug, Default, PartialEq, Eq)]
 pub struct Convergence {
-    pub reduction: u32,
+    pub reduction: u64,
     /// The rounds run, an unchanged last one included.
     pub rounds: u32,
     /// Whether the last round moved nothing (document 01: settled).
@@ -41,34 +41,36 @@ pub struct Convergence {
 /// The change of the crossing count when u, standing directly before v, is
 /// swapped with it (Lemma 1). The other vertices stand as in `circle`; where u
 /// stands there does not matter. The adjacency lists, each without the other
-/// one's vertex, are read clockwise from v and merged, and the length of the
-/// remaining suffix is added or subtracted.
+/// one's vertex, are read clockwise from v and merged, and the weights of the
+/// remaining suffix, summed, are added or subtracted as often as the edge that
+/// is passed weighs.
 pub fn swap_change(circle: &Circle, u: usize, v: usize) -> i64 {
-    let list = |of: usize, without: usize| {
-        let others = circle.neighbours_from(of, v).filter(move |&w| w != without);
-        others.map(|w| circle.distance(v, w))
+    let list = |of: usize, without: usize| -> Vec<(usize, i64)> {
+        let others = circle
+            .neighbours_from(of, v)
+            .filter(|w| w.vertex != without);
+        let met = others.map(|w| (circle.distance(v, w.vertex), w.weight as i64));
+        met.collect()
     };
-    let joined = i64::from(circle.neighbours(u).contains(&v));
-    let mut left_of_u = circle.neighbours(u).len() as i64 - joined;
-    let mut left_of_v = circle.neighbours(v).len() as i64 - joined;
-    let (mut xs, mut ys) = (list(u, v), list(v, u));
-    let (mut next_x, mut next_y) = (xs.next(), ys.next());
-    let mut change = 0;
-    while let (Some(x), Some(y)) = (next_x, next_y) {
+    let (xs, ys) = (list(u, v), list(v, u));
+    let weights = |list: &[(usize, i64)]| -> i64 { list.iter().map(|&(_, weight)| weight).sum() };
+    let (mut left_of_u, mut left_of_v) = (weights(&xs), weights(&ys));
+    let (mut i, mut j, mut change) = (0, 0, 0);
+    while let (Some(&(x, weight_of_x)), Some(&(y, weight_of_y))) = (xs.get(i), ys.get(j)) {
         let order = x.cmp(&y);
         if order != Ordering::Greater {
-            change -= left_of_v;
+            change -= weight_of_x * left_of_v;
         }
         if order != Ordering::Less {
-            change += left_of_u;
+            change += weight_of_y * left_of_u;
         }
         if order != Ordering::Greater {
-            left_of_u -= 1;
-            next_x = xs.next();
+            left_of_u -= weight_of_x;
+            i += 1;
         }
         if order != Ordering::Less {
-            left_of_v -= 1;
-            next_y = ys.next();
+            left_of_v -= weight_of_y;
+            j += 1;
         }
     }
     change
@@ -91,8 +93,10 @@ pub fn sift(circle: &mut Circle, u: usize) -> Sift {
     if let Some(v) = best {
         circle.move_after(u, v);
     }
-    let reduction = least.unsigned_abs() as u32;
-    Sift { reduction, optima }
+    Sift {
+        reduction: least.unsigned_abs(),
+        optima,
+    }
 }
 
 /// Sifts every vertex once, in rising number.

@@ -2,38 +2,43 @@
 
 mod common;
 
-use common::{all_edges, all_graphs, complete, first_ring, layout, rising, Random, FIRST};
+use common::{
+    all_edges, all_graphs, complete, first_ring, heaviest, layout, many_weighted_layouts, rising,
+    weighted, Random, FIRST,
+};
 use second::calls;
 use second::circle::{Circle, Edge};
 use second::crossings::crossings;
 use second::layout::Layout;
 
 /// The numbers of the edges, without the entries beyond them.
-fn numbers(layout: Layout) -> Vec<u32> {
+fn numbers(layout: Layout) -> Vec<u64> {
     common::written(calls::edge_crossings, layout)
 }
 
 /// The same, the other edges looked at one by one for each.
-fn one_by_one(circle: &Circle) -> Vec<u32> {
-    let places = |&(a, b): &Edge| {
+fn one_by_one(circle: &Circle) -> Vec<u64> {
+    let places = |((a, b), weight): (Edge, u64)| {
         let (a, b) = (circle.position(a), circle.position(b));
-        (a.min(b), a.max(b))
+        (a.min(b), a.max(b), weight)
     };
-    let edges: Vec<(usize, usize)> = circle.edges().iter().map(places).collect();
-    let crossed = |&(a, b): &(usize, usize)| {
-        let cross = |&&(c, d): &&(usize, usize)| a < c && c < b && b < d || c < a && a < d && d < b;
-        edges.iter().filter(cross).count() as u32
+    let edges = circle.weighted_edges().into_iter();
+    let edges: Vec<(usize, usize, u64)> = edges.map(places).collect();
+    let crossed = |&(a, b, weight): &(usize, usize, u64)| {
+        let cross = |c, d| a < c && c < b && b < d || c < a && a < d && d < b;
+        let across = edges.iter().filter(|&&(c, d, _)| cross(c, d));
+        across.map(|&(.., other)| weight * other).sum()
     };
     edges.iter().map(crossed).collect()
 }
 
 /// Each number is that of the edge, and their sum is twice the crossings. Gives
 /// the numbers.
-fn are_those_of_the_edges(layout: Layout) -> Vec<u32> {
+fn are_those_of_the_edges(layout: Layout) -> Vec<u64> {
     let circle = Circle::new(&layout);
     let numbers = numbers(layout);
     assert_eq!(numbers, one_by_one(&circle), "{layout:?}");
-    let sum: u32 = numbers.iter().sum();
+    let sum: u64 = numbers.iter().sum();
     assert_eq!(sum, 2 * crossings(&circle), "{layout:?}");
     numbers
 }
@@ -94,19 +99,34 @@ fn random_graphs() {
 #[test]
 fn all_edges_of_64_vertices() {
     let number = |(a, b): (u8, u8)| {
-        let between = u32::from(b - a - 1);
+        let between = u64::from(b - a - 1);
         between * (62 - between)
     };
-    let due: Vec<u32> = all_edges(64).into_iter().map(number).collect();
+    let due: Vec<u64> = all_edges(64).into_iter().map(number).collect();
     assert_eq!(are_those_of_the_edges(complete(64)), due);
     assert_eq!((due.len(), due.iter().max()), (2016, Some(&961)));
-    assert_eq!(due.iter().sum::<u32>(), 2 * 635_376);
+    assert_eq!(due.iter().sum::<u64>(), 2 * 635_376);
+}
+
+#[test]
+fn graphs_with_weights() {
+    many_weighted_layouts().for_each(|ring| {
+        are_those_of_the_edges(ring);
+    });
+}
+
+/// An edge alone counts its own weight and that of each edge that it crosses.
+#[test]
+fn weights_of_three_edges() {
+    let edges = [(0, 3, 2), (1, 5, 3), (2, 4, 5)];
+    assert_eq!(numbers(weighted(&rising(6), &edges)), [16, 6, 10]);
+    assert_eq!(numbers(weighted(&[0, 1, 2, 4, 3, 5], &edges)), [6, 6, 0]);
 }
 
 /// The carried count is not looked at.
 #[test]
 fn any_count_may_be_carried() {
-    for count in [0, 2, u32::MAX] {
+    for count in [0, 2, u64::MAX] {
         let ring = Layout {
             count,
             ..first_ring()
@@ -122,6 +142,7 @@ fn a_table_is_long_enough_or_untouched() {
         (first_ring(), 2),
         (complete(5), 10),
         (complete(64), 2016),
+        (heaviest(64), 2016),
     ] {
         common::is_long_enough_or_untouched(calls::edge_crossings, ring, length, 23);
     }

@@ -2,7 +2,7 @@
 
 mod common;
 
-use common::{all_edges, complete, first_ring, layout, many_layouts, rising};
+use common::{all_edges, complete, first_ring, layout, many_layouts, rising, weighted};
 use second::calls;
 use second::circle::{Circle, Edge};
 use second::graph6::read;
@@ -282,4 +282,32 @@ fn validity_is_asked_before_the_length() {
     for length in [0, 1, 2, 8192] {
         common::is_untouched(calls::write_graph6, ring, length, 11);
     }
+}
+
+/// Validity first, then weights, then the length (document 02, Note 8).
+#[test]
+fn a_weight_other_than_1_is_refused_before_the_length() {
+    for weights in [[1, 2], [2, 1], [255, 255], [3, 7]] {
+        let edges = [(0, 2, weights[0]), (1, 3, weights[1])];
+        let mut ring = weighted(&rising(4), &edges);
+        for length in [0, 1, 2, 8192] {
+            common::is_untouched(calls::write_graph6, ring, length, 26);
+        }
+        ring.weights[0][2] = 9;
+        for length in [0, 2] {
+            common::is_untouched(calls::write_graph6, ring, length, 11);
+        }
+    }
+    assert_eq!(
+        graph6_of(weighted(&rising(4), &[(0, 2, 1), (1, 3, 1)])),
+        b"CQ"
+    );
+}
+
+#[test]
+fn what_is_imported_has_weights_of_1() {
+    let ring = read(b"DQc").expect("a graph6");
+    let weights = Circle::new(&ring).weighted_edges();
+    assert_eq!(weights.len(), 4);
+    assert!(weights.iter().all(|&(_, weight)| weight == 1));
 }

@@ -1,9 +1,9 @@
 //! The incremental sums against counts from nothing, over every graph of five
-//! vertices; tallies over random graphs too.
+//! vertices, with weights and without; tallies over random graphs too.
 
 mod common;
 
-use common::{all_graphs, layout, order, Random};
+use common::{all_graphs, by_pair, of_weight, order, weighted, Random};
 use second::calls;
 use second::circle::Circle;
 use second::crossings::crossings;
@@ -13,21 +13,28 @@ use second::sifting::{swap_change, Convergence, Round};
 const ORDERS: [[u8; 5]; 3] = [[0, 1, 2, 3, 4], [3, 1, 4, 0, 2], [2, 0, 1, 4, 3]];
 
 fn all_layouts() -> impl Iterator<Item = Layout> {
-    all_graphs(5).flat_map(|edges| ORDERS.map(|order| layout(&order, &edges)))
+    let weights = [|edges: &[(u8, u8)]| of_weight(1, edges), by_pair];
+    all_graphs(5).flat_map(move |edges| {
+        let weighed = weights.map(|weigh| weigh(&edges)).into_iter();
+        weighed.flat_map(|edges| ORDERS.map(|order| weighted(&order, &edges)))
+    })
 }
 
-/// The pairs of edges whose ends alternate, counted one by one.
-fn pairwise(circle: &Circle) -> u32 {
+/// The pairs of edges whose ends alternate, one by one, each with the product
+/// of its weights.
+fn pairwise(circle: &Circle) -> u64 {
     let mut total = 0;
-    let edges = circle.edges();
+    let edges = circle.weighted_edges();
     let ends = |(a, b)| {
         let (a, b) = (circle.position(a), circle.position(b));
         (a.min(b), a.max(b))
     };
-    for &first in &edges {
-        for &second in &edges {
+    for &(first, weight) in &edges {
+        for &(second, other) in &edges {
             let ((a, b), (c, d)) = (ends(first), ends(second));
-            total += u32::from(a < c && c < b && b < d);
+            if a < c && c < b && b < d {
+                total += weight * other;
+            }
         }
     }
     total
@@ -51,7 +58,7 @@ fn a_swap_changes_the_count_by_its_sum() {
             swapped.swap(place, (place + 1) % 5);
             let mut after = circle.clone();
             after.reorder(swapped);
-            let change = i64::from(crossings(&after)) - i64::from(crossings(&circle));
+            let change = crossings(&after) as i64 - crossings(&circle) as i64;
             assert_eq!(swap_change(&circle, u, v), change, "{layout:?} {u} {v}");
         }
     }
@@ -129,9 +136,11 @@ fn a_tally_is_the_crossings_laid() {
 #[test]
 fn a_tally_is_the_crossings_laid_in_random_graphs() {
     for seed in 0..400 {
-        let mut random = Random(seed);
-        let layout = random.layout();
-        let start = random.below(layout.n as usize) as u64;
-        tally_is_what_crosses(layout, start);
+        for layout in [Random::layout, Random::weighted_layout] {
+            let mut random = Random(seed);
+            let layout = layout(&mut random);
+            let start = random.below(layout.n as usize) as u64;
+            tally_is_what_crosses(layout, start);
+        }
     }
 }

@@ -4,14 +4,14 @@ mod common;
 
 use std::cmp::Reverse;
 
-use common::{all_graphs, layout, order, rising, Random};
+use common::{all_graphs, by_pair, layout, order, rising, weighted, Random};
 use second::calls;
 use second::circle::Circle;
 use second::crossings::crossings;
 use second::layout::Layout;
 
 /// The order, the tally and the crossings of what is laid.
-type Laid = (Vec<u8>, u32, u32);
+type Laid = (Vec<u8>, u64, u64);
 
 fn laid(layout: Layout, start: u8) -> Laid {
     let laid = calls::greedy_append(layout, u64::from(start));
@@ -47,16 +47,23 @@ fn formerly_next(layout: &Layout, placed: u64) -> Option<u8> {
 }
 
 /// The crossings of the edges that v closes with open ones, v put in front and
-/// v put at the back. v is among the placed ones already.
-fn end_crossings(layout: &Layout, order: &[u8], placed: u64, v: u8) -> (u32, u32) {
-    let word = |q: u8| layout.adjacency[usize::from(q)];
-    let open = |part: &[u8]| -> u32 {
-        let open = part.iter().map(|&q| (word(q) & !placed).count_ones());
+/// v put at the back, by weight. v is among the placed ones already.
+fn end_crossings(layout: &Layout, order: &[u8], placed: u64, v: u8) -> (u64, u64) {
+    let weight = |a: u8, b: u8| u64::from(layout.weights[usize::from(a)][usize::from(b)]);
+    let unplaced = (0..layout.n as u8).filter(|w| placed >> w & 1 == 0);
+    let open = |part: &[u8]| -> u64 {
+        let open = part
+            .iter()
+            .flat_map(|&q| unplaced.clone().map(move |w| weight(q, w)));
         open.sum()
     };
-    let closing = (0..order.len()).filter(|&place| word(v) >> order[place] & 1 == 1);
-    closing.fold((0, 0), |(front, back), p| {
-        (front + open(&order[..p]), back + open(&order[p + 1..]))
+    let places = order.iter().enumerate();
+    places.fold((0, 0), |(front, back), (place, &p)| {
+        let closing = weight(v, p);
+        (
+            front + closing * open(&order[..place]),
+            back + closing * open(&order[place + 1..]),
+        )
     })
 }
 
@@ -140,21 +147,23 @@ fn only_isolated_vertices_move_in_graphs_of_five_vertices() {
         for start in 0..5 {
             let ring = layout(&rising(5), &edges);
             differ += usize::from(only_isolated_vertices_move(ring, start));
+            let ring = weighted(&rising(5), &by_pair(&edges));
+            differ += usize::from(only_isolated_vertices_move(ring, start));
         }
     }
-    assert!(differ > 100, "{differ}");
+    assert!(differ > 200, "{differ}");
 }
 
 /// A random layout from which the edges of all vertices are taken away, or of
 /// about one in two, three or four.
 fn with_isolated(random: &mut Random) -> Layout {
-    let mut ring = random.layout();
+    let mut ring = random.weighted_layout();
     let one_in = 1 + random.below(4);
     for v in 0..ring.n as usize {
         if random.below(one_in) == 0 {
             let word = ring.adjacency[v];
             for w in (0..64).filter(|w| word >> w & 1 == 1) {
-                ring.flip_edge(v, w);
+                ring.cut_edge(v, w);
             }
         }
     }

@@ -34,6 +34,12 @@ fn import(bytes: &[u8]) -> Vec<u8> {
     start(28, bytes)
 }
 
+/// What a line shows of the first ring's weights behind the empty layout.
+const SQUARE: &str = "weights 0 2 1 1 3 1 2 0 1 3 1 1";
+
+/// The first ring without weights again.
+const CLEARED: &str = "weights 0 2 0 1 3 0 2 0 0 3 1 0";
+
 fn first_ring() -> Vec<u8> {
     chart(&common::chart(&[4], &[0, 2, 1, 3], &rising(4)))
 }
@@ -55,8 +61,8 @@ fn the_worked_example() {
     let list = [first_ring(), record(&[21, 0])].concat();
     assert_eq!(list.len(), 96);
     let due = format!(
-        "chart 0 n 4 order {} count 1 words 0 4 1 8 2 1 3 2\n\
-         sift 0 1 2 n 4 order {} count 0 words\n",
+        "chart 0 n 4 order {} count 1 words 0 4 1 8 2 1 3 2 {SQUARE}\n\
+         sift 0 1 2 n 4 order {} count 0 words weights\n",
         places("0 1 2 3"),
         places("1 0 2 3")
     );
@@ -69,8 +75,9 @@ fn the_worked_example_of_graph6() {
     assert_eq!(list.len(), 96);
     let rest = format!("n 5 order {} count 1 words", places("0 1 2 3 4"));
     let due = format!(
-        "import 0 {rest} 0 20 1 8 2 1 3 18 4 9\n\
-         export 0 3 buffer 68 81 99 7 7 {rest}\n"
+        "import 0 {rest} 0 20 1 8 2 1 3 18 4 9 \
+         weights 0 2 1 0 4 1 1 3 1 2 0 1 3 1 1 3 4 1 4 0 1 4 3 1\n\
+         export 0 3 buffer 68 81 99 7 7 {rest} weights\n"
     );
     assert_eq!(play(&list), due);
 }
@@ -81,8 +88,24 @@ fn the_worked_example_of_crossings_of_each_edge() {
     assert_eq!(list.len(), 96);
     let rest = format!("n 4 order {} count 1 words", places("0 1 2 3"));
     let due = format!(
-        "chart 0 {rest} 0 4 1 8 2 1 3 2\n\
-         perlink 0 2 table 1 1 7 7 {rest}\n"
+        "chart 0 {rest} 0 4 1 8 2 1 3 2 {SQUARE}\n\
+         perlink 0 2 table 1 1 7 7 {rest} weights\n"
+    );
+    assert_eq!(play(&list), due);
+}
+
+#[test]
+fn the_worked_example_of_weights() {
+    let weighted = common::weighted_chart(&[4], &[0, 2, 1, 3], &rising(4), &[2, 3]);
+    let calls = [&[17, 0, 1, 5][..], &[30, 3, 7], &[6, 0, 1, 1], &[24]];
+    let list = [chart(&weighted), records(&calls)].concat();
+    assert_eq!(list.len(), 192);
+    let rest = format!("n 4 order {} count 6 words", places("0 1 2 3"));
+    let due = format!(
+        "chart 0 {rest} 0 4 1 8 2 1 3 2 weights 0 2 2 1 3 3 2 0 2 3 1 3\n\
+         link 0 {rest} 0 6 1 9 weights 0 1 5 1 0 5\n\
+         perlink 0 3 table 0 6 6 {rest} weights\n\
+         count 11 0 {rest} weights\n"
     );
     assert_eq!(play(&list), due);
 }
@@ -90,10 +113,12 @@ fn the_worked_example_of_crossings_of_each_edge() {
 #[test]
 fn each_call_has_its_answers() {
     let order = places("0 1 2 3");
-    let rest = format!("n 4 order {order} count 1 words");
+    let rest = format!("n 4 order {order} count 1 words weights");
     let line = |name: &str| format!("{name} {rest}");
     assert_eq!(last_line(&[&[18, 1, 2]]), line("unlink 15"));
     assert_eq!(last_line(&[&[17, 1, 1]]), line("link 13"));
+    assert_eq!(last_line(&[&[17, 1, 2]]), line("link 25"));
+    assert_eq!(last_line(&[&[17, 1, 2, 256]]), line("link 25"));
     assert_eq!(last_line(&[&[19, 1, 64]]), line("move 12"));
     assert_eq!(last_line(&[&[24]]), line("count 0 1"));
     assert_eq!(last_line(&[&[26]]), line("pair 0 pair 0 2 1 3"));
@@ -114,20 +139,27 @@ fn each_call_has_its_answers() {
     assert_eq!(last_line(&[&[29, 1, 7]]), line("export 19 0 buffer 7"));
     assert_eq!(last_line(&[&[29, 0, 7]]), line("export 19 0 buffer"));
     let counted = last_line(&[&[30, 3, (1 << 32) + 9]]);
-    assert_eq!(counted, line("perlink 0 2 table 1 1 9"));
+    assert_eq!(counted, line("perlink 0 2 table 1 1 4294967305"));
     let refused = last_line(&[&[30, 1, u64::MAX]]);
-    assert_eq!(refused, line("perlink 23 0 table 4294967295"));
+    assert_eq!(refused, line("perlink 23 0 table 18446744073709551615"));
     assert_eq!(last_line(&[&[30, 0, 7]]), line("perlink 23 0 table"));
     assert!(last_line(&[&[2, 5], &[22]]).starts_with("round 11 0 0 0 n 5 "));
     let turned = places("1 0 2 3");
-    let rest = format!("n 4 order {turned} count 0 words");
+    let rest = format!("n 4 order {turned} count 0 words weights");
     assert_eq!(last_line(&[&[22]]), format!("round 0 1 1 8 {rest}"));
     let settled = [1, 2].map(|limit| last_line(&[&[23, limit]]));
     let due = ["1 1 no 8", "1 2 yes 16"].map(|due| format!("settle 0 {due} {rest}"));
     assert_eq!(settled, due);
-    let unlinked = format!("unlink 0 n 4 order {order} count 0 words 1 0 3 0");
+    let words = "1 0 3 0 weights 1 3 0 3 1 0";
+    let unlinked = format!("unlink 0 n 4 order {order} count 0 words {words}");
     assert_eq!(last_line(&[&[18, 3, 1]]), unlinked);
-    let added = format!("add 0 4 n 5 order {} count 1 words", places("0 1 2 3 4"));
+    let words = "1 12 2 3 weights 1 2 7 2 1 7";
+    let linked = format!("link 0 n 4 order {order} count 1 words {words}");
+    for weight in [7, 256 + 7, (1 << 32) + 7] {
+        assert_eq!(last_line(&[&[17, 2, 1, weight]]), linked);
+    }
+    let rest = places("0 1 2 3 4");
+    let added = format!("add 0 4 n 5 order {rest} count 1 words weights");
     assert_eq!(last_line(&[&[16]]), added);
 }
 
@@ -168,7 +200,7 @@ fn what_is_written_can_be_read_behind_it() {
     let calls = records(&[&[5, 9], &[27, 18], &[24]]);
     let lines = play(&[first_ring(), calls, chart(&written)].concat());
     let order = places("0 1 2 3");
-    let counts = |count: u32| format!("n 4 order {order} count {count} words");
+    let counts = |count: u64| format!("n 4 order {order} count {count} words weights");
     let lines: Vec<&str> = lines.lines().collect();
     assert!(lines[1].starts_with("write 0 18 ") && lines[1].ends_with(&counts(9)));
     assert_eq!(lines[3], format!("chart 0 {}", counts(1)));
@@ -181,12 +213,12 @@ fn what_is_exported_can_be_imported_behind_it() {
     let calls = records(&[&[19, 0, 1], &[29, 2]]);
     let lines = play(&[first_ring(), calls, import(b"CQ"), import(b"CQ\n")].concat());
     let lines: Vec<&str> = lines.lines().collect();
-    let due = format!("n 4 order {} count 0 words", places("1 0 2 3"));
+    let due = format!("n 4 order {} count 0 words weights", places("1 0 2 3"));
     assert_eq!(lines[2], format!("export 0 2 buffer 67 81 {due}"));
-    let due = format!("n 4 order {} count 1 words", places("0 1 2 3"));
+    let due = format!("n 4 order {} count 1 words weights", places("0 1 2 3"));
     assert_eq!(lines[3], format!("import 0 {due}"));
     let zeros = places("");
-    let due = format!("n 0 order{zeros} count 0 words 0 0 1 0 2 0 3 0");
+    let due = format!("n 0 order{zeros} count 0 words 0 0 1 0 2 0 3 0 {CLEARED}");
     assert_eq!(lines[4], format!("import 21 {due}"));
 }
 
@@ -212,32 +244,58 @@ fn fields_are_set_without_a_word() {
         &[4, 1, 1],
         &[4, u64::MAX, 9],
         &[5, (1 << 32) + 7],
+        &[6, 0, 1, 256 + 3],
+        &[6, 1, 0, 3],
+        &[6, 0, 64, 9],
+        &[6, 64, 0, 9],
+        &[6, u64::MAX, 1 << 32, 9],
         &[24],
     ]);
-    let due = format!("count 0 7 n 3 order {} count 7 words\n", places("2 1 0"));
+    let (order, count) = (places("2 1 0"), (1u64 << 32) + 7);
+    let due = format!("count 0 {count} n 3 order {order} count {count} words weights\n");
     assert_eq!(play(&list), due);
     let spoilt = play(&records(&[&[2, u64::MAX], &[26], &[0]]));
     let zeros = places("");
     let zeros = zeros.trim_start();
     let due = format!(
-        "pair 11 refused n {} order {zeros} count 0 words\n\
-         empty 0 n 0 order {zeros} count 0 words\n",
+        "pair 11 refused n {} order {zeros} count 0 words weights\n\
+         empty 0 n 0 order {zeros} count 0 words weights\n",
         u64::MAX
     );
     assert_eq!(spoilt, due);
 }
 
+/// One weight, one way round: the layout isn't valid until the other is set.
 #[test]
-fn a_start_shows_the_words_that_differ_from_those_before() {
-    assert!(last_line(&[&[0]]).ends_with("count 0 words 0 0 1 0 2 0 3 0"));
+fn a_weight_is_set_one_way_round() {
+    let set = [&[6, 0, 2, 9][..], &[24], &[6, 2, 0, 9], &[24], &[29, 0]];
+    let lines = play(&[first_ring(), records(&set)].concat());
+    let starts: Vec<&str> = lines.lines().map(|l| &l[..11]).collect();
+    let due = ["count 11 0 ", "count 0 1 n", "export 26 0"];
+    assert_eq!(starts[1..], due);
+    assert!(lines
+        .lines()
+        .skip(1)
+        .all(|line| line.ends_with("words weights")));
+}
+
+#[test]
+fn a_start_shows_the_words_and_weights_that_differ_from_those_before() {
+    let cleared = format!("count 0 words 0 0 1 0 2 0 3 0 {CLEARED}");
+    assert!(last_line(&[&[0]]).ends_with(&cleared));
     let twice = play(&[first_ring(), first_ring()].concat());
-    assert!(twice.ends_with("count 1 words\n"), "{twice}");
+    assert!(twice.ends_with("count 1 words weights\n"), "{twice}");
+    let edges = [0, 2, 1, 3];
+    let heavier = common::weighted_chart(&[4], &edges, &rising(4), &[1, 255]);
+    let lines = play(&[first_ring(), chart(&heavier)].concat());
+    let due = "count 255 words weights 1 3 255 3 1 255\n";
+    assert!(lines.ends_with(due), "{lines}");
 }
 
 #[test]
 fn a_list_ends_at_an_unknown_op_or_where_it_is_cut() {
     assert_eq!(play(&[]), "");
-    assert_eq!(play(&record(&[6])), "end\n");
+    assert_eq!(play(&record(&[7])), "end\n");
     assert_eq!(play(&records(&[&[31], &[24]])), "end\n");
     assert_eq!(play(&record(&[256 + 24])), "end\n");
     assert_eq!(play(&record(&[24])[..31]), "end\n");
@@ -250,5 +308,6 @@ fn a_list_ends_at_an_unknown_op_or_where_it_is_cut() {
         assert_eq!(play(&start[..start.len() - 1]), "end\n");
     }
     let lines = play(&[whole, record(&[9])].concat());
-    assert!(lines.ends_with("words 0 4 1 8 2 1 3 2\nend\n"), "{lines}");
+    let due = format!("words 0 4 1 8 2 1 3 2 {SQUARE}\nend\n");
+    assert!(lines.ends_with(&due), "{lines}");
 }

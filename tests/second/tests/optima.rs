@@ -4,7 +4,9 @@ mod common;
 
 use std::collections::BTreeSet;
 
-use common::{all_graphs, complete, first_ring, layout, rising, Random};
+use common::{
+    all_graphs, by_pair, complete, first_ring, heaviest, layout, rising, weighted, Random,
+};
 use second::calls;
 use second::layout::Layout;
 use second::sifting::Sift;
@@ -12,7 +14,7 @@ use second::sifting::Sift;
 /// The optima of u, every candidate made by a move.
 fn counted(layout: Layout, u: u64) -> u32 {
     let others = (0..layout.n).filter(|&v| v != u);
-    let crossings: Vec<u32> = others
+    let crossings: Vec<u64> = others
         .map(|v| calls::move_after(layout, u, v).layout.count)
         .collect();
     let least = crossings.iter().min();
@@ -61,6 +63,7 @@ fn every_graph_of_five_vertices() {
             for u in 0..5 {
                 let Sift { reduction, optima } = sifted(layout(&order, &edges), u);
                 met.insert((reduction > 0, optima));
+                sifted(weighted(&order, &by_pair(&edges)), u);
             }
         }
     }
@@ -73,18 +76,20 @@ fn every_graph_of_five_vertices() {
 fn random_graphs() {
     let mut moves = 0;
     for seed in 0..300 {
-        let mut random = Random(seed);
-        let ring = random.layout();
-        let u = random.below(ring.n as usize) as u64;
-        moves += usize::from(sifted(ring, u).reduction > 0);
+        for layout in [Random::layout, Random::weighted_layout] {
+            let mut random = Random(seed);
+            let ring = layout(&mut random);
+            let u = random.below(ring.n as usize) as u64;
+            moves += usize::from(sifted(ring, u).reduction > 0);
+        }
     }
-    assert!(moves > 100, "{moves}");
+    assert!(moves > 200, "{moves}");
 }
 
 #[test]
 fn every_place_is_best_with_all_edges_and_with_none() {
     for n in [2, 3, 5, 17, 64] {
-        for ring in [complete(n), layout(&rising(n), &[])] {
+        for ring in [complete(n), heaviest(n), layout(&rising(n), &[])] {
             let places = u32::from(n) - 1;
             for u in 0..n {
                 assert_eq!(calls::sift(ring, u.into()).value.optima, places);
@@ -98,7 +103,7 @@ fn every_place_is_best_with_all_edges_and_with_none() {
 #[test]
 fn every_place_is_best_for_an_isolated_vertex() {
     for seed in 0..100 {
-        let ring = Random(seed).layout();
+        let ring = Random(seed).weighted_layout();
         let added = calls::add_vertex(ring);
         if added.refusal == 0 {
             let sifted = calls::sift(added.layout, added.value).value;

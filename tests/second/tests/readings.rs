@@ -2,7 +2,7 @@
 
 mod common;
 
-use common::{all_edges, complete, first_ring, layout, order, rising, FIRST};
+use common::{all_edges, complete, first_ring, heaviest, layout, of_weight, order, rising, FIRST};
 use second::calls::{self, Crossing};
 use second::chart;
 use second::layout::Layout;
@@ -26,7 +26,7 @@ fn every_call_refuses_a_ring_that_is_not_valid() {
     let mut buffer = [7; 4];
     let refusals = [
         calls::add_vertex(ring).refusal,
-        calls::add_edge(ring, 0, 1).refusal,
+        calls::add_edge(ring, 0, 1, 1).refusal,
         calls::remove_edge(ring, 0, 2).refusal,
         calls::move_after(ring, 0, 1).refusal,
         calls::greedy_append(ring, 0).refusal,
@@ -47,13 +47,13 @@ fn every_call_refuses_a_ring_that_is_not_valid() {
 
 #[test]
 fn savings_do_not_come_from_the_carried_count() {
-    let ring = Layout::new(&rising(4), &FIRST);
+    let ring = Layout::new(&rising(4), &of_weight(1, &FIRST));
     let sifted = calls::sift(ring, 0);
     assert_eq!(sifted.value.reduction, 1);
-    assert_eq!(sifted.layout.count, u32::MAX);
+    assert_eq!(sifted.layout.count, u64::MAX);
     let linked = calls::remove_edge(ring, 0, 2).layout;
-    assert_eq!(linked.count, u32::MAX);
-    assert_eq!(calls::add_edge(linked, 2, 0).layout, ring);
+    assert_eq!(linked.count, u64::MAX);
+    assert_eq!(calls::add_edge(linked, 2, 0, 1).layout, ring);
 }
 
 #[test]
@@ -88,16 +88,47 @@ fn validity_goes_place_by_place_and_bit_by_bit() {
     assert!(spoilt(|ring| ring.adjacency[0] ^= 1 << 1));
     assert!(spoilt(|ring| ring.adjacency[0] ^= 1 << 63));
     assert!(spoilt(|ring| ring.adjacency[4] = 1));
-    assert!(spoilt(|ring| ring.flip_edge(0, 4)));
-    assert!(spoilt(|ring| ring.flip_edge(62, 63)));
+    assert!(spoilt(|ring| ring.put_edge(0, 0, 1)));
+    assert!(spoilt(|ring| ring.put_edge(0, 4, 1)));
+    assert!(spoilt(|ring| ring.put_edge(62, 63, 1)));
+    assert!(!spoilt(|ring| ring.put_edge(0, 1, 1)));
+    assert!(!spoilt(|ring| ring.cut_edge(0, 2)));
     assert!(!spoilt(|ring| ring.count = 77));
+}
+
+/// Equal both ways round, and 0 exactly where no edge is, in every row and
+/// every column.
+#[test]
+fn validity_goes_weight_by_weight() {
+    for (v, w) in (0..64).flat_map(|v| (0..64).map(move |w| (v, w))) {
+        let is_valid = |both: bool, weight: u8| {
+            let mut ring = first_ring();
+            ring.weights[v][w] = weight;
+            if both {
+                ring.weights[w][v] = weight;
+            }
+            ring.is_valid()
+        };
+        let joined = first_ring().has_edge(v as u64, w as u64);
+        assert_eq!(is_valid(false, 0), !joined, "{v} {w}");
+        assert_eq!(is_valid(false, 1), joined, "{v} {w}");
+        assert!(!is_valid(false, 2) && !is_valid(false, 255), "{v} {w}");
+        assert_eq!(is_valid(true, 0), !joined, "{v} {w}");
+        for weight in [1, 2, 255] {
+            assert_eq!(is_valid(true, weight), joined, "{v} {w}");
+        }
+    }
+    assert!(heaviest(64).is_valid());
+    let mut ring = heaviest(64);
+    ring.weights[63][62] = 254;
+    assert!(!ring.is_valid());
 }
 
 #[test]
 fn any_number_from_n_on_is_no_vertex() {
     let ring = first_ring();
     for far in [4, 64, 255, 256, 1 << 32, (1 << 32) + 1, u64::MAX] {
-        assert_eq!(calls::add_edge(ring, 0, far).refusal, 12);
+        assert_eq!(calls::add_edge(ring, 0, far, 1).refusal, 12);
         assert_eq!(calls::remove_edge(ring, far, 2).refusal, 12);
         assert_eq!(calls::move_after(ring, far, far).refusal, 12);
         assert_eq!(calls::greedy_append(ring, far).refusal, 12);
@@ -108,11 +139,17 @@ fn any_number_from_n_on_is_no_vertex() {
 #[test]
 fn the_first_failed_check_gives_its_number() {
     let ring = layout(&rising(3), &[(0, 1)]);
-    assert_eq!(calls::add_edge(ring, 5, 5).refusal, 12);
-    assert_eq!(calls::add_edge(ring, 2, 2).refusal, 13);
+    for weight in [0, 1, 255] {
+        assert_eq!(calls::add_edge(asymmetric(), 5, 5, weight).refusal, 11);
+        assert_eq!(calls::add_edge(ring, 5, 5, weight).refusal, 12);
+        assert_eq!(calls::add_edge(ring, 2, 2, weight).refusal, 13);
+        assert_eq!(calls::add_edge(ring, 1, 0, weight).refusal, 14);
+    }
+    assert_eq!(calls::add_edge(ring, 1, 2, 0).refusal, 25);
+    assert_eq!(calls::add_edge(ring, 1, 2, 0).layout, ring);
+    assert_eq!(calls::add_edge(ring, 1, 2, 1).refusal, 0);
     assert_eq!(calls::remove_edge(ring, 2, 2).refusal, 13);
     assert_eq!(calls::move_after(ring, 2, 2).refusal, 13);
-    assert_eq!(calls::add_edge(ring, 1, 0).refusal, 14);
     assert_eq!(calls::remove_edge(ring, 1, 2).refusal, 15);
     let mut full = complete(64);
     assert_eq!(calls::add_vertex(full).refusal, 16);
@@ -219,7 +256,7 @@ fn settling_may_take_three_rounds() {
 }
 
 /// The order, the tally and the count after laying vertices in rising order.
-fn laid(n: u8, edges: &[(u8, u8)], start: u64) -> (Vec<u8>, u32, u32) {
+fn laid(n: u8, edges: &[(u8, u8)], start: u64) -> (Vec<u8>, u64, u64) {
     let laid = calls::greedy_append(layout(&rising(n), edges), start);
     assert_eq!(laid.refusal, 0);
     (order(&laid.layout).to_vec(), laid.value, laid.layout.count)
@@ -263,17 +300,18 @@ fn a_refused_chart_gives_the_empty_layout() {
     let list = [&1u64.to_le_bytes()[..], &[0; 24]].concat();
     let line = second::play::play(&list);
     assert!(line.starts_with("chart 3 n 0 order 0 0"), "{line}");
-    assert!(line.ends_with("count 0 words\n"), "{line}");
+    assert!(line.ends_with("count 0 words weights\n"), "{line}");
 }
 
 #[test]
 fn fields_extra_missing_unknown_or_cut() {
     let good = common::chart(&[4], &[0, 2, 1, 3], &rising(4));
     assert_eq!(refusal(&good), None);
-    let fourth = common::field(0x57, &[1, 1]);
-    assert_eq!(refusal(&[&good[..], &fourth].concat()), Some(3));
+    for tag in [0, 0x44, 0x4C, 0x52, 0x56, 0x58] {
+        let fourth = common::field(tag, &[1, 1]);
+        assert_eq!(refusal(&[&good[..], &fourth].concat()), Some(3));
+    }
     assert_eq!(refusal(&good[..11]), Some(3));
-    assert_eq!(refusal(&[&good[..11], &fourth].concat()), Some(3));
     assert_eq!(refusal(&[&good[..4], &good[..]].concat()), Some(3));
     assert_eq!(refusal(&[&good[4..], &good[..4]].concat()), Some(3));
     assert_eq!(refusal(&[&good[..], b"\n"].concat()), Some(2));
@@ -295,6 +333,9 @@ fn the_longest_inputs() {
     let longest = common::chart(&[64], &common::edge_bytes(&all_edges(64)), &rising(64));
     assert_eq!(longest.len(), 4106);
     assert_eq!(chart::read(&longest), Ok(complete(64)));
+    let weighted = [longest, common::field(0x57, &[255; 2016])].concat();
+    assert_eq!(weighted.len(), 6125);
+    assert_eq!(chart::read(&weighted), Ok(heaviest(64)));
 }
 
 #[test]

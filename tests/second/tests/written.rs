@@ -1,10 +1,14 @@
-//! Charts written out again: Note 1 of document 02.
+//! Charts written out again: Note 1 of document 02, and its Note 8.
 
 mod common;
 
-use common::{all_edges, complete, first_ring, layout, many_layouts, rising};
+use common::{
+    all_edges, complete, first_ring, heaviest, layout, many_layouts, many_weighted_layouts, rising,
+    Random,
+};
 use second::calls;
 use second::chart;
+use second::circle::Circle;
 use second::layout::Layout;
 
 fn chart_of(layout: Layout) -> Vec<u8> {
@@ -14,7 +18,7 @@ fn chart_of(layout: Layout) -> Vec<u8> {
 /// The chart is read back as the layout with its true count, whatever count it
 /// carried.
 fn comes_back(layout: Layout) {
-    for count in [layout.count, 0, layout.count + 1, u32::MAX] {
+    for count in [layout.count, 0, layout.count + 1, u64::MAX] {
         let carrying = Layout { count, ..layout };
         assert_eq!(chart::read(&chart_of(carrying)), Ok(layout));
     }
@@ -68,6 +72,53 @@ fn a_turned_list_is_another_chart() {
 #[test]
 fn layouts_come_back() {
     many_layouts().for_each(comes_back);
+    many_weighted_layouts().for_each(comes_back);
+}
+
+/// The weights stand behind the rest, in the sequence of the edges.
+#[test]
+fn weights_are_written_in_the_sequence_of_the_edges() {
+    let due = common::weighted_chart(&[4], &[0, 2, 1, 3], &rising(4), &[1, 255]);
+    for (edges, weights) in [
+        ([0, 2, 1, 3], [1, 255]),
+        ([2, 0, 3, 1], [1, 255]),
+        ([1, 3, 0, 2], [255, 1]),
+        ([3, 1, 2, 0], [255, 1]),
+    ] {
+        let chart = common::weighted_chart(&[4], &edges, &rising(4), &weights);
+        let ring = chart::read(&chart).expect("a chart");
+        assert_eq!((ring.count, chart_of(ring)), (255, due.clone()));
+    }
+}
+
+#[test]
+fn weights_are_written_exactly_when_one_is_not_1() {
+    for seed in 0..200 {
+        let ring = Random(seed).weighted_layout();
+        let weights: Vec<u8> = Circle::new(&ring)
+            .weighted_edges()
+            .into_iter()
+            .map(|(_, weight)| weight as u8)
+            .collect();
+        let rest = 3 * 3 + 1 + 2 * weights.len() + ring.n as usize;
+        let due = if weights.iter().any(|&weight| weight != 1) {
+            common::field(0x57, &weights)
+        } else {
+            Vec::new()
+        };
+        assert_eq!(chart_of(ring)[rest..], due);
+    }
+}
+
+#[test]
+fn ones_are_read_and_not_written() {
+    for ring in many_layouts() {
+        let due = chart_of(ring);
+        let m = Circle::new(&ring).edges().len();
+        let ones = [due.clone(), common::field(0x57, &vec![1; m])].concat();
+        assert_eq!(chart::read(&ones), Ok(ring));
+        assert_eq!(chart_of(chart::read(&ones).expect("a chart")), due);
+    }
 }
 
 #[test]
@@ -76,6 +127,7 @@ fn a_buffer_is_long_enough_or_untouched() {
         (Layout::EMPTY, 10),
         (first_ring(), 18),
         (complete(64), 4106),
+        (heaviest(64), 6125),
     ] {
         common::is_long_enough_or_untouched(calls::write_chart, ring, length, 19);
     }
@@ -118,4 +170,8 @@ fn the_longest_chart() {
     let due = common::chart(&[64], &common::edge_bytes(&all_edges(64)), &rising(64));
     assert_eq!(chart, due);
     comes_back(complete(64));
+    let weighted = [due, common::field(0x57, &[255; 2016])].concat();
+    assert_eq!(weighted.len(), 6125);
+    assert_eq!(chart_of(heaviest(64)), weighted);
+    comes_back(heaviest(64));
 }

@@ -11,7 +11,7 @@ unfolding carriedTo
 returns c =
     let counted = c .before in
     let s = counted .before .args in
-    ap (λ (x : ℕ). record { n = s .n; order = s .order; adjacency = s .adjacency; count = x })
+    ap (λ (x : ℕ). record { n = s .n; order = s .order; adjacency = s .adjacency; weights = s .weights; count = x })
     (c .carried .ensures ∙ ap (λ (x : ℕ). carried (s .l .count) x (s .after)) (counted .crossings-of .ensures))
 
 pub carried-to-spec : {M : Type 1} → statement M

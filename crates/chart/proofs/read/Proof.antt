@@ -11,8 +11,8 @@ returns c =
     let e = told .enum-told2 .given .1 in
     c .refused .ensures ∙ asked-number e (c .before .asked-code .ensures) ∙ read-undivided _ e (told .before .before .ask-fields .ensures)
 
-returns-2 : tie.Need-returns-2
-returns-2 c = c .read-divided .ensures ∙ read-divided _ (c .before .enum-told .given .1) (c .before .before .before .ask-fields .ensures)
+read-divided-requires : tie.Need-read-divided-requires
+read-divided-requires c κs = read-divided _ (c .enum-told .given .1) (c .before .before .ask-fields .ensures)
 
 pub read-spec : {M : Type 1} → statement M
 read-spec =
@@ -24,5 +24,5 @@ read-spec =
     (λ c κs. search needs)
     (λ c κs. search needs)
     returns
-    (λ c κs. search needs)
-    returns-2)
+    read-divided-requires
+    (λ c. search needs))

@@ -4,33 +4,44 @@ use mathlib.Core.Path.{_≡_, refl, sym, _∙_}
 use lib.ListN.{length as len}
 use lib.Seq.{length-take-le}
 use Rattle.model.specs.Checks.{refusal}
+use Rattle.laws.specs.Layouts.Validity.{sound}
 use Rattle.laws.specs.Buffers.Formats.{chart-coded}
 use Rattle.buffer_checks.specs.Answers.{refused}
-use Rattle.chart_writer.specs.Answers.{ChartAsked, counted-is, inside, fits, chart-written}
+use Rattle.chart_writer.specs.Answers.{ChartAsked, unit-is, counted-is, inside, fits, chart-written}
 use Rattle.chart_writer.proofs.write.Statement.{statement}
 use Rattle.chart_writer.proofs.write.Tie as tie
 
--- from the checks to where the length is counted, and from there to the start
+-- from the checks to where the length is counted, from there to where the weights are asked, and from there to the start
 abbrev counted : tie.After-write-refusal → tie.After-chart-length
 counted c = c .before .before
 
-abbrev start : tie.After-chart-length → tie.Start
-start c = let lent = c .before in lent .before .before .before
+abbrev weighed : tie.After-chart-length → tie.After-all-unit
+weighed c = c .before .before
+
+abbrev start : tie.After-all-unit → tie.Start
+start c =
+    let lent = c .before .before in
+    let words = lent .before .before in
+    words .before .before
 
 -- what the call has asked
 asked : (c : tie.After-write-refusal)
-    → let length = counted c in let s = start length .args in ChartAsked (s .l) (s .buffer .now) (length .chart-length .result) (c .write-refusal .result)
+    → let length = counted c in let unit = weighed length in let s = start unit .args in
+    ChartAsked (s .l) (s .buffer .now) (unit .all-unit .result) (length .chart-length .result) (c .write-refusal .result)
 unfolding refusal
 asked c =
     let length = counted c .chart-length in
+    let unit = weighed (counted c) in
+    let l = start unit .args .l in
     record {
       asked =
           record {
             coded = chart-coded;
             own-is = λ t. refl;
-            measured = λ t. length .ensures ∙ counted-is _ t;
+            measured = λ t. length .ensures ∙ counted-is l t (unit-is l (unit .all-unit .ensures (sound l t .small)));
             told = rw (c .before .is-valid .ensures) at (c .write-refusal .ensures);
           };
+      units = λ t. unit-is l (unit .all-unit .ensures (sound l t .small));
       measured = length .ensures;
     }
 
@@ -42,12 +53,12 @@ places : (c : tie.Start) → len (c .args .l .order) ≡ 64
 places c = search needs
 
 -- from where the order is lent to where the checks have passed
-abbrev passed : tie.After-adjacency3 → tie.Else1
+abbrev passed : tie.After-adjacency4 → tie.Else1
 passed c = c .before .before .before
 
 -- the vertices have places in the order
-there : (c : tie.Else1) → let s = start (counted (c .before)) .args in s .l .n ≤ len (s .l .order)
-there c = inside (asked (c .before)) (c .if1 .left) (places (start (counted (c .before))))
+there : (c : tie.Else1) → let s = start (weighed (counted (c .before))) .args in s .l .n ≤ len (s .l .order)
+there c = inside (asked (c .before)) (c .if1 .left) (places (start (weighed (counted (c .before)))))
 
 array-share-prefix-order : tie.Need-array-share-prefix-order
 array-share-prefix-order c = there (passed c)
@@ -57,19 +68,21 @@ slice-aggregate-put-chart c = sym (length-take-le _ _ (there (passed (c .before)
 
 put-chart-requires : tie.Need-put-chart-requires
 put-chart-requires c κs =
-    let at = passed (c .before) in
-    fits (asked (at .before)) (at .if1 .left) (places (start (counted (at .before))))
+    let at = passed (c .before .before) in
+    fits (asked (at .before)) (at .if1 .left) (places (start (weighed (counted (at .before)))))
 
 returns-2 : tie.Need-returns-2
 returns-2 c =
     let put = c .before .before in
-    let at = passed (put .before .before) in
-    chart-written (asked (at .before)) (at .if1 .left) (places (start (counted (at .before)))) (put .put-chart .ensures)
+    let lent = put .before .before in
+    let at = passed (lent .before) in
+    chart-written (asked (at .before)) (at .if1 .left) (places (start (weighed (counted (at .before))))) (put .put-chart .ensures)
 
 pub write-spec : {M : Type 1} → statement M
 write-spec =
     tie.close
     (tie.spec
+    (λ c κs. search needs)
     (λ c κs. search needs)
     (λ c κs. search needs)
     (λ c κs. search needs)

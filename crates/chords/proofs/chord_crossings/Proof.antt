@@ -1,3 +1,4 @@
+use borrow.Author.Needs.{needs}
 use Prim.Native.Nat.{_-_}
 use native.Mathlib.Omega.{arith}
 use mathlib.Core.Path.{sym}
@@ -6,30 +7,30 @@ use Rattle.chords.proofs.chord_crossings.Statement.{statement}
 use Rattle.chords.proofs.chord_crossings.Tie as tie
 
 abbrev Inv-loop : tie.InvT-loop
-Inv-loop n order adjacency chords₀ i₀ chords i = ChordsUpTo n order adjacency chords i
+Inv-loop n order weights chords₀ rows i₀ chords i = ChordsUpTo n order weights chords i
 
 abbrev μ-loop : tie.MeasureT-loop
-μ-loop n order adjacency chords₀ i₀ chords i = n - i
+μ-loop n order weights chords₀ rows i₀ chords i = n - i
 
 returns : tie.Need-returns Inv-loop μ-loop
 returns c drawn = absurd (omega (arith, drawn .small, c .if1 .taken))
 
 loop-holds : tie.Need-loop-holds Inv-loop μ-loop
-loop-holds c = rows-start (c .if1 .left)
+loop-holds c = rows-start (c .before .if1 .left)
 
 slice-aggregate-chord-row : tie.Need-slice-aggregate-chord-row Inv-loop μ-loop
 slice-aggregate-chord-row c = let turn = c .before in sym (turn .before .loop .inv .size)
 
 chord-row-requires : tie.Need-chord-row-requires Inv-loop μ-loop
 chord-row-requires c κs =
-    let turn = c .before in
+    let turn = c .before .before in
     let so-far = turn .before .loop .inv in
-    (so-far .few, turn .loop-test .taken, so-far .size)
+    (so-far .few, turn .loop-test .taken, so-far .size, turn .before .before .row-weights .ensures)
 
 loop-again : tie.Need-loop-again Inv-loop μ-loop
 loop-again c =
     let row = c .before in
-    let turn = row .before .before in
+    let turn = row .before .before .before in
     rows-next (turn .before .loop .inv) (turn .loop-test .taken) (row .chord-row .ensures)
 
 returns-2 : tie.Need-returns-2 Inv-loop μ-loop
@@ -42,6 +43,7 @@ chord-crossings-spec =
     Inv-loop
     μ-loop
     returns
+    (λ c κs. search needs)
     loop-holds
     slice-aggregate-chord-row
     chord-row-requires

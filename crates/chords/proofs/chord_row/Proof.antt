@@ -8,20 +8,16 @@ use Rattle.chords.proofs.chord_row.Statement.{statement}
 use Rattle.chords.proofs.chord_row.Tie as tie
 
 abbrev Inv-loop : tie.InvT-loop
-Inv-loop chords₀ n order adjacency i first beyond chord₀ k₀ chords chord k = ChordsTo n order adjacency i chords₀ chords chord k
+Inv-loop chords₀ n order weights rows i first passed₀ outgoing₀ k₀ chords passed outgoing k =
+    ChordsTo n order weights i chords₀ chords passed outgoing k
 
 abbrev μ-loop : tie.MeasureT-loop
-μ-loop chords₀ n order adjacency i first beyond chord₀ k₀ chords chord k = n - k
-
--- from where the words are made to the start
-abbrev start : tie.After-clear Inv-loop μ-loop → tie.Start Inv-loop μ-loop
-start c = let first = c .before .before in first .before .before
+μ-loop chords₀ n order weights rows i first passed₀ outgoing₀ k₀ chords passed outgoing k = n - k
 
 loop-holds : tie.Need-loop-holds Inv-loop μ-loop
-unfolding vertexAt
 loop-holds c =
-    let given = start c .pre in
-    row-start (given .0) (given .1) (given .2) (c .before .low-bits .ensures) refl (c .clear .ensures)
+    let given = c .before .before .pre in
+    row-start (given .0) (given .1) (given .2)
 
 next-chord-requires : tie.Need-next-chord-requires Inv-loop μ-loop
 next-chord-requires c κs = search needs
@@ -29,14 +25,19 @@ next-chord-requires c κs = search needs
 loop-again : tie.Need-loop-again Inv-loop μ-loop
 unfolding vertexAt
 loop-again c =
-    let turn = c .before .before .before in
-    row-next (turn .before .loop .inv) (turn .loop-test .taken) refl (c .next-chord .ensures)
+    let numbered = c .before .before in
+    let weighed = numbered .before .before in
+    let turn = weighed .before .before in
+    let so-far = turn .before .loop .inv in
+    let given = turn .before .before .before .before .pre in
+    row-next so-far (turn .loop-test .taken) refl refl (given .3) (weighed .weight-at .ensures .is) (numbered .next-chord .ensures)
+    (c .add-row .ensures (so-far .passed-size))
 
 same-length : tie.Need-same-length Inv-loop μ-loop
-same-length c = c .before .loop .inv .size ∙ sym (start (c .before .before) .pre .2)
+same-length c = let given = c .before .before .before .before .pre in c .before .loop .inv .size ∙ sym (given .2)
 
 returns : tie.Need-returns Inv-loop μ-loop
-returns c = row-end (c .before .loop .inv) (c .loop-test .left) (start (c .before .before) .pre .2)
+returns c = let given = c .before .before .before .before .pre in row-end (c .before .loop .inv) (c .loop-test .left) (given .2)
 
 pub chord-row-spec : {M : Type 1} → statement M
 chord-row-spec =
@@ -46,19 +47,21 @@ chord-row-spec =
     μ-loop
     (λ c. omega arith)
     (λ c. search needs)
-    (λ c κs. search needs)
-    (λ c κs. search needs)
     (λ c. omega arith)
     loop-holds
     (λ c. omega arith)
     (λ c. search needs)
+    (λ c κs. search needs)
     (λ c. omega arith)
-    (λ c. search needs)
+    (λ c. omega arith)
+    (λ c. omega arith)
+    (λ c. omega arith)
     next-chord-requires
     (λ c. omega arith)
     (λ c. omega arith)
     (λ c. omega arith)
     (λ c. omega arith)
+    (λ c κs. search needs)
     (λ c. omega arith)
     (λ c. omega arith)
     loop-again

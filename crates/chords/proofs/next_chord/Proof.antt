@@ -5,27 +5,14 @@ use Rattle.chords.proofs.next_chord.Tie as tie
 
 returns : tie.Need-returns
 returns c =
-    let sum = c .before in
-    let leaving = sum .before in
-    let cleared = leaving .before in
-    let less = cleared .before in
-    let ending = less .before in
+    let leaving = c .before in
+    let others = leaving .before in
+    let crossed = others .before in
     record {
-      inside-is = c .set .ensures;
-      beyond-is = cleared .clear .ensures;
       exact =
-          next-exact (less .wrapping-sub-u32 .ok) (search needs) (ending .count .ensures) (less .wrapping-sub-u32 .ensures)
-          (leaving .count2 .ensures) (sum .wrapping-add-u32 .ensures);
+          next-exact _ _ (crossed .wrapping-sub-u32 .ok) (others .wrapping-sub-u322 .ok) (leaving .wrapping-sub-u323 .ok) (search needs) (search needs)
+          (crossed .wrapping-sub-u32 .ensures) (others .wrapping-sub-u322 .ensures) (leaving .wrapping-sub-u323 .ensures) (c .wrapping-add-u32 .ensures);
     }
 
 pub next-chord-spec : {M : Type 1} → statement M
-next-chord-spec =
-    tie.close
-    (tie.spec
-    (λ c κs. search needs)
-    (λ c κs. search needs)
-    (λ c κs. search needs)
-    (λ c κs. search needs)
-    (λ c κs. search needs)
-    (λ c κs. search needs)
-    returns)
+next-chord-spec = tie.close (tie.spec (λ c κs. search needs) (λ c κs. search needs) (λ c κs. search needs) (λ c κs. search needs) returns)

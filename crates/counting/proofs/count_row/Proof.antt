@@ -1,56 +1,47 @@
 use borrow.Author.Needs.{needs}
-use Prim.Native.Nat.{ℕ, _*_, _-_}
+use Prim.Native.Nat.{_+_, _<_}
 use native.Mathlib.Omega.{arith}
-use mathlib.Core.Path.{_≡_, ap, ap₂, _∙_}
-use Rattle.model.specs.Edits.{withoutBit}
-use Rattle.laws.specs.Sums.Bits.{maskedOnes}
-use Rattle.laws.specs.Crossings.Masks.{wordAt}
-use Rattle.counting.specs.Loops.{RowUpTo, row-start, row-next, row-end}
+use Rattle.laws.specs.Crossings.Masks.{vertexAt}
+use Rattle.counting.specs.Loops.{RowFrom, row-start, row-fits, row-next, row-end}
 use Rattle.counting.proofs.count_row.Statement.{statement}
 use Rattle.counting.proofs.count_row.Tie as tie
 
 abbrev Inv-loop : tie.InvT-loop
-Inv-loop n order adjacency j before after word rest₀ total₀ k₀ rest total k = RowUpTo n order adjacency j rest total k × (word ≡ wordAt order adjacency j)
+Inv-loop n order weights before j u beyond₀ total₀ k₀ beyond total k = RowFrom n order weights j beyond total k
 
 abbrev μ-loop : tie.MeasureT-loop
-μ-loop n order adjacency j before after word rest₀ total₀ k₀ rest total k = n - k
+μ-loop n order weights before j u beyond₀ total₀ k₀ beyond total k = k
 
--- the turn that a counted pair belongs to
-abbrev turn : tie.After-count-pair Inv-loop μ-loop → tie.At-loop Inv-loop μ-loop
-turn c = c .before .before .before .before .before
+-- the turn that a product belongs to, and the start of a loop
+abbrev turn : tie.After-product Inv-loop μ-loop → tie.At-loop Inv-loop μ-loop
+turn c = c .before .before .before .before
 
-loop-holds : tie.Need-loop-holds Inv-loop μ-loop
-loop-holds c = (row-start (c .before .pre .1) (c .before .pre .3), c .word-at .ensures)
+abbrev start : tie.At-loop Inv-loop μ-loop → tie.Start Inv-loop μ-loop
+start c = c .before .before
 
-vertex-at-requires : tie.Need-vertex-at-requires Inv-loop μ-loop
-vertex-at-requires c κs = omega (arith, c .before .loop .inv .0 .inside)
-
-word-at-requires-2 : tie.Need-word-at-requires-2 Inv-loop μ-loop
-word-at-requires-2 c κs = omega (arith, c .before .before .before .loop .inv .0 .inside)
+later : (c : tie.After-product Inv-loop μ-loop) → start (turn c) .args .j + 1 < turn c .loop .k
+later c = omega (arith, c .before .before .before .loop-test .taken)
 
 add-total : tie.Need-add-total Inv-loop μ-loop
+unfolding vertexAt
 add-total c =
-    let so-far = turn c .loop .inv .0 in
-    omega (arith, c .count-pair .ensures .small, so-far .bounded, so-far .inside)
+    let few = row-fits (start (turn c) .pre .2) (turn c .loop .inv) (later c) (c .product .ensures) (omega arith) in
+    record { fits = omega (arith, few) }
+
+add-beyond : tie.Need-add-beyond Inv-loop μ-loop
+add-beyond c =
+    let so-far = turn (c .before) .loop .inv in
+    record { fits = omega (arith, so-far .beyond-few, so-far .small, c .weight-at .ensures .small) }
 
 loop-again : tie.Need-loop-again Inv-loop μ-loop
+unfolding vertexAt
 loop-again c =
-    let so-far = turn c .loop .inv in
-    let cleared = c .before .before in
-    let vertex = cleared .before in (
-      row-next (so-far .0) (vertex .before .loop-test .taken)
-          (cleared .clear .ensures ∙ ap (withoutBit (turn c .loop .rest)) (vertex .vertex-at .ensures .is))
-          (c .count-pair .ensures .is
-          ∙ ap₂ (λ (x y : ℕ). x * y) (ap₂ maskedOnes (c .before .word-at2 .ensures) (turn c .before .before .pre .2))
-          (ap (λ (w : ℕ). maskedOnes w (cleared .clear .result)) (so-far .1)))
-          (c .count-pair .ensures .small),
-      so-far .1,
-    )
+    let pair = c .before in
+    row-next (start (turn pair) .pre .2) (turn pair .loop .inv) (later pair) (pair .product .ensures) (omega arith) (c .weight-at .ensures .is)
+    (c .weight-at .ensures .small) (omega arith) (omega arith)
 
 returns : tie.Need-returns Inv-loop μ-loop
-returns c =
-    let so-far = c .before .loop .inv .0 in
-    record { is = row-end so-far (c .loop-test .left); small = omega (arith, so-far .bounded, so-far .inside) }
+returns c = row-end (c .before .loop .inv) (omega (arith, c .loop-test .left))
 
 pub count-row-spec : {M : Type 1} → statement M
 count-row-spec =
@@ -58,15 +49,19 @@ count-row-spec =
     (tie.spec
     Inv-loop
     μ-loop
-    (λ c κs. omega arith)
+    (λ c. omega (arith, c .pre .0, c .pre .1))
     (λ c. omega arith)
-    loop-holds
-    vertex-at-requires
-    (λ c κs. search needs)
-    word-at-requires-2
+    (λ c. row-start (c .before .pre .0) (c .before .pre .1))
+    (λ c. omega (arith, start c .pre .0, start c .pre .1))
+    (λ c. omega arith)
+    (λ c. omega (arith, c .before .loop .inv .inside, c .before .loop .inv .small))
+    (λ c. search needs)
+    (λ c. omega (arith, c .before .before .loop .inv .inside, c .before .before .loop .inv .small))
+    (λ c. omega (arith, c .before .before .loop .inv .inside, c .before .before .loop .inv .small))
     (λ c κs. search needs)
     add-total
-    (λ c. omega arith)
+    (λ c κs. search needs)
+    add-beyond
     (λ c. omega arith)
     loop-again
     returns)

@@ -29,8 +29,10 @@ asked c =
     }
 
 -- from where the table is lent to where the checks have passed
-abbrev passed : tie.After-adjacency3 → tie.Else1
-passed c = let lent = c .before .before in lent .before .before
+abbrev passed : tie.After-weights2 → tie.Else1
+passed c =
+    let lent = c .before .before .before in
+    lent .before .before .before
 
 is-valid-requires : tie.Need-is-valid-requires
 is-valid-requires c κs = search needs

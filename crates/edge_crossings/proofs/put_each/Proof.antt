@@ -6,10 +6,10 @@ use Rattle.edge_crossings.proofs.put_each.Statement.{statement}
 use Rattle.edge_crossings.proofs.put_each.Tie as tie
 
 abbrev Inv-loop : tie.InvT-loop
-Inv-loop table₀ chords places ends count i₀ table i = NumberedUpTo chords places ends table₀ count table i
+Inv-loop table₀ chords places weights ends count i₀ table i = NumberedUpTo chords places weights ends table₀ count table i
 
 abbrev μ-loop : tie.MeasureT-loop
-μ-loop table₀ chords places ends count i₀ table i = count - i
+μ-loop table₀ chords places weights ends count i₀ table i = count - i
 
 -- the turn that a number belongs to
 abbrev turn : tie.After-number-of Inv-loop μ-loop → tie.At-loop Inv-loop μ-loop

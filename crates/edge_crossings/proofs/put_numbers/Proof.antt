@@ -26,8 +26,9 @@ returns : tie.Need-returns
 returns c =
     let each = c .before .before in
     let edges = put (each .before) in
-    let drawn = start (chords edges) .pre .0 in
-    numbers-right drawn refl (edges .put-edges .ensures) (chords edges .chord-crossings .ensures drawn)
+    let drawable = start (chords edges) .pre .0 in
+    let drawn = drawable .weighted in
+    numbers-right drawable refl (edges .put-edges .ensures) (chords edges .chord-crossings .ensures drawn)
     (edges .before .before .places-of .ensures (drawn .small) (drawn .permutation)) (each .put-each .ensures)
 
 pub put-numbers-spec : {M : Type 1} → statement M

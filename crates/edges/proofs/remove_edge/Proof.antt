@@ -1,15 +1,15 @@
 use borrow.Author.Needs.{needs}
-use mathlib.Core.Path.{_≡_}
-use lib.ListN.{length}
-use Rattle.model.specs.Edits.{unlinkOf, withoutBit}
-use Rattle.laws.specs.Layouts.EdgeEdits.{ends-within}
-use Rattle.edges.specs.EdgeCalls.{unlinking, edge-ends, edge-refused, edge-accepted}
+use Rattle.model.specs.Edits.{unlinkOf}
+use Rattle.edges.specs.EdgeCalls.{unlinking, Places, edge-refused, edge-accepted}
 use Rattle.edges.proofs.remove_edge.Statement.{statement}
 use Rattle.edges.proofs.remove_edge.Tie as tie
 
--- there are 64 words
-all-words : (s : tie.Start) → length (s .args .l .adjacency) ≡ 64
-all-words s = search needs
+-- where the checks have passed
+abbrev moment : tie.After-adjacency2 → tie.Else1
+moment c = c .before .before .before .before
+
+sized : (s : tie.Start) → let a = s .args in Places unlinking (a .l) (a .a) (a .b)
+sized s = record { words = search needs; table = search needs }
 
 returns : tie.Need-returns
 unfolding unlinkOf
@@ -21,12 +21,11 @@ returns-2 : tie.Need-returns-2
 unfolding unlinkOf
 returns-2 c =
     let edited = c .before in
-    let lent = edited .before .before in
-    let accepted = lent .before .before in
+    let joined = edited .before .before in
+    let accepted = moment (joined .before) in
     let s = accepted .before .before .args in
-    let ends = edge-ends unlinking (s .l) (s .a) (s .b) (accepted .before .remove-refusal .ensures) (accepted .if1 .left) in
     edge-accepted unlinking (s .l) (s .a) (s .b) (accepted .before .remove-refusal .ensures) (accepted .if1 .left)
-    (ends-within withoutBit (s .l .adjacency) (ends .0) (ends .1) (edited .part .ensures), all-words (accepted .before .before)) (c .recounted .ensures)
+    (joined .part .ensures) (edited .set-both .ensures) (sized (accepted .before .before)) (c .recounted .ensures)
 
 pub remove-edge-spec : {M : Type 1} → statement M
 remove-edge-spec =
@@ -34,6 +33,7 @@ remove-edge-spec =
     (tie.spec
     (λ c κs. search needs)
     returns
+    (λ c κs. search needs)
     (λ c κs. search needs)
     (λ c κs. search needs)
     returns-2)

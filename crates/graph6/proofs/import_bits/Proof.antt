@@ -18,11 +18,13 @@ returns c =
 returns-2 : tie.Need-returns-2
 returns-2 c =
     let ordered = c .before in
-    let joined = ordered .before in
+    let weighed = ordered .before in
+    let joined = weighed .before .before in
     let passed = joined .before in
     let right = passed .before .before in
     c .accepted .ensures
     ∙ bits-accepted (start right .pre) _ (right .ask-bits .ensures) (passed .enum-told .given .1) (ordered .rising-order .ensures) (joined .join-pairs .ensures)
+    (weighed .unit-table .ensures)
 
 pub import-bits-spec : {M : Type 1} → statement M
 import-bits-spec =
@@ -34,6 +36,7 @@ import-bits-spec =
     (λ c κs. search needs)
     (λ c κs. search needs)
     returns
+    (λ c κs. search needs)
     (λ c κs. search needs)
     (λ c κs. search needs)
     (λ c κs. search needs)

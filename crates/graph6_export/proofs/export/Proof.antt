@@ -1,24 +1,28 @@
 use borrow.Author.Needs.{needs}
 use Prim.Native.Nat.{_+_}
 use native.Mathlib.Omega.{arith}
-use mathlib.Core.Path.{_≡_, refl, _∙_}
+use mathlib.Core.Path.{_≡_, _∙_}
 use Rattle.model.specs.Checks.{refusal}
 use Rattle.model.specs.Graph6.{graph6Format}
 use Rattle.laws.specs.Buffers.Formats.{graph6-coded}
 use Rattle.buffer_checks.specs.Answers.{Asked, refused}
 use Rattle.graph6_export.specs.Parts.{counted, counted-is, parts-long, parts-few, fits, graph-written}
+use Rattle.graph6_export.specs.Weights.{code-is}
 use Rattle.graph6_export.proofs.export.Statement.{statement}
 use Rattle.graph6_export.proofs.export.Tie as tie
 
 add-length : tie.Need-add-length
 add-length c = omega (arith, parts-few _ (c .before .size-length .ensures) (c .data-length .ensures))
 
--- from the checks to where both lengths are known, and from there to the start
+-- from the checks to where the weights were asked, from there to where both lengths are known, and to the start
+abbrev weighed : tie.After-write-refusal → tie.After-weight-refusal
+weighed c = c .before .before
+
 abbrev known : tie.After-write-refusal → tie.After-data-length
-known c = c .before .before
+known c = weighed c .before .before .before
 
 abbrev start : tie.After-data-length → tie.Start
-start c = c .before .before .before .before
+start c = let copied = c .before .before in copied .before .before .before
 
 parts : (c : tie.After-write-refusal)
     → known c .before .size-length .result + known c .data-length .result ≡ counted (start (known c) .args .l .n)
@@ -27,12 +31,13 @@ parts c = parts-long _ (known c .before .size-length .ensures) (known c .data-le
 -- what the call has asked
 asked : (c : tie.After-write-refusal)
     → let s = start (known c) .args in
-    Asked graph6Format (s .l) (s .buffer .now) 0 (known c .before .size-length .result + known c .data-length .result) (c .write-refusal .result)
+    Asked graph6Format (s .l) (s .buffer .now) (weighed c .weight-refusal .result) (known c .before .size-length .result + known c .data-length .result)
+    (c .write-refusal .result)
 unfolding refusal
 asked c =
     record {
       coded = graph6-coded;
-      own-is = λ t. refl;
+      own-is = λ t. code-is _ t (weighed c .weight-refusal .ensures);
       measured = λ t. parts c ∙ counted-is _ t;
       told = rw (c .before .is-valid .ensures) at (c .write-refusal .ensures);
     }
@@ -58,6 +63,7 @@ export-spec =
     (λ c κs. search needs)
     (λ c κs. search needs)
     add-length
+    (λ c κs. search needs)
     (λ c κs. search needs)
     (λ c κs. search needs)
     returns

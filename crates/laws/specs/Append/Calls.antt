@@ -22,7 +22,7 @@ use Rattle.laws.specs.Orders.Permutations.{Permutation}
 use Rattle.laws.specs.Sums.Pairs.{Symmetric}
 use Rattle.laws.specs.Crossings.Counting.{crossingSum, placed}
 use Rattle.laws.specs.Crossings.Edges.{crossings-sum}
-use Rattle.laws.specs.Layouts.Validity.{sound}
+use Rattle.laws.specs.Layouts.Validity.{valid-symmetric}
 use Rattle.laws.specs.Layouts.Sizes.{Sized, reordered-sized}
 use Rattle.laws.specs.Layouts.Refusals.{checked-either, vertex-passed, all-passed, when-accepted, when-refused, checked-number}
 use Rattle.laws.specs.Layouts.Reordering.{reordered-crossings, reordered-valid, Keeps, same-keeps, changed-keeps}
@@ -179,14 +179,14 @@ module _ (l : Layout) (s : ℕ) where
 
   module _ (t : T (valid l)) (h : s < l .n) where
     pub lay-permutation : Permutation (l .n) (laidOut .placed)
-    lay-permutation = laid-permutation (laid-all (weight l) (sound l t .symmetry) (l .adjacency) s h)
+    lay-permutation = laid-permutation (laid-all (weight l) (valid-symmetric l t) (l .adjacency) s h)
 
     pub lay-valid : T (valid (reordered l (laidOut .placed)))
     lay-valid = reordered-valid l (laidOut .placed) t lay-permutation
 
     -- the tally is the crossings of the list, and so of the layout with this order
     pub lay-met : laidOut .tally ≡ crossings (l .n) (laidOut .placed) (weight l)
-    lay-met = let symmetry = sound l t .symmetry in laid-tally (laid-all (weight l) symmetry (l .adjacency) s h) symmetry
+    lay-met = let symmetry = valid-symmetric l t in laid-tally (laid-all (weight l) symmetry (l .adjacency) s h) symmetry
 
     pub lay-crossings : laidOut .tally ≡ crossingsOf (reordered l (laidOut .placed))
     lay-crossings = lay-met ∙ sym (reordered-crossings l (laidOut .placed) (lay-permutation .size))
@@ -210,7 +210,7 @@ module _ (l : Layout) (s : ℕ) where
         | yes e ↦
             let passed = lay-passed e in
             rw (lay-accepted (passed .0) (passed .1))
-            (changed-keeps l (l .n) (laidOut .placed ++ drop (l .n) (l .order)) (l .adjacency) (lay-valid (passed .0) (passed .1)))
+            (changed-keeps l (l .n) (laidOut .placed ++ drop (l .n) (l .order)) (l .adjacency) (l .weights) (lay-valid (passed .0) (passed .1)))
         | no d ↦ same-keeps (ap (λ (a : Appended). a .layout) (lay-refused d))
       ]
 

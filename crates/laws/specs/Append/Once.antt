@@ -23,7 +23,7 @@ use Rattle.laws.specs.Orders.Permutations.{at, Permutation, occurrences-
 use Rattle.laws.specs.Orders.Permutations.{order-sum, none-beyond}
 use Rattle.laws.specs.Crossings.Lists.{sumTriples, sumQuads, triples-last, quads-last, sumTriples-ext, sumTriples-add, sumQuads-ext, sumQuads-add}
 use Rattle.laws.specs.Crossings.Lists.{closedCrossings, closed-crossings}
-use Rattle.laws.specs.Layouts.Validity.{sound}
+use Rattle.laws.specs.Layouts.Validity.{valid-symmetric}
 use Rattle.laws.specs.Append.Order.{not-member, unplaced-front, unplaced-back}
 use Rattle.laws.specs.Append.Crossings.{crossingsMet, met-back, met-front, closing-edges, met-finished}
 use Rattle.laws.specs.Layouts.Weights.{weight-within-words}
@@ -380,13 +380,13 @@ module _ (l : Layout) (s : ℕ) where
     pub lay-counted : (k : ℕ) → k < steps → after (suc k) .tally ≡ after k .tally + firstIn k
     lay-counted k small =
         let last = more-last (l .n) (l .adjacency) (weight l) (hasEdges (l .adjacency)) k (alone s) in
-        rw last (step-counted (weight l) (sound l t .symmetry) (lay-permutation l s t h) (after k) _ (rw last at (after-around (suc k) small)))
+        rw last (step-counted (weight l) (valid-symmetric l t) (lay-permutation l s t h) (after k) _ (rw last at (after-around (suc k) small)))
 
     -- the tally so far is the crossings of the finished order that have a closed edge
     pub lay-tally-closed : (k : ℕ) → k ≤ steps → after k .tally ≡ crossingsClosed (weight l) (after k .placed) (laidOut l s .placed)
     unfolding alone
     lay-tally-closed k small =
-        let symmetry = sound l t .symmetry in
+        let symmetry = valid-symmetric l t in
         laid-more (weight l) symmetry (l .adjacency) (hasEdges (l .adjacency)) k small (laid-start (l .n) (weight l) s h) .0 .tallied
         ∙ sym (closed-met symmetry (lay-permutation l s t h) (after-around k small))
 
@@ -397,8 +397,10 @@ module _ (l : Layout) (s : ℕ) where
 
     -- all steps together count each crossing of the layout once
     pub lay-once : sum steps firstIn ≡ crossingsOf (reordered l (laidOut l s .placed))
-    unfolding placeAll placeLinked
+    unfolding placeAll placeLinked alone
     lay-once =
         summed steps (le-refl steps)
-        ∙ sym (ap (λ (p : Placing). p .tally) (isolated-at-back (weight-within-words l t) (l .n) (placeLinked (l .n) (l .adjacency) (weight l) s)))
+        ∙ sym (ap (λ (p : Placing). p .tally) (isolated-at-back (weight-within-words l t) (after steps)
+        (laid-more (weight l) (valid-symmetric l t) (l .adjacency) (hasEdges (l .adjacency)) steps (le-refl steps) (laid-start (l .n) (weight l) s h)
+        .0 .order .below)))
         ∙ lay-crossings l s t h

@@ -70,7 +70,7 @@ not-member v xs e = member-occurs v xs ∙ le-ltb 0 (occurrences v xs) (omega ar
 
 module _ (n : ℕ) (xs : List ℕ) where
   -- each of them is below n and does not occur among the placed
-  all-unplaced : All (λ v. (v < n) × (occurrences v xs ≡ 0)) (unplaced n xs)
+  pub all-unplaced : All (λ v. (v < n) × (occurrences v xs ≡ 0)) (unplaced n xs)
   unfolding unplaced
   all-unplaced =
       all-mono (all-kept (λ v. not (member v xs)) (all-upto n))
@@ -150,7 +150,7 @@ module _ (n : ℕ) (adj xs : List ℕ) {P : ℕ → Type 0} where
       by-test true = q
       by-test false = p
 
-  next-among : {vs : List ℕ} → All P vs → 0 < length vs → P (nextVertex n adj xs vs)
+  pub next-among : {vs : List ℕ} → All P vs → 0 < length vs → P (nextVertex n adj xs vs)
   unfolding nextVertex
   next-among none h = absurd (not-suc-le-zero h)
   next-among (also {x} p ps) h = best-among x p ps

@@ -13,10 +13,10 @@ use Rattle.model.specs.Layouts.{valid}
 use Rattle.model.specs.Checks.{Check, refusal, isValid, roomFor}
 use Rattle.model.specs.Writing.{Format, fillChecks, fillAnswer, filled, writeAnswer, writeOf, writtenBytes}
 use Rattle.model.specs.WrittenCharts.{chartFormat}
-use Rattle.model.specs.Graph6.{graph6Format}
+use Rattle.model.specs.Graph6.{exportChecks, graph6Format}
 use Rattle.model.specs.EdgeCrossings.{tableFormat}
 use Rattle.laws.specs.Sums.Indicators.{T-true}
-use Rattle.laws.specs.Sums.Lists.{none}
+use Rattle.laws.specs.Sums.Lists.{none, also}
 use Rattle.laws.specs.Layouts.Refusals.{Numbered, passed, one-more, failed-before, passed-before, valid-passed, when-accepted, checked-number}
 
 -- each check of a format has a number
@@ -28,7 +28,8 @@ pub chart-coded : Coded chartFormat
 chart-coded = record { own = λ l. none; room = lit< tt }
 
 pub graph6-coded : Coded graph6Format
-graph6-coded = record { own = λ l. none; room = lit< tt }
+unfolding exportChecks
+graph6-coded = record { own = λ l. also (lit< tt) none; room = lit< tt }
 
 pub table-coded : Coded tableFormat
 table-coded = record { own = λ l. none; room = lit< tt }

@@ -10,11 +10,11 @@ use Rattle.model.specs.declared.Asked.the-variants as asks
 use Rattle.model.specs.declared.SizeFound.{SizeFound}
 use Rattle.model.specs.declared.SizeFound.the-variants as size
 use Rattle.model.specs.declared.Layout.{Layout}
-use Rattle.model.specs.Layouts.{emptyLayout}
+use Rattle.model.specs.Layouts.{emptyLayout, tableWeight}
 use Rattle.model.specs.Checks.{Check, refusal, byRefusal, checked}
 use Rattle.model.specs.Charts.{Answer, accept, refuse, asked, sizeFound, answer, readAs}
 use Rattle.laws.specs.Sums.Lists.{All, none, also}
-use Rattle.laws.specs.Layouts.Recount.{counted}
+use Rattle.laws.specs.Tables.Counts.{counted}
 use Rattle.laws.specs.Layouts.Sizes.{Sized, empty-sized}
 use Rattle.laws.specs.Layouts.Refusals.{Numbered, checked-either, checked-number, when-accepted, when-refused}
 
@@ -62,8 +62,8 @@ abbrev pub acceptedRead : Layout → LayoutRead
 acceptedRead l = record { refusal = 0; layout = l }
 
 -- with the crossings that the counter counts
-abbrev pub countedLayout : ℕ → List ℕ → List ℕ → Layout
-countedLayout n order adj = record { n = n; order = order; adjacency = adj; count = counted n order adj }
+abbrev pub countedLayout : ℕ → List ℕ → List ℕ → List ℕ → Layout
+countedLayout n order adj ws = record { n = n; order = order; adjacency = adj; weights = ws; count = counted n order (tableWeight ws) }
 
 -- what a reader gives, by the number of the first question that fails
 module _ (checks : List Check) (l : Layout) where
@@ -122,15 +122,3 @@ module _ {xs : List Check} (m : Numbered xs) (ys : List Check) (x : LayoutRead) 
 -- the last of the questions passes
 pub last-passes : {c : Check} → All (λ c. c .passes ≡ true) (c ∷ []) → c .passes ≡ true
 last-passes (also p none) = p
-
-pub second-passes : {c d : Check} → All (λ c. c .passes ≡ true) (c ∷ d ∷ []) → d .passes ≡ true
-second-passes (also p (also q none)) = q
-
--- two answers that are the same where all questions pass
-pub same-checked : (cs : List Check) {x y : LayoutRead} → (refusal cs ≡ 0 → x ≡ y) → checked cs x refusedRead ≡ checked cs y refusedRead
-unfolding checked byRefusal
-same-checked cs {x} {y} h = by-number (refusal cs) h
-  where
-    by-number : (k : ℕ) → (k ≡ 0 → x ≡ y) → byRefusal k x refusedRead ≡ byRefusal k y refusedRead
-    by-number zero e = e refl
-    by-number (suc k) e = refl

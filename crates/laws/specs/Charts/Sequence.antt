@@ -1,28 +1,29 @@
 -- The sequence of a chart's links, and of the two ends of each, makes no difference to what the reader answers: neither to a layout nor to a refusal.
 use Prim.Native.Nat.{ℕ, suc, _+_, _≤_, zero-le}
 use native.Mathlib.Nat.{zero-add}
+use native.Mathlib.Decide.{ℕ-discrete}
 use native.Mathlib.Omega.{arith}
 use mathlib.Core.Path.{_≡_, refl, sym, ap, ap₂, _∙_, subst}
-use mathlib.Core.Bool.{Bool, true, false, not, _&&_, _||_, false≢true}
+use mathlib.Core.Bool.{Bool, true, false, not, cond, _&&_, _||_, false≢true}
 use mathlib.Core.List.{List, [], _∷_, _++_}
 use lib.ListN.{length, getD, take}
 use lib.Dec.{eqb, ltb, lit<}
 use borrow.Author.Tests.{lt-ltb, le-ltb, ltb-false, eqb-true}
 use Rattle.model.specs.declared.Edge.{Edge}
-use Rattle.model.specs.declared.LayoutRead.{LayoutRead}
 use Rattle.model.specs.Lists.{one, every, any, sumOver, noRepeats}
-use Rattle.model.specs.declared.Layout.{Layout}
-use Rattle.model.specs.Layouts.{emptyLayout}
-use Rattle.model.specs.Checks.{Check, refusal, checked}
+use Rattle.model.specs.Layouts.{isWeight}
+use Rattle.model.specs.Checks.{Check, refusal}
 use Rattle.model.specs.Charts.{bodyOf, chartSize, chartEdges, chartOrder, edgesIn, sameEdge, edgeWithin}
-use Rattle.model.specs.Charts.{chartChecks, sizeChecks, endChecks, repeatChecks, placeChecks, readOf}
+use Rattle.model.specs.Charts.{chartChecks, sizeChecks, endChecks, repeatChecks, placeChecks, weightChecks, chartWeights, readOf}
 use Rattle.laws.specs.Sums.Lists.{All, none, also, all-mono}
 use Rattle.laws.specs.Sums.Every.{every-all, all-every}
 use Rattle.laws.specs.Sums.Indicators.{both-left, both-right}
 use Rattle.laws.specs.Layouts.Refusals.{Numbered, all-pass}
 use Rattle.laws.specs.Layouts.FirstCrossing.{self-same}
 use Rattle.laws.specs.Charts.Ends.{edge, edge-swap}
-use Rattle.laws.specs.Charts.Reading.{same-words, same-layouts}
+use Rattle.laws.specs.Charts.Weights.{listedWeight}
+use Rattle.laws.specs.Charts.Passes.{refusedRead}
+use Rattle.laws.specs.Charts.Reading.{read-number, read-refused, accepted-once, chartWeight, same-charts}
 
 -- ---- how often an edge is written
 
@@ -131,36 +132,83 @@ module _ {es fs : List Edge} (same : SameEdges es fs) where
 add-swap : (a b c : ℕ) → a + (b + c) ≡ b + (a + c)
 add-swap a b c = omega arith
 
--- the bodies of 4C that differ only in the sequence of the links and of the ends of each
-pub data Rewritten : List ℕ → List ℕ → Type 0 where
-  as-is : {s : List ℕ} → Rewritten s s
-  ends-exchanged : {a b : ℕ} {s : List ℕ} → Rewritten (a ∷ b ∷ s) (b ∷ a ∷ s)
-  links-exchanged : {a b c d : ℕ} {s : List ℕ} → Rewritten (a ∷ b ∷ c ∷ d ∷ s) (c ∷ d ∷ a ∷ b ∷ s)
-  behind : {a b : ℕ} {s t : List ℕ} → Rewritten s t → Rewritten (a ∷ b ∷ s) (a ∷ b ∷ t)
-  and-then : {s t u : List ℕ} → Rewritten s t → Rewritten t u → Rewritten s u
+-- links, two bytes each, and their weights that differ only in the sequence of the links, each with its weight, and of the ends of each
+pub data Rewritten : List ℕ → List ℕ → List ℕ → List ℕ → Type 0 where
+  as-is : {s ws : List ℕ} → Rewritten s ws s ws
+  ends-exchanged : {a b : ℕ} {s ws : List ℕ} → Rewritten (a ∷ b ∷ s) ws (b ∷ a ∷ s) ws
+  links-exchanged : {a b c d x y : ℕ} {s ws : List ℕ} → Rewritten (a ∷ b ∷ c ∷ d ∷ s) (x ∷ y ∷ ws) (c ∷ d ∷ a ∷ b ∷ s) (y ∷ x ∷ ws)
+  behind : {a b x : ℕ} {s ws t vs : List ℕ} → Rewritten s ws t vs → Rewritten (a ∷ b ∷ s) (x ∷ ws) (a ∷ b ∷ t) (x ∷ vs)
+  and-then : {s ws t vs u us : List ℕ} → Rewritten s ws t vs → Rewritten t vs u us → Rewritten s ws u us
 
-pub rewritten-length : {s t : List ℕ} → Rewritten s t → length s ≡ length t
-rewritten-length as-is = refl
-rewritten-length ends-exchanged = refl
-rewritten-length links-exchanged = refl
-rewritten-length (behind r) = ap (λ (k : ℕ). suc (suc k)) (rewritten-length r)
-rewritten-length (and-then r q) = rewritten-length r ∙ rewritten-length q
+pub rewritten-length : {s ws t vs : List ℕ} → Rewritten s ws t vs → (length s ≡ length t) × (length ws ≡ length vs)
+rewritten-length as-is = (refl, refl)
+rewritten-length ends-exchanged = (refl, refl)
+rewritten-length links-exchanged = (refl, refl)
+rewritten-length (behind r) = let q = rewritten-length r in (ap (λ (k : ℕ). suc (suc k)) (q .0), ap suc (q .1))
+rewritten-length (and-then r q) =
+    let first = rewritten-length r in
+    let second = rewritten-length q in
+    (first .0 ∙ second .0, first .1 ∙ second .1)
 
-often-rewritten : {s t : List ℕ} → Rewritten s t → (e : Edge) → written e (edgesIn s) ≡ written e (edgesIn t)
+often-rewritten : {s ws t vs : List ℕ} → Rewritten s ws t vs → (e : Edge) → written e (edgesIn s) ≡ written e (edgesIn t)
 unfolding edgesIn written sumOver edge
 often-rewritten as-is e = refl
 often-rewritten (ends-exchanged {a} {b} {s}) e = ap (λ (f : Edge). written e (f ∷ edgesIn s)) (edge-swap a b)
-often-rewritten (links-exchanged {a} {b} {c} {d} {s}) e =
+often-rewritten (links-exchanged {a} {b} {c} {d} {s = s}) e =
     add-swap (one (sameEdge e (edge a b))) (one (sameEdge e (edge c d))) (written e (edgesIn s))
 often-rewritten (behind {a} {b} r) e = ap (λ (k : ℕ). one (sameEdge e (edge a b)) + k) (often-rewritten r e)
 often-rewritten (and-then r q) e = often-rewritten r e ∙ often-rewritten q e
 
-pub rewritten-edges : {s t : List ℕ} → Rewritten s t → SameEdges (edgesIn s) (edgesIn t)
+pub rewritten-edges : {s ws t vs : List ℕ} → Rewritten s ws t vs → SameEdges (edgesIn s) (edgesIn t)
 rewritten-edges r = record { often = often-rewritten r }
+
+-- the weights are the same ones
+rewritten-every : (p : ℕ → Bool) {s ws t vs : List ℕ} → Rewritten s ws t vs → every p ws ≡ every p vs
+unfolding every
+rewritten-every p as-is = refl
+rewritten-every p ends-exchanged = refl
+rewritten-every p (links-exchanged {x = x} {y = y} {ws = ws}) = swap (p x) (p y) (every p ws)
+  where
+    swap : (a b c : Bool) → (a && (b && c)) ≡ (b && (a && c))
+    swap true b c = refl
+    swap false true c = refl
+    swap false false c = refl
+rewritten-every p (behind {x = x} r) = ap (λ (b : Bool). p x && b) (rewritten-every p r)
+rewritten-every p (and-then r q) = rewritten-every p r ∙ rewritten-every p q
+
+-- and, where no edge is written twice, each edge has the same one
+rewritten-weight : {s ws t vs : List ℕ} → Rewritten s ws t vs → noRepeats sameEdge (edgesIn s) ≡ true
+    → (a b : ℕ) → listedWeight (edgesIn s) ws a b ≡ listedWeight (edgesIn t) vs a b
+unfolding edgesIn listedWeight edge noRepeats any
+rewritten-weight as-is once i j = refl
+rewritten-weight (ends-exchanged {a} {b} {s} {ws}) once i j = ap (λ (f : Edge). listedWeight (f ∷ edgesIn s) ws i j) (edge-swap a b)
+rewritten-weight (links-exchanged {a} {b} {c} {d} {x} {y} {s} {ws}) once i j =
+    swap (sameEdge (edge a b) here) (sameEdge (edge c d) here)
+    both-there (listedWeight (edgesIn s) ws i j)
+  where
+    here : Edge
+    here = with-ends i j
+
+    both-there : sameEdge (edge a b) here ≡ true → sameEdge (edge c d) here ≡ true → ⊥
+    both-there p q =
+        let alike : sameEdge (edge a b) (edge c d) ≡ true = ap₂ sameEdge (ends-same (edge a b) here p) (ends-same (edge c d) here q) ∙ self-same here in
+        false≢true
+        (sym (ap not (ap (λ (t : Bool). t || any (sameEdge (edge a b)) (edgesIn s)) alike))
+        ∙ both-left (not (sameEdge (edge a b) (edge c d) || any (sameEdge (edge a b)) (edgesIn s))) (noRepeats sameEdge (edge c d ∷ edgesIn s)) once)
+
+    swap : (p q : Bool) → (p ≡ true → q ≡ true → ⊥) → (rest : ℕ) → cond p x (cond q y rest) ≡ cond q y (cond p x rest)
+    swap true true n rest = absurd (n refl refl)
+    swap true false n rest = refl
+    swap false q n rest = refl
+rewritten-weight (behind {a} {b} {x} {s} {ws} r) once i j =
+    ap (λ (k : ℕ). cond (sameEdge (edge a b) (with-ends i j)) x k)
+    (rewritten-weight r (both-right (not (any (sameEdge (edge a b)) (edgesIn s))) (noRepeats sameEdge (edgesIn s)) once) i j)
+rewritten-weight (and-then r q) once i j =
+    rewritten-weight r once i j ∙ rewritten-weight q (sym (same-repeats (rewritten-edges r)) ∙ once) i j
 
 -- ---- the whole chart
 
--- two charts, each in the fields 44, 4C and 52, that differ in the body of 4C alone, and there in the sequence of the edges
+-- two charts, each in the fields 44, 4C and 52, with 57 or without it, that differ in the sequence of the edges, each with its weight
 pub record SameButSequence (s t : List ℕ) : Type 0 where
   pub first-fields : refusal (take 3 (chartChecks s)) ≡ 0
   pub second-fields : refusal (take 3 (chartChecks t)) ≡ 0
@@ -168,31 +216,48 @@ pub record SameButSequence (s t : List ℕ) : Type 0 where
   pub lengths : length (bodyOf s 1) ≡ length (bodyOf t 1)
   pub links : SameEdges (chartEdges s) (chartEdges t)
   pub orders : bodyOf s 2 ≡ bodyOf t 2
+  pub many : length (chartWeights s) ≡ length (chartWeights t)
+  pub heavy : every isWeight (chartWeights s) ≡ every isWeight (chartWeights t)
+  pub weights : noRepeats sameEdge (chartEdges s) ≡ true → (a b : ℕ) → chartWeight s a b ≡ chartWeight t a b
 
 three-numbered : (s : List ℕ) → Numbered (take 3 (chartChecks s))
 unfolding chartChecks
 three-numbered s = also (lit< tt) (also (lit< tt) (also (lit< tt) none))
 
--- what questions 4 to 8 ask of the three bodies
-questions : List ℕ → List ℕ → List ℕ → List Check
-questions size links o = sizeChecks size ++ endChecks (getD size 0 0) links ++ repeatChecks links ++ placeChecks (getD size 0 0) o
+-- what the questions from 4 on ask of the bodies
+questions : List ℕ → List ℕ → List ℕ → List ℕ → List Check
+questions size links o ws =
+    sizeChecks size ++ endChecks (getD size 0 0) links ++ repeatChecks links ++ placeChecks (getD size 0 0) o ++ weightChecks links ws
 
 -- where the first three pass, the others are left
 unfoldable passing : List Check → List Check
 passing rest = record { passes = true; code = 1 } ∷ record { passes = true; code = 2 } ∷ record { passes = true; code = 3 } ∷ rest
 
-in-fields : (s : List ℕ) → refusal (take 3 (chartChecks s)) ≡ 0 → chartChecks s ≡ passing (questions (bodyOf s 0) (bodyOf s 1) (bodyOf s 2))
+in-fields : (s : List ℕ) → refusal (take 3 (chartChecks s)) ≡ 0
+    → chartChecks s ≡ passing (questions (bodyOf s 0) (bodyOf s 1) (bodyOf s 2) (chartWeights s))
 unfolding chartChecks passing questions chartSize chartOrder
 in-fields s z = from (all-pass (three-numbered s) z)
   where
-    from : All (λ c. c .passes ≡ true) (take 3 (chartChecks s)) → chartChecks s ≡ passing (questions (bodyOf s 0) (bodyOf s 1) (bodyOf s 2))
+    from : All (λ c. c .passes ≡ true) (take 3 (chartChecks s))
+        → chartChecks s ≡ passing (questions (bodyOf s 0) (bodyOf s 1) (bodyOf s 2) (chartWeights s))
     from (also p (also q (also r none))) = rw (p, q, r)
 
-same-questions : (size links other o : List ℕ) → length links ≡ length other → SameEdges (edgesIn links) (edgesIn other)
-    → questions size links o ≡ questions size other o
-unfolding questions endChecks repeatChecks
-same-questions size links other o long same =
-    rw (long, same-every same (edgeWithin (getD size 0 0)), same-repeats same)
+-- as many bytes give as many edges
+edges-long : (s t : List ℕ) → length s ≡ length t → length (edgesIn s) ≡ length (edgesIn t)
+unfolding edgesIn
+edges-long [] [] e = refl
+edges-long (a ∷ []) (b ∷ []) e = refl
+edges-long (a ∷ b ∷ s) (c ∷ d ∷ t) e = ap suc (edges-long s t (omega arith))
+edges-long [] (b ∷ t) e = absurd (omega arith)
+edges-long (a ∷ s) [] e = absurd (omega arith)
+edges-long (a ∷ []) (c ∷ d ∷ t) e = absurd (omega arith)
+edges-long (a ∷ b ∷ s) (c ∷ []) e = absurd (omega arith)
+
+same-questions : (size links other o ws vs : List ℕ) → length links ≡ length other → SameEdges (edgesIn links) (edgesIn other)
+    → length ws ≡ length vs → every isWeight ws ≡ every isWeight vs → questions size links o ws ≡ questions size other o vs
+unfolding questions endChecks repeatChecks weightChecks
+same-questions size links other o ws vs long same many heavy =
+    rw (long, same-every same (edgeWithin (getD size 0 0)), same-repeats same, many, edges-long links other long, heavy)
 
 module _ {s t : List ℕ} (same : SameButSequence s t) where
   same-checks : chartChecks s ≡ chartChecks t
@@ -200,24 +265,28 @@ module _ {s t : List ℕ} (same : SameButSequence s t) where
   same-checks =
       in-fields s (same .first-fields)
       ∙ ap passing
-      (same-questions (bodyOf s 0) (bodyOf s 1) (bodyOf t 1) (bodyOf s 2) (same .lengths) (same .links)
-      ∙ ap₂ (λ (x y : List ℕ). questions x (bodyOf t 1) y) (same .sizes) (same .orders))
+      (same-questions (bodyOf s 0) (bodyOf s 1) (bodyOf t 1) (bodyOf s 2) (chartWeights s) (chartWeights t) (same .lengths) (same .links) (same .many)
+      (same .heavy)
+      ∙ ap₂ (λ (x y : List ℕ). questions x (bodyOf t 1) y (chartWeights t)) (same .sizes) (same .orders))
       ∙ sym (in-fields t (same .second-fields))
 
   -- the same answer: the same layout, or the same refusal
   pub sequence-free : readOf s ≡ readOf t
-  unfolding readOf chartSize chartOrder
+  unfolding chartSize chartOrder
   sequence-free =
-      ap₂ (λ (cs : List Check) (l : Layout). checked cs (record { refusal = 0; layout = l }) refused) same-checks
-      (same-layouts s t (ap (λ (x : List ℕ). getD x 0 0) (same .sizes)) (same .orders)
-      (same-words (chartEdges s) (chartEdges t) (same-member (same .links))))
+      elim (ℕ-discrete (readOf s .refusal) 0) [
+        | yes p ↦
+            same-charts s t p (sym same-number ∙ p) (ap (λ (x : List ℕ). getD x 0 0) (same .sizes)) (same .orders) (same-member (same .links))
+            (λ e. same .weights (accepted-once s p) (e .low) (e .high))
+        | no d ↦ read-refused s d ∙ ap refusedRead same-number ∙ sym (read-refused t (λ z. d (same-number ∙ z)))
+      ]
     where
-      refused : ℕ → LayoutRead
-      refused r = record { refusal = r; layout = emptyLayout }
+      same-number : readOf s .refusal ≡ readOf t .refusal
+      same-number = read-number s ∙ ap refusal same-checks ∙ sym (read-number t)
 
--- so does a chart whose links are rewritten: another sequence, ends exchanged
+-- so does a chart whose links are rewritten, with their weights: another sequence, ends exchanged
 pub rewriting-free : (s t : List ℕ) → refusal (take 3 (chartChecks s)) ≡ 0 → refusal (take 3 (chartChecks t)) ≡ 0
-    → bodyOf s 0 ≡ bodyOf t 0 → Rewritten (bodyOf s 1) (bodyOf t 1) → bodyOf s 2 ≡ bodyOf t 2 → readOf s ≡ readOf t
+    → bodyOf s 0 ≡ bodyOf t 0 → Rewritten (bodyOf s 1) (chartWeights s) (bodyOf t 1) (chartWeights t) → bodyOf s 2 ≡ bodyOf t 2 → readOf s ≡ readOf t
 unfolding chartEdges
 rewriting-free s t first second sizes links orders =
     sequence-free
@@ -225,7 +294,10 @@ rewriting-free s t first second sizes links orders =
       first-fields = first;
       second-fields = second;
       sizes = sizes;
-      lengths = rewritten-length links;
+      lengths = rewritten-length links .0;
       links = rewritten-edges links;
       orders = orders;
+      many = rewritten-length links .1;
+      heavy = rewritten-every isWeight links;
+      weights = rewritten-weight links;
     })

@@ -47,9 +47,9 @@ quadruples n = pairSum n (λ j k. j * (n - suc k))
 abbrev pub mostCrossings : ℕ
 mostCrossings = 635376
 
--- what one place, or one step of greedy append, can add at most: 64 times 64 for each of 64
-abbrev pub mostOfPlace : ℕ
-mostOfPlace = 262144
+-- and where each of these weighs 255
+abbrev pub mostWeighted : ℕ
+mostWeighted = 41315324400
 
 pub quadruples-most : quadruples 64 ≡ mostCrossings
 unfolding quadruples pairSum sum one

@@ -1,21 +1,20 @@
 -- A chord between two places of an order crosses the edges from strictly between its places to beyond them; an edge that stands there crosses just those. How
 -- many these are, from one place to the next. Over any weight of the edges that is symmetric and 0 from a vertex to itself.
-use Prim.Native.Nat.{ℕ, suc, _+_, _*_, _-_, _≤_, _<_}
-use native.Mathlib.Nat.{add-comm, mul-zero}
-use native.Mathlib.Decide.{ℕ-discrete}
+use Prim.Native.Nat.{ℕ, suc, _+_, _*_, _-_, _<_}
+use native.Mathlib.Nat.{add-comm}
 use native.Mathlib.Omega.{arith}
 use mathlib.Core.Path.{_≡_, sym, ap, ap₂, _∙_}
 use mathlib.Core.List.{List, [], _∷_, _++_}
-use lib.ListN.{length, getD, take, drop, length-drop}
+use lib.ListN.{take, drop, length-drop}
 use lib.Seq.{take-suc, getD-drop}
-use lib.Dec.{eqb, ltb}
+use lib.Dec.{ltb}
 use Rattle.model.specs.declared.Edge.{Edge}
-use Rattle.model.specs.Lists.{one, sumOver, occurrences, place}
+use Rattle.model.specs.Lists.{one, sumOver, place}
 use Rattle.model.specs.Crossings.{weightedEdges, edgeWeight}
 use Rattle.model.specs.EdgeCrossings.{crossingsWith}
-use Rattle.laws.specs.Sums.Indicators.{less, same, more, order, one-ne, one-ge}
-use Rattle.laws.specs.Sums.Ranges.{double, halves, sum, sum-ext, sum-zero, sum-add, sum-scale, sum-swap}
-use Rattle.laws.specs.Sums.Lists.{All, all-append, all-take, all-drop, all-places, sumOver-ext, sumOver-add, sumOver-append, sumOver-last, sumOver-most}
+use Rattle.laws.specs.Sums.Indicators.{less, same, more, order, one-ge}
+use Rattle.laws.specs.Sums.Ranges.{double, halves, sum, sum-ext, sum-add, sum-scale, sum-swap}
+use Rattle.laws.specs.Sums.Lists.{All, all-append, all-take, all-drop, all-places, sumOver-ext, sumOver-add, sumOver-append, sumOver-last}
 use Rattle.laws.specs.Sums.Pairs.{pairSum, pairSum-ext, pairSum-twice, Symmetric, pair-vertices}
 use Rattle.laws.specs.Orders.Permutations.{at, Permutation, at-lt, place-of-at, place-below, sum-before, sum-behind, sum-between, from-place}
 use Rattle.laws.specs.Crossings.Alternation.{cross, rising, cross-ordered, cross-swap-left, cross-swap-right}
@@ -54,13 +53,6 @@ module _ (W : ℕ → ℕ → ℕ) (v : ℕ) where
   joining-out xs ys zs =
       (λ i. sumOver (λ a. sumOver-out (W a) ys zs i) xs) ∙ sumOver-add (λ a. sumOver (W a) (ys ++ zs)) (λ a. W a v) xs
 
--- with weights of at most c, at most c for each two vertices
-pub joining-most : (W : ℕ → ℕ → ℕ) (c : ℕ) → ((a b : ℕ) → W a b ≤ c) → (xs ys : List ℕ) → joining W xs ys ≤ c * length ys * length xs
-unfolding joining
-joining-most W c h xs ys =
-    sumOver-most (λ a. sumOver (W a) ys) (c * length ys)
-    (all-places xs (λ i l. sumOver-most (W (getD xs i 0)) c (all-places ys (λ j m. h (getD xs i 0) (getD ys j 0)))))
-
 -- ---- from one place to the next
 
 module _ {n : ℕ} {o : List ℕ} (perm : Permutation n o) (i : ℕ) where
@@ -74,35 +66,6 @@ module _ {n : ℕ} {o : List ℕ} (perm : Permutation n o) (i : ℕ) where
 
   pub beyond-below : (k : ℕ) → All (λ a. a < n) (beyond o i k)
   beyond-below k = all-append (all-take i all-below) (all-drop (suc k) all-below)
-
-  -- the vertex at place k stands at no other
-  nowhere : (k : ℕ) → k < n → (f : ℕ → ℕ) → f k ≡ 0 → sum n (λ a. f a * one (eqb (at o k) (at o a))) ≡ 0
-  nowhere k h f z = sum-zero n (λ a. f a * one (eqb (at o k) (at o a))) (λ a l. other a l)
-    where
-      other : (a : ℕ) → a < n → f a * one (eqb (at o k) (at o a)) ≡ 0
-      other a l =
-          elim (ℕ-discrete a k) [
-            | yes e ↦ rw (e, z) (omega arith)
-            | no d ↦
-                rw (one-ne (at o k) (at o a) (λ e. d (sym (place-of-at perm a l) ∙ ap (place o) (sym e) ∙ place-of-at perm k h)))
-                (mul-zero (f a))
-          ]
-
-  pub inside-not : (k : ℕ) → i < k → k < n → occurrences (at o k) (inside o i k) ≡ 0
-  unfolding inside occurrences
-  inside-not k a b =
-      sum-between perm (λ x. one (eqb (at o k) x)) i k a (omega arith)
-      ∙ sum-ext n (λ j. one (ltb i j) * (one (ltb j k) * one (eqb (at o k) (at o j)))) (λ j. one (ltb i j) * one (ltb j k) * one (eqb (at o k) (at o j)))
-      (λ j l. omega arith)
-      ∙ nowhere k b (λ j. one (ltb i j) * one (ltb j k)) (rw (one-ge k k (omega arith)) (mul-zero (one (ltb i k))))
-
-  pub beyond-not : (k : ℕ) → i ≤ k → k < n → occurrences (at o k) (beyond o i k) ≡ 0
-  unfolding occurrences
-  beyond-not k a b =
-      sumOver-append (λ x. one (eqb (at o k) x)) (take i o) (drop (suc k) o)
-      ∙ ap₂ (λ (x y : ℕ). x + y)
-      (sum-before perm (λ x. one (eqb (at o k) x)) i (omega arith) ∙ nowhere k b (λ j. one (ltb j i)) (one-ge k i a))
-      (sum-behind perm (λ x. one (eqb (at o k) x)) k b ∙ nowhere k b (λ j. one (ltb k j)) (one-ge k k (omega arith)))
 
   -- place i and the next, and one place further
   pub inside-none : inside o i (suc i) ≡ []

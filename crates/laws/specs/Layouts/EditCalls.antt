@@ -12,11 +12,11 @@ use Rattle.model.specs.declared.Added.{Added}
 use Rattle.model.specs.Layouts.{capacity, valid}
 use Rattle.model.specs.Checks.{Check, refusal, hasRoom}
 use Rattle.model.specs.Edits.{added, addChecks, addAnswer, addRefused, addOf, changeRefused, changedOr}
-use Rattle.model.specs.Edits.{withBit, withoutBit, atBothEnds, withEdges, linkChecks, linkOf, unlinkChecks, unlinkOf}
+use Rattle.model.specs.Edits.{withBit, withoutBit, atBothEnds, bothWays, withEdges, linkChecks, linkOf, unlinkChecks, unlinkOf}
 use Rattle.laws.specs.Layouts.Refusals.{passed, valid-passed, when-refused, checked-number, checked-either}
-use Rattle.laws.specs.Layouts.Refusals.{Pair, link-pair, unlink-pair}
+use Rattle.laws.specs.Layouts.Refusals.{Pair, link-pair, link-weight, unlink-pair}
 use Rattle.laws.specs.Layouts.Refusals.{changed-number, changed-refused, changed-either}
-use Rattle.laws.specs.Layouts.EdgeEdits.{ChangesOne, set-changes, clear-changes, edges-valid}
+use Rattle.laws.specs.Layouts.EdgeEdits.{ChangesOne, set-changes, clear-changes, WeighsAs, set-weighs, clear-weighs, edges-valid}
 use Rattle.laws.specs.Layouts.VertexEdits.{added-valid}
 use Rattle.laws.specs.Layouts.Reordering.{Keeps, same-keeps, changed-keeps}
 use Rattle.laws.specs.Layouts.Sizes.{Sized}
@@ -44,38 +44,41 @@ module _ (l : Layout) where
       checked-either (addChecks l) (addAnswer l) (addRefused l) (λ (a : Added). Keeps l (a .layout))
       (λ e.
       (let p = room-passed e in
-      changed-keeps l (suc (l .n)) (set (l .order) (l .n) (l .n)) (l .adjacency) (added-valid l (p .0) (p .1) (s .places))))
+      changed-keeps l (suc (l .n)) (set (l .order) (l .n) (l .n)) (l .adjacency) (l .weights) (added-valid l (p .0) (p .1) (s .places))))
       (λ k. same-keeps refl)
 
 -- ---- link and unlink
 
--- the checks cs are those of a call with two named vertices, and one more
-module _ (l : Layout) (a b : ℕ) (cs : List Check) (pair : refusal cs ≡ 0 → Pair l a b) where
-  edges-keep : {f : ℕ → ℕ → ℕ} {x : ℕ} → ChangesOne f x → Sized l → Keeps l (changedOr l cs (withEdges l (atBothEnds f (l .adjacency) a b)) .layout)
+-- the checks cs are those of a call with two named vertices, and more, behind which the bit is x and the weight w
+module _ (l : Layout) (a b : ℕ) (cs : List Check) {x w : ℕ} (pair : refusal cs ≡ 0 → Pair l a b) (weighs : refusal cs ≡ 0 → WeighsAs x w) where
+  edges-keep : {f : ℕ → ℕ → ℕ} → ChangesOne f x → Sized l
+      → Keeps l (changedOr l cs (withEdges l (atBothEnds f (l .adjacency) a b) (bothWays (l .weights) a b w)) .layout)
   unfolding withEdges
-  edges-keep {f} {x} change s =
-      changed-either l cs (withEdges l (atBothEnds f (l .adjacency) a b)) (Keeps l)
-      (λ e. changed-keeps l (l .n) (l .order) (atBothEnds f (l .adjacency) a b) (edges-valid f x change (pair e) (s .words)))
+  edges-keep {f} change s =
+      changed-either l cs (withEdges l (atBothEnds f (l .adjacency) a b) (bothWays (l .weights) a b w)) (Keeps l)
+      (λ e.
+      changed-keeps l (l .n) (l .order) (atBothEnds f (l .adjacency) a b) (bothWays (l .weights) a b w)
+      (edges-valid f change (weighs e) (pair e) (s .words) (s .table)))
       (same-keeps refl)
 
 module _ (l : Layout) (a b : ℕ) where
-  abbrev pub linkedLayout : Layout
-  linkedLayout = withEdges l (atBothEnds withBit (l .adjacency) a b)
+  abbrev pub linkedLayout : ℕ → Layout
+  linkedLayout w = withEdges l (atBothEnds withBit (l .adjacency) a b) (bothWays (l .weights) a b w)
 
-  link-number : linkOf l a b .refusal ≡ refusal (linkChecks l a b)
+  link-number : (w : ℕ) → linkOf l a b w .refusal ≡ refusal (linkChecks l a b w)
   unfolding linkOf
-  link-number = changed-number l (linkChecks l a b) linkedLayout
+  link-number w = changed-number l (linkChecks l a b w) (linkedLayout w)
 
-  pub link-refused : (linkOf l a b .refusal ≡ 0 → ⊥) → linkOf l a b ≡ changeRefused l (linkOf l a b .refusal)
+  pub link-refused : (w : ℕ) → (linkOf l a b w .refusal ≡ 0 → ⊥) → linkOf l a b w ≡ changeRefused l (linkOf l a b w .refusal)
   unfolding linkOf
-  link-refused d = sym (changed-refused l (linkChecks l a b) linkedLayout link-number d)
+  link-refused w d = sym (changed-refused l (linkChecks l a b w) (linkedLayout w) (link-number w) d)
 
-  pub link-keeps : Sized l → Keeps l (linkOf l a b .layout)
+  pub link-keeps : (w : ℕ) → Sized l → Keeps l (linkOf l a b w .layout)
   unfolding linkOf
-  link-keeps = edges-keep l a b (linkChecks l a b) (link-pair l a b) set-changes
+  link-keeps w = edges-keep l a b (linkChecks l a b w) (link-pair l a b w) (λ e. set-weighs (link-weight l a b w e)) set-changes
 
   abbrev pub unlinkedLayout : Layout
-  unlinkedLayout = withEdges l (atBothEnds withoutBit (l .adjacency) a b)
+  unlinkedLayout = withEdges l (atBothEnds withoutBit (l .adjacency) a b) (bothWays (l .weights) a b 0)
 
   unlink-number : unlinkOf l a b .refusal ≡ refusal (unlinkChecks l a b)
   unfolding unlinkOf
@@ -87,4 +90,4 @@ module _ (l : Layout) (a b : ℕ) where
 
   pub unlink-keeps : Sized l → Keeps l (unlinkOf l a b .layout)
   unfolding unlinkOf
-  unlink-keeps = edges-keep l a b (unlinkChecks l a b) (unlink-pair l a b) clear-changes
+  unlink-keeps = edges-keep l a b (unlinkChecks l a b) (unlink-pair l a b) (λ e. clear-weighs) clear-changes

@@ -17,7 +17,6 @@ use Rattle.model.specs.Checks.{refusal, byRefusal, checked, isValid}
 use Rattle.model.specs.Charts.{sameEdge}
 use Rattle.model.specs.Reading.{Shown, pairWith, orElse, firstPair, firstCrossingOf}
 use Rattle.laws.specs.Sums.Indicators.{T-true}
-use Rattle.laws.specs.Sums.Ranges.{sum}
 use Rattle.laws.specs.Sums.Lists.{All, none, also, all-mono}
 use Rattle.laws.specs.Crossings.Edges.{weighted-positive}
 use Rattle.laws.specs.Layouts.Weights.{valid-edges}

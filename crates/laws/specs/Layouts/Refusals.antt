@@ -10,11 +10,12 @@ use borrow.Author.Tests.{ltb-true, eqb-false, not-true}
 use Rattle.model.specs.declared.Layout.{Layout}
 use Rattle.model.specs.declared.Changed.{Changed}
 use Rattle.model.specs.Crossings.{linked}
-use Rattle.model.specs.Layouts.{valid}
-use Rattle.model.specs.Checks.{Check, refusal, byRefusal, checked, isValid, isVertex, differ, isUnlinked, isLinked}
+use Rattle.model.specs.Layouts.{isWeight, valid}
+use Rattle.model.specs.Checks.{Check, refusal, byRefusal, checked, isValid, isVertex, differ, isUnlinked, isLinked, weighs}
 use Rattle.model.specs.Edits.{changedTo, changeRefused, changedOr, moveChecks, linkChecks, unlinkChecks}
 use Rattle.laws.specs.Sums.Indicators.{T-true}
 use Rattle.laws.specs.Sums.Lists.{All, none, also}
+use Rattle.laws.specs.Tables.Fits.{IsWeight, is-weight}
 use Rattle.laws.specs.Layouts.Validity.{sound}
 
 -- ---- lists of checks
@@ -63,6 +64,17 @@ failed-before (d ∷ cs) c n = by-test (d .passes) n (failed-before cs c)
         → cond b (refusal (cs ++ (c ∷ []))) (d .code) ≡ cond b (refusal cs) (d .code)
     by-test true m r = r m
     by-test false m r = refl
+
+-- behind checks that pass, one check more is asked alone
+pub one-more-rest : (cs : List Check) (c : Check) → refusal cs ≡ 0 → Numbered cs → refusal (cs ++ (c ∷ [])) ≡ refusal (c ∷ [])
+unfolding refusal
+one-more-rest cs c z p = one-more c p z
+
+-- a check that passes behind others tells nothing
+pub behind-passes : (cs : List Check) (c : Check) → c .passes ≡ true → refusal (cs ++ (c ∷ [])) ≡ refusal cs
+unfolding refusal
+behind-passes [] c p = rw p
+behind-passes (d ∷ cs) c p = ap (λ (r : ℕ). cond (d .passes) r (d .code)) (behind-passes cs c p)
 
 -- where no check fails, none of the first ones does
 pub passed-before : (cs : List Check) (c : Check) → refusal (cs ++ (c ∷ [])) ≡ 0 → refusal cs ≡ 0
@@ -161,15 +173,38 @@ passed-pair l a b p =
     (also (p .is-valid)
     (also (lt→ltb a (l .n) (p .first)) (also (lt→ltb b (l .n) (p .second)) (also (not-T (eqb a b) (λ e. p .different (eqb→eq a b e))) none))))
 
--- the last check of link and of unlink behind those
+-- the last checks of link and the last of unlink behind those
 module _ (l : Layout) (a b : ℕ) where
-  pub link-last : refusal (moveChecks l a b) ≡ 0 → refusal (linkChecks l a b) ≡ cond (not (linked (l .adjacency) a b)) 0 14
-  unfolding linkChecks moveChecks isUnlinked
-  link-last e = one-more (isUnlinked l a b) (codes-positive l a b) e
+  abbrev joinChecks : List Check
+  joinChecks = moveChecks l a b ++ (isUnlinked l a b ∷ [])
 
-  pub link-before : {r : ℕ} → r ≡ refusal (moveChecks l a b) → (r ≡ 0 → ⊥) → r ≡ refusal (linkChecks l a b)
+  join-positive : Numbered joinChecks
+  unfolding moveChecks isValid isVertex differ isUnlinked
+  join-positive =
+      also {x = isValid l} (omega arith) (also {x = isVertex l a} (omega arith)
+      (also {x = isVertex l b} (omega arith) (also {x = differ a b} (omega arith) (also {x = isUnlinked l a b} (omega arith) none))))
+
+  -- 14 and 25 where the shared checks pass, by what the two tests say
+  pub link-last : (w : ℕ) {joined light : Bool} → refusal (moveChecks l a b) ≡ 0 → not (linked (l .adjacency) a b) ≡ joined → isWeight w ≡ light
+      → refusal (linkChecks l a b w) ≡ cond joined (cond light 0 25) 14
+  unfolding linkChecks moveChecks isUnlinked weighs
+  link-last w {joined} {light} e f g = by-test joined f
+    where
+      last : refusal joinChecks ≡ cond (not (linked (l .adjacency) a b)) 0 14
+      last = one-more (isUnlinked l a b) (codes-positive l a b) e
+
+      by-test : (j : Bool) → not (linked (l .adjacency) a b) ≡ j → refusal (joinChecks ++ (weighs w ∷ [])) ≡ cond j (cond light 0 25) 14
+      by-test true h =
+          one-more (weighs w) join-positive (last ∙ ap (λ (x : Bool). cond x 0 14) h) ∙ ap (λ (x : Bool). cond x 0 25) g
+      by-test false h =
+          let there : refusal joinChecks ≡ 14 = last ∙ ap (λ (x : Bool). cond x 0 14) h in
+          failed-before joinChecks (weighs w) (λ z. omega arith) ∙ there
+
+  pub link-before : (w : ℕ) {r : ℕ} → r ≡ refusal (moveChecks l a b) → (r ≡ 0 → ⊥) → r ≡ refusal (linkChecks l a b w)
   unfolding linkChecks moveChecks
-  link-before e n = e ∙ sym (failed-before (moveChecks l a b) (isUnlinked l a b) (λ z. n (e ∙ z)))
+  link-before w e n =
+      let joined = failed-before (moveChecks l a b) (isUnlinked l a b) (λ z. n (e ∙ z)) in
+      e ∙ sym joined ∙ sym (failed-before joinChecks (weighs w) (λ z. n (e ∙ sym joined ∙ z)))
 
   pub unlink-last : refusal (moveChecks l a b) ≡ 0 → refusal (unlinkChecks l a b) ≡ cond (linked (l .adjacency) a b) 0 15
   unfolding unlinkChecks moveChecks isLinked
@@ -179,10 +214,16 @@ module _ (l : Layout) (a b : ℕ) where
   unfolding unlinkChecks moveChecks
   unlink-before e n = e ∙ sym (failed-before (moveChecks l a b) (isLinked l a b) (λ z. n (e ∙ z)))
 
-  -- an accepted link or unlink has passed the shared checks
-  pub link-pair : refusal (linkChecks l a b) ≡ 0 → Pair l a b
+  -- an accepted link or unlink has passed the shared checks, and a link has a weight
+  pub link-pair : (w : ℕ) → refusal (linkChecks l a b w) ≡ 0 → Pair l a b
   unfolding linkChecks moveChecks
-  link-pair e = pair-passed l a b (passed-before (moveChecks l a b) (isUnlinked l a b) e)
+  link-pair w e = pair-passed l a b (passed-before (moveChecks l a b) (isUnlinked l a b) (passed-before joinChecks (weighs w) e))
+
+  pub link-weight : (w : ℕ) → refusal (linkChecks l a b w) ≡ 0 → IsWeight w
+  unfolding linkChecks moveChecks weighs
+  link-weight w e =
+      let joined = passed-before joinChecks (weighs w) e in
+      is-weight (subst T (sym (passed (weighs w) [] (omega arith) (sym (one-more-rest joinChecks (weighs w) joined join-positive) ∙ e) .passes)) tt)
 
   pub unlink-pair : refusal (unlinkChecks l a b) ≡ 0 → Pair l a b
   unfolding unlinkChecks moveChecks

@@ -9,7 +9,6 @@ use lib.Seq.{length-front, getD-drop, take-at}
 use lib.Dec.{T}
 use Rattle.model.specs.declared.Layout.{Layout}
 use Rattle.model.specs.declared.Changed.{Changed}
-use Rattle.model.specs.Lists.{one}
 use Rattle.model.specs.Crossings.{crossings}
 use Rattle.model.specs.Layouts.{vertexOrder, weight, crossingsOf, valid, modulus, carried, changed, reordered, uncounted}
 use Rattle.model.specs.Checks.{refusal}
@@ -41,9 +40,10 @@ module _ (l : Layout) (o : List ℕ) where
         small = s .small;
         permutation = rw (reordered-order (perm .size)) perm;
         places = λ i h b. unused i h ∙ s .places i h b;
-        symmetry = s .symmetry;
+        words = s .words;
         bits = s .bits;
         unused = s .unused;
+        fits = s .fits;
       })
     where
       unused : (i : ℕ) → l .n ≤ i → at (o ++ drop (l .n) (l .order)) i ≡ at (l .order) i
@@ -86,12 +86,12 @@ abbrev pub CountRight : Layout → Type 0
 CountRight l = l .count ≡ crossingsOf l
 
 -- where that holds of a valid layout, it holds of the valid layout that a call makes of it
-pub changed-count : (l : Layout) (n : ℕ) (places adj : List ℕ) → T (valid l) → T (valid (changed l n places adj))
-    → CountRight l → CountRight (changed l n places adj)
+pub changed-count : (l : Layout) (n : ℕ) (places adj ws : List ℕ) → T (valid l) → T (valid (changed l n places adj ws))
+    → CountRight l → CountRight (changed l n places adj ws)
 unfolding changed crossingsOf vertexOrder weight
-changed-count l n places adj t u e =
-    ap (λ (c : ℕ). carried c (crossingsOf l) (crossingsOf (uncounted n places adj))) e
-    ∙ carried-right (crossingsOf l) (crossingsOf (uncounted n places adj)) (crossings-fit l t) (crossings-fit (changed l n places adj) u)
+changed-count l n places adj ws t u e =
+    ap (λ (c : ℕ). carried c (crossingsOf l) (crossingsOf (uncounted n places adj ws))) e
+    ∙ carried-right (crossingsOf l) (crossingsOf (uncounted n places adj ws)) (crossings-fit l t) (crossings-fit (changed l n places adj ws) u)
 
 -- a call that returns m for l leaves a valid layout valid, and a right count right
 abbrev pub Keeps : Layout → Layout → Type 0
@@ -100,8 +100,8 @@ Keeps l m = T (valid l) → T (valid m) × (CountRight l → CountRight m)
 pub same-keeps : {l m : Layout} → m ≡ l → Keeps l m
 same-keeps e t = (subst (λ (k : Layout). T (valid k)) (sym e) t, λ c. subst (λ (k : Layout). CountRight k) (sym e) c)
 
-pub changed-keeps : (l : Layout) (n : ℕ) (places adj : List ℕ) → T (valid (changed l n places adj)) → Keeps l (changed l n places adj)
-changed-keeps l n places adj u t = (u, changed-count l n places adj t u)
+pub changed-keeps : (l : Layout) (n : ℕ) (places adj ws : List ℕ) → T (valid (changed l n places adj ws)) → Keeps l (changed l n places adj ws)
+changed-keeps l n places adj ws u t = (u, changed-count l n places adj ws t u)
 
 -- ---- the call move
 
@@ -142,6 +142,6 @@ move-keeps l a b =
     changed-either l (moveChecks l a b) (movedLayout l a b) (Keeps l)
     (λ e.
     (let p = pair-passed l a b e in
-    changed-keeps l (l .n) (movedAfter a b (vertexOrder l) ++ drop (l .n) (l .order)) (l .adjacency)
+    changed-keeps l (l .n) (movedAfter a b (vertexOrder l) ++ drop (l .n) (l .order)) (l .adjacency) (l .weights)
     (move-valid l (p .is-valid) a (p .first) b (p .second) (p .different))))
     (same-keeps refl)

@@ -1,6 +1,6 @@
 -- What a valid layout has: an order that holds each vertex once, and symmetric edges. So its crossings are the sum over places, and bounded.
 use Prim.Native.Nat.{ℕ, zero, suc, _*_, _^_, _≤_, _<_}
-use native.Mathlib.Nat.{le-antisymm, le-trans, le-of-eq, min-le-left, mul-one}
+use native.Mathlib.Nat.{le-antisymm, le-trans, le-of-eq, lt-of-lt-of-le, min-le-left, mul-one}
 use native.Mathlib.Omega.{arith}
 use mathlib.Core.Path.{_≡_, refl, sym, ap, _∙_, subst}
 use mathlib.Core.Bool.{Bool, true, false, Bool·beq, not, cond}
@@ -11,15 +11,16 @@ use lib.Dec.{T, eqb, leb, ltb, leb→le, ltb→lt, lt→ltb, eqb→eq}
 use Rattle.model.specs.declared.Layout.{Layout}
 use Rattle.model.specs.Lists.{one, upto, every, occurrences}
 use Rattle.model.specs.Crossings.{linked, unitWeight}
-use Rattle.model.specs.Layouts.{capacity, vertexOrder, weight, crossingsOf, eachOnce, zeroFrom, symmetric, loopless, bitsBelow, valid}
+use Rattle.model.specs.Layouts.{capacity, vertexOrder, weight, crossingsOf, eachOnce, zeroFrom, symmetric, loopless, bitsBelow, weightsFit, valid}
 use Rattle.laws.specs.Sums.Indicators.{T-true, less, same, more, order, and-left, and-right, one-le, beq-eq}
 use Rattle.laws.specs.Sums.Every.{every-upto, upto-every, upto-fails, every-keep}
 use Rattle.laws.specs.Sums.Ranges.{sum, sum-ext, sum-const, sum-swap, sum-mono}
-use Rattle.laws.specs.Orders.Permutations.{at, Permutation, occurrences-places, sum-hits}
+use Rattle.laws.specs.Orders.Permutations.{at, Permutation, at-lt, occurrences-places, sum-hits}
 use Rattle.laws.specs.Sums.Pairs.{pairSum, Symmetric}
 use Rattle.laws.specs.Crossings.Counting.{crossingSum, placed, crossingSum-counted}
 use Rattle.laws.specs.Crossings.Edges.{crossings-sum}
-use Rattle.laws.specs.Crossings.Bound.{mostCrossings, crossingSum-bound}
+use Rattle.laws.specs.Crossings.Bound.{mostWeighted, crossingSum-bound}
+use Rattle.laws.specs.Tables.Fits.{Fits, fits-each, each-fits, fits-light, fits-symmetric}
 
 -- a bit that is not 1 is 0
 pub not-one-bit : (b : ℕ) → b < 2 → eqb b 1 ≡ false → b ≡ 0
@@ -92,7 +93,7 @@ module _ (n : ℕ) (adj : List ℕ) (s : Symmetric n (unitWeight adj)) where
       upto-every (λ u. every (λ v. Bool·beq (linked adj u v) (linked adj v u)) (upto n)) n
       (λ u a. upto-every (λ v. Bool·beq (linked adj u v) (linked adj v u)) n (λ v b. one-same (linked adj u v) (linked adj v u) (s .swap u v a b)))
 
-  weight-loopless : T (loopless n adj)
+  pub weight-loopless : T (loopless n adj)
   unfolding loopless
   weight-loopless = upto-every (λ v. not (linked adj v v)) n (λ v a. not-zero (linked adj v v) (s .diagonal v a))
 
@@ -124,52 +125,59 @@ pub record Sound (l : Layout) : Type 0 where
   pub small : l .n ≤ capacity
   pub permutation : Permutation (l .n) (vertexOrder l)
   pub places : (i : ℕ) → l .n ≤ i → i < capacity → getD (l .order) i 0 ≡ 0
-  pub symmetry : Symmetric (l .n) (weight l)
+  pub words : Symmetric (l .n) (unitWeight (l .adjacency))
   pub bits : (v : ℕ) → v < capacity → getD (l .adjacency) v 0 < 2 ^ l .n
   pub unused : (v : ℕ) → l .n ≤ v → v < capacity → getD (l .adjacency) v 0 ≡ 0
+  pub fits : Fits (l .n) (l .adjacency) (l .weights)
 
 pub sound : (l : Layout) → T (valid l) → Sound l
-unfolding valid vertexOrder weight bitsBelow
+unfolding valid vertexOrder bitsBelow
 sound l t =
+    let small = leb→le (l .n) capacity (search (and-left, and-right) depth 8) in
     record {
-      small = leb→le (l .n) capacity (search (and-left, and-right) depth 7);
+      small = small;
       permutation =
           each-once (l .n) (take (l .n) (l .order))
           (le-trans (le-of-eq (length-take (l .n) (l .order))) (min-le-left (l .n) (length (l .order))))
-          (search (and-left, and-right) depth 7);
-      places = zero-from-at (l .n) (l .order) (search (and-left, and-right) depth 7);
-      symmetry =
-          symmetric-weight (l .n) (l .adjacency) (search (and-left, and-right) depth 7) (search (and-left, and-right) depth 7);
+          (search (and-left, and-right) depth 8);
+      places = zero-from-at (l .n) (l .order) (search (and-left, and-right) depth 8);
+      words =
+          symmetric-weight (l .n) (l .adjacency) (search (and-left, and-right) depth 8) (search (and-left, and-right) depth 8);
       bits = λ v b. ltb→lt (getD (l .adjacency) v 0) (2 ^ l .n)
-          (every-upto (λ v. ltb (getD (l .adjacency) v 0) (2 ^ l .n)) capacity (search (and-left, and-right) depth 7) v b);
-      unused = zero-from-at (l .n) (l .adjacency) (search (and-left, and-right) depth 7);
+          (every-upto (λ v. ltb (getD (l .adjacency) v 0) (2 ^ l .n)) capacity (search (and-left, and-right) depth 8) v b);
+      unused = zero-from-at (l .n) (l .adjacency) (search (and-left, and-right) depth 8);
+      fits = fits-each small (search (and-left, and-right) depth 8);
     }
 
 -- and a layout with all that is valid
 pub sound-valid : (l : Layout) → Sound l → T (valid l)
-unfolding valid weight bitsBelow
+unfolding valid bitsBelow
 sound-valid l s =
     rw (
       le-leb (l .n) capacity (s .small),
       T-true (eachOnce (l .n) (vertexOrder l)) (permutation-eachOnce (s .permutation)),
       T-true (zeroFrom (l .n) (l .order)) (zero-from (l .n) (l .order) (s .places)),
-      T-true (symmetric (l .n) (l .adjacency)) (weight-symmetric (l .n) (l .adjacency) (s .symmetry)),
-      T-true (loopless (l .n) (l .adjacency)) (weight-loopless (l .n) (l .adjacency) (s .symmetry)),
+      T-true (symmetric (l .n) (l .adjacency)) (weight-symmetric (l .n) (l .adjacency) (s .words)),
+      T-true (loopless (l .n) (l .adjacency)) (weight-loopless (l .n) (l .adjacency) (s .words)),
       T-true (bitsBelow (l .n) (l .adjacency))
           (upto-every (λ v. ltb (getD (l .adjacency) v 0) (2 ^ l .n)) capacity (λ v b. lt→ltb (getD (l .adjacency) v 0) (2 ^ l .n) (s .bits v b))),
       T-true (zeroFrom (l .n) (l .adjacency)) (zero-from (l .n) (l .adjacency) (s .unused)),
+      T-true (weightsFit (l .n) (l .adjacency) (l .weights)) (each-fits (s .small) (s .fits)),
     )
     tt
 
--- the words of a valid layout
-pub words-symmetric : (l : Layout) → T (valid l) → Symmetric (l .n) (unitWeight (l .adjacency))
+-- the weights of a layout with all that
+pub weights-symmetric : {l : Layout} → Sound l → Symmetric (l .n) (weight l)
 unfolding weight
-words-symmetric l t = sound l t .symmetry
+weights-symmetric {l} s = fits-symmetric (s .fits) (weight-loopless (l .n) (l .adjacency) (s .words))
+
+pub valid-symmetric : (l : Layout) → T (valid l) → Symmetric (l .n) (weight l)
+valid-symmetric l t = weights-symmetric (sound l t)
 
 -- no edge weighs more
-pub weight-most : (l : Layout) → T (valid l) → (u v : ℕ) → weight l u v ≤ 1
+pub weight-most : (l : Layout) → T (valid l) → (u v : ℕ) → u < 64 → v < 64 → weight l u v ≤ 255
 unfolding weight
-weight-most l t u v = one-le (linked (l .adjacency) u v)
+weight-most l t = fits-light (sound l t .fits) (sound l t .small)
 
 -- ---- the crossings of a valid layout
 
@@ -181,7 +189,7 @@ module _ (l : Layout) (t : T (valid l)) where
   -- counted over rising places
   pub crossings-rising : crossingsOf l ≡ crossingSum (l .n) (placeWeight l)
   unfolding crossingsOf
-  crossings-rising = crossings-sum (sound l t .permutation) (weight l) (sound l t .symmetry)
+  crossings-rising = crossings-sum (sound l t .permutation) (weight l) (valid-symmetric l t)
 
   -- counted with two counts for each pair of places j < k: the edges from before j to k, and those from j to beyond k
   pub crossings-counted : crossingsOf l
@@ -189,9 +197,11 @@ module _ (l : Layout) (t : T (valid l)) where
       (λ j k. sum (l .n) (λ i. one (ltb i j) * placeWeight l i k) * sum (l .n) (λ m. one (ltb k m) * placeWeight l j m))
   crossings-counted = crossings-rising ∙ crossingSum-counted (l .n) (placeWeight l)
 
-  -- "Most possible: 635,376"
-  pub crossings-bound : crossingsOf l ≤ mostCrossings
+  -- 41,315,324,400
+  pub crossings-bound : crossingsOf l ≤ mostWeighted
   crossings-bound =
+      let s = sound l t in
       le-trans (le-of-eq crossings-rising)
-      (crossingSum-bound (l .n) 1 (placeWeight l) (sound l t .small)
-      (λ i j a b. weight-most l t (at (vertexOrder l) i) (at (vertexOrder l) j)))
+      (crossingSum-bound (l .n) 255 (placeWeight l) (s .small)
+      (λ i j a b. weight-most l t (at (vertexOrder l) i) (at (vertexOrder l) j)
+      (lt-of-lt-of-le (at-lt (s .permutation) i (omega arith)) (s .small)) (lt-of-lt-of-le (at-lt (s .permutation) j b) (s .small))))

@@ -122,7 +122,8 @@ module _ (l : Layout) (limit : ℕ) where
 
 module _ (l : Layout) (s : Sized l) where
   rearranged-sized : {m : Layout} → Rearranged l m → Sized m
-  rearranged-sized p = record { places = p .same-places ∙ s .places; words = ap length (p .same-adjacency) ∙ s .words }
+  rearranged-sized p =
+      record { places = p .same-places ∙ s .places; words = ap length (p .same-adjacency) ∙ s .words; table = ap length (p .same-weights) ∙ s .table }
 
   pub sift-sized : (u : ℕ) → Sized (siftOf l u .layout)
   sift-sized u = sift-either l u Sized (λ t h. rearranged-sized (sifted-rearranged l t u h)) s

@@ -9,8 +9,8 @@ use lib.Seq.{length-take-le, getD-take, getD-drop}
 use lib.Dec.{T, eqb, ltb}
 use Rattle.model.specs.declared.Layout.{Layout}
 use Rattle.model.specs.Lists.{one, sumOver, occurrences, place, firstWith}
-use Rattle.model.specs.Crossings.{unitWeight, crossings}
-use Rattle.model.specs.Layouts.{vertexOrder, weight, crossingsOf, valid, modulus, carried, changed, reordered}
+use Rattle.model.specs.Crossings.{crossings}
+use Rattle.model.specs.Layouts.{vertexOrder, tableWeight, weight, crossingsOf, valid, modulus, carried, changed, reordered}
 use Rattle.model.specs.Edits.{movedAfter}
 use Rattle.model.specs.Search.{least, countWith, leastCost, chosen, siftBest, bestCandidates}
 use Rattle.model.specs.Sifting.{clockwiseFrom, candidateLayouts, sifted, optimaOf}
@@ -132,6 +132,7 @@ pub record Rearranged (l m : Layout) : Type 0 where
   pub valid-after : T (valid m)
   pub same-n : m .n ≡ l .n
   pub same-adjacency : m .adjacency ≡ l .adjacency
+  pub same-weights : m .weights ≡ l .weights
   pub same-places : length (m .order) ≡ length (l .order)
   pub count-carried : l .count < modulus → m .count ≡ carried (l .count) (crossingsOf l) (crossingsOf m)
 
@@ -141,6 +142,7 @@ rearranged-refl l t =
       valid-after = t;
       same-n = refl;
       same-adjacency = refl;
+      same-weights = refl;
       same-places = refl;
       count-carried = λ h. sym (carried-same (l .count) (crossingsOf l) h);
     }
@@ -151,6 +153,7 @@ rearranged-trans l m k p q =
       valid-after = q .valid-after;
       same-n = q .same-n ∙ p .same-n;
       same-adjacency = q .same-adjacency ∙ p .same-adjacency;
+      same-weights = q .same-weights ∙ p .same-weights;
       same-places = q .same-places ∙ p .same-places;
       count-carried = λ h.
           q .count-carried (rw (p .count-carried h) (carried-lt (l .count) (crossingsOf l) (crossingsOf m)))
@@ -161,7 +164,7 @@ rearranged-trans l m k p q =
 -- the same edges, the same weights
 pub rearranged-weight : {l m : Layout} → Rearranged l m → weight m ≡ weight l
 unfolding weight
-rearranged-weight p = ap unitWeight (p .same-adjacency)
+rearranged-weight p = ap tableWeight (p .same-weights)
 
 -- a right count stays right
 pub rearranged-count : {l m : Layout} → T (valid l) → Rearranged l m → CountRight l → CountRight m
@@ -179,6 +182,7 @@ module _ (l : Layout) (t : T (valid l)) (o : List ℕ) (perm : Permutation (l .n
         valid-after = reordered-valid l o t perm;
         same-n = refl;
         same-adjacency = refl;
+        same-weights = refl;
         same-places = reordered-length l o t perm;
         count-carried = λ k. refl;
       }

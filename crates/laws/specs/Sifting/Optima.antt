@@ -19,7 +19,7 @@ use Rattle.model.specs.Sifting.{ring, clockwiseFrom, candidateLayouts, optimaAt
 use Rattle.model.specs.Histories.{placesWith}
 use Rattle.laws.specs.Sums.Lists.{All, all-map, all-mono, all-upto, length-upto, sumOver-ext, sumOver-map, sumOver-most, all-at}
 use Rattle.laws.specs.Orders.Permutations.{at, Permutation, order-sum}
-use Rattle.laws.specs.Layouts.Validity.{sound}
+use Rattle.laws.specs.Layouts.Validity.{sound, valid-symmetric}
 use Rattle.laws.specs.Orders.Moves.{moved-permutation, moved-again}
 use Rattle.laws.specs.Layouts.Reordering.{move-layout, move-crossings, reordered-order, reordered-crossings}
 use Rattle.laws.specs.Sifting.LocalSearch.{least-stays, chosen-has}
@@ -88,7 +88,7 @@ module _ {x : Sift Layout} (p : ProperSift x) where
       (ap crossingsOf (List·getD-map behind others last 0)
       ∙ reordered-crossings (x .before) (movedAfter (x .vertex) (at others last) (vertexOrder (x .before)))
       (moved-permutation in-order (x .vertex) (p .vertex-below) (at others last) (other .0) (other .1) .size)
-      ∙ last-stays in-order (weight (x .before)) (sound (x .before) (p .valid-before) .symmetry) (x .vertex) (p .vertex-below) two)
+      ∙ last-stays in-order (weight (x .before)) (valid-symmetric (x .before) (p .valid-before)) (x .vertex) (p .vertex-below) two)
 
 -- ---- sifted again, a vertex has as many best places: it can be moved to the same ones
 

@@ -1,14 +1,14 @@
 -- The walk of a sift: the vertex is exchanged with its next neighbour in the order, again and again, until it has passed all others. Read
 -- clockwise from the vertex, each candidate is the others turned by one more.
-use Prim.Native.Nat.{ℕ, suc, _+_, _*_, _-_, _≤_, _<_}
-use native.Mathlib.Nat.{add-sub-of-le, le-trans, le-of-eq}
+use Prim.Native.Nat.{ℕ, suc, _+_, _-_, _≤_, _<_}
+use native.Mathlib.Nat.{add-sub-of-le}
 use native.Mathlib.Numerals.{add-one}
 use native.Mathlib.Omega.{arith}
 use mathlib.Core.Path.{_≡_, refl, sym, ap, ap₂, _∙_}
 use mathlib.Core.Bool.{Bool, true, false, cond}
 use mathlib.Core.List.{List, [], _∷_, _++_, append-assoc, append-nil}
-use lib.ListN.{length, take, drop, length-append, length-drop, List·getD-append}
-use lib.Seq.{length-take-le, split-at, drop-cons, drop-length, take-length, take-suc, getD-append-add}
+use lib.ListN.{length, take, drop, length-append, List·getD-append}
+use lib.Seq.{split-at, drop-cons, drop-length, take-length, take-suc, getD-append-add}
 use lib.Seq.{drop-append-add, take-append-seam, take-append-le, drop-append-le, take-append-add}
 use lib.Dec.{eqb}
 use borrow.Author.Tests.{eq-eqb}
@@ -21,10 +21,8 @@ use Rattle.laws.specs.Sums.Lists.{All, also, all-append, all-at, all-pla
 use Rattle.laws.specs.Sums.Pairs.{Symmetric}
 use Rattle.laws.specs.Orders.Permutations.{at, occurrences-append, occurrences-last, Permutation, at-lt, at-of-place, place-below}
 use Rattle.laws.specs.Orders.Moves.{without-place, moved-permutation}
-use Rattle.laws.specs.Crossings.Counting.{placed}
-use Rattle.laws.specs.Crossings.Bound.{mostCrossings, crossingSum-bound}
-use Rattle.laws.specs.Crossings.Lists.{closedCrossings, closed-crossings, crossings-closed}
-use Rattle.laws.specs.Crossings.Exchange.{lost, gained, exchanged, lost-few, turned-once, turned-lists}
+use Rattle.laws.specs.Crossings.Lists.{closedCrossings, crossings-closed}
+use Rattle.laws.specs.Crossings.Exchange.{lost, gained, exchanged, turned-once, turned-lists}
 use Rattle.laws.specs.Sifting.Candidates.{clockwise-length, clockwise-not, clockwise-once, clockwise-others}
 
 -- ---- a list read clockwise from one of its entries
@@ -189,15 +187,6 @@ walked-round W u others =
     ap (λ (xs : List ℕ). closedCrossings W (u ∷ xs))
     (ap₂ (λ (xs ys : List ℕ). xs ++ ys) (drop-length others) (take-length others) ∙ sym (append-nil others))
 
--- with up to 64 vertices and weights up to c, no more than the most there can be
-pub walked-few : (c : ℕ) {W : ℕ → ℕ → ℕ} → ((x y : ℕ) → W x y ≤ c) → (u : ℕ) (others : List ℕ) (k : ℕ) → length others < 64 → k ≤ length others
-    → walked W u others k ≤ c * c * mostCrossings
-unfolding walked
-walked-few c {W} few u others k h l =
-    let list = u ∷ (drop k others ++ take k others) in
-    let size : length list ≤ 64 = omega (arith, length-append (drop k others) (take k others), length-drop k others, length-take-le k others l) in
-    le-trans (le-of-eq (closed-crossings W list)) (crossingSum-bound (length list) c (placed list W) size (λ i j a b. few (at list i) (at list j)))
-
 module _ {n : ℕ} {W : ℕ → ℕ → ℕ} (s : Symmetric n W) where
   -- where the list starts makes no difference
   pub clockwise-crossings : {o : List ℕ} → Permutation n o → (u : ℕ) → u < n → closedCrossings W o ≡ closedCrossings W (u ∷ clockwiseFrom u o)
@@ -228,9 +217,6 @@ module _ {n : ℕ} {W : ℕ → ℕ → ℕ} (s : Symmetric n W) where
 
     pub walked-next : walked W u others (suc k) + lost W u v rest ≡ walked W u others k + gained W u v rest
     walked-next = rw (before-exchange, after-exchange) (exchanged W u v rest)
-
-    pub walked-lost : lost W u v rest ≤ walked W u others k
-    walked-lost = rw before-exchange (lost-few W u v rest)
 
 -- and of the model
 module _ {n : ℕ} {o : List ℕ} (perm : Permutation n o) (W : ℕ → ℕ → ℕ) (s : Symmetric n W) (u : ℕ) (h : u < n) where

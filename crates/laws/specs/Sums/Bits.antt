@@ -1,23 +1,20 @@
 -- The bits of a word: what setting and clearing one does to the others, and counts of ones as sums.
 use Prim.Native.Nat.{ℕ, zero, suc, _+_, _*_, _-_, _/_, _%_, _^_, _≤_, _<_, zero-le}
 use native.Mathlib.Nat.{zero-mul, one-mul, pow-suc, pow-succ', div-one, mod-lt, mod-le, div-add-mod', div-mul-le-self, div-div-eq-div-mul, div-eq-of-lt}
-use native.Mathlib.Nat.{mul-zero, mul-le-mul-right, zero-lt-suc, le-trans, lt-of-lt-of-le, le-of-eq, le-of-suc-le-suc, mul-le-mul, not-suc-le-zero}
-use native.Mathlib.Decide.{ℕ-discrete}
+use native.Mathlib.Nat.{mul-le-mul-right, zero-lt-suc, le-trans, lt-of-lt-of-le, le-of-eq, le-of-suc-le-suc, mul-le-mul, not-suc-le-zero}
 use native.Mathlib.Omega.{arith}
 use mathlib.Core.Path.{_≡_, refl, sym, ap, ap₂, _∙_, subst}
 use lib.Arith.{lt-one, digits-div, digits-mod}
 use lib.Pow.{pow-mono, pow-lt, shr-lt, shl-exact}
 use lib.Bits.{bitAnd, bitOr, and-shr, and-mod, and-high, and-le-l, or-add-and, or-lt}
 use lib.Count.{ones, ones-step}
-use lib.Dec.{lit<, eqb, ltb}
+use lib.Dec.{lit<, ltb}
 use mathlib.Core.Bool.{Bool, cond}
 use borrow.Author.Tests.{lt-ltb}
 use native.Mathlib.Numerals.{add-one, one-add}
-use Rattle.model.specs.Lists.{one}
 use Rattle.model.specs.Crossings.{bit}
 use Rattle.model.specs.Edits.{withBit, withoutBit}
-use Rattle.laws.specs.Sums.Indicators.{one-eq, one-ne}
-use Rattle.laws.specs.Sums.Ranges.{sum, sum-ext, sum-zero, sum-add, sum-scale, sum-const, sum-first, sum-at, sum-mono}
+use Rattle.laws.specs.Sums.Ranges.{sum, sum-ext, sum-const, sum-first, sum-mono}
 
 pub bit-lt : (w i : ℕ) → bit w i < 2
 unfolding bit
@@ -91,18 +88,6 @@ ones-sum (suc k) w h =
     (ones-sum k (w / 2) (half-lt k w h) ∙ sum-ext k (bit (w / 2)) (λ i. bit w (suc i)) (λ i l. sym (bit-next w i)))
     ∙ sym (sum-first k (bit w))
 
--- a number of k bits is the sum of its bits, bit b counted 2^b
-pub digits-sum : (k x : ℕ) → x < 2 ^ k → sum k (λ b. 2 ^ b * bit x b) ≡ x
-unfolding sum
-digits-sum zero x h = sym (lt-one h)
-digits-sum (suc k) x h =
-    sum-first k (λ b. 2 ^ b * bit x b)
-    ∙ ap₂ (λ (y z : ℕ). y + z) (one-mul (bit x 0) ∙ bit-first x)
-    (sum-ext k (λ b. 2 ^ suc b * bit x (suc b)) (λ b. 2 * (2 ^ b * bit (x / 2) b)) (λ b l. rw (bit-next x b, pow-suc 2 b) (omega arith))
-    ∙ sum-scale k 2 (λ b. 2 ^ b * bit (x / 2) b)
-    ∙ ap (λ (y : ℕ). 2 * y) (digits-sum k (x / 2) (half-lt k x h)))
-    ∙ omega (arith, div-add-mod' x 2)
-
 -- the bits of a conjunction
 pub bit-and : (a b i : ℕ) → bit (bitAnd a b) i ≡ bit a i * bit b i
 unfolding bit
@@ -125,10 +110,6 @@ maskedOnes w m = sum 64 (λ i. bit w i * bit m i)
 pub ones-masked : (k w m : ℕ) → w < 2 ^ k → ones (bitAnd w m) ≡ sum k (λ i. bit w i * bit m i)
 ones-masked k w m h =
     ones-sum k (bitAnd w m) (omega (arith, and-le-l w m)) ∙ sum-ext k (bit (bitAnd w m)) (λ i. bit w i * bit m i) (λ i l. bit-and w m i)
-
-pub masked-none : (w : ℕ) → maskedOnes w 0 ≡ 0
-unfolding maskedOnes
-masked-none w = sum-zero 64 (λ i. bit w i * bit 0 i) (λ i l. ap (λ (x : ℕ). bit w i * x) (bit-none i) ∙ mul-zero (bit w i))
 
 pub maskedOnes-le : (w m : ℕ) → maskedOnes w m ≤ 64
 unfolding maskedOnes
@@ -191,21 +172,6 @@ clear-same w i = rw (clear-put w i) (put-same w i 0 (omega arith))
 
 pub clear-other : (w i j : ℕ) → (j ≡ i → ⊥) → bit (withoutBit w i) j ≡ bit w j
 clear-other w i j d = rw (clear-put w i) (put-other w i 0 j (omega arith) d)
-
--- a bit newly set in one of two words is one more in both, where the other has it
-pub masked-set : (s w v : ℕ) → v < 64 → bit w v ≡ 0 → maskedOnes s (withBit w v) ≡ maskedOnes s w + bit s v
-unfolding maskedOnes
-masked-set s w v h e =
-    sum-ext 64 (λ i. bit s i * bit (withBit w v) i) (λ i. bit s i * bit w i + one (eqb v i) * bit s i) (λ i l. by-place i)
-    ∙ sum-add 64 (λ i. bit s i * bit w i) (λ i. one (eqb v i) * bit s i)
-    ∙ ap (λ (x : ℕ). sum 64 (λ i. bit s i * bit w i) + x) (sum-at 64 v (bit s) h)
-  where
-    by-place : (i : ℕ) → bit s i * bit (withBit w v) i ≡ bit s i * bit w i + one (eqb v i) * bit s i
-    by-place i =
-        elim (ℕ-discrete i v) [
-          | yes d ↦ rw (d, set-same w v, e, one-eq v v refl) (omega arith)
-          | no d ↦ rw (set-other w v i d, one-ne v i (λ c. d (sym c))) (omega arith)
-        ]
 
 -- ---- how code changes one bit: by the power of two at it
 

@@ -11,7 +11,7 @@ use borrow.Author.Tests.{le-leb, lt-leb}
 use Rattle.model.specs.Crossings.{crossings}
 use Rattle.laws.specs.Sums.Ranges.{sum4-ext}
 use Rattle.laws.specs.Sums.Pairs.{Symmetric}
-use Rattle.laws.specs.Orders.Permutations.{at, Permutation}
+use Rattle.laws.specs.Orders.Permutations.{Permutation}
 use Rattle.laws.specs.Crossings.Alternation.{rising}
 use Rattle.laws.specs.Crossings.Bound.{mostCrossings, crossingSum-bound}
 use Rattle.laws.specs.Crossings.Counting.{crossingSum, placed}

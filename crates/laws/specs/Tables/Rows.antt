@@ -9,12 +9,10 @@ use lib.ListN.{length, getD, set, length-set}
 use lib.Seq.{getD-set-same, getD-set-other}
 use borrow.Author.Count.{below-more}
 use Rattle.model.specs.Lists.{upto, sumOver}
+unfoldable pub use Rattle.model.specs.Layouts.{tableWeight}
 use Rattle.laws.specs.Sums.Numbers.{Bounded}
 use Rattle.laws.specs.Sums.Ranges.{sum, sum-ext, sum-cut, sum-zero}
 use Rattle.laws.specs.Sums.Lists.{sumOver-upto}
-
-unfoldable pub tableWeight : List ℕ → ℕ → ℕ → ℕ
-tableWeight ws v y = getD ws (64 * v + y) 0
 
 -- the sum of a row, and that of its products with the numbers kept
 unfoldable pub rowWeight : List ℕ → ℕ → ℕ

@@ -20,7 +20,6 @@ pub edge-crossings-spec : {M : Type 1} → statement M
 edge-crossings-spec =
     tie.close
     (tie.spec
-    (λ c. search needs)
     (λ c κs. search needs)
     (λ c κs. search needs)
     (λ c. search needs)

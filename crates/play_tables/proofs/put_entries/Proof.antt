@@ -12,9 +12,6 @@ Inv-loop line₀ at table to₀ i₀ line to i = (i ≤ length table) × (to ≤
 abbrev μ-loop : tie.MeasureT-loop
 μ-loop line₀ at table to₀ i₀ line to i = length table - i
 
-cast-put-number : tie.Need-cast-put-number Inv-loop μ-loop
-cast-put-number c = omega (arith, c .shared-slice-known2 .given (c .before .before .before .loop .i))
-
 loop-again : tie.Need-loop-again Inv-loop μ-loop
 loop-again c =
     let put = c .before .before in
@@ -30,7 +27,6 @@ put-entries-spec =
     (λ c. search needs)
     (λ c. omega arith)
     (λ c. omega arith)
-    cast-put-number
     (λ c κs. search needs)
     (λ c. omega arith)
     (λ c. omega arith)

@@ -12,4 +12,4 @@ returns-2 : tie.Need-returns-2
 returns-2 c = chosen-kept _ _ _ _ (omega (arith, c .if1 .left))
 
 pub chosen-spec : {M : Type 1} → statement M
-chosen-spec = tie.close (tie.spec (λ c κs. search needs) (λ c κs. search needs) returns returns-2)
+chosen-spec = tie.close (tie.spec (λ c κs. search needs) (λ c. search needs) (λ c κs. search needs) returns returns-2)

@@ -1,6 +1,6 @@
 use borrow.Author.Needs.{needs}
 use native.Mathlib.Omega.{arith}
-use Rattle.sift_walk.specs.Words.{turned-few, other-made}
+use Rattle.sift_walk.specs.Seats.{turned-few, other-made}
 use Rattle.sift_walk.proofs.other_at.Statement.{statement}
 use Rattle.sift_walk.proofs.other_at.Tie as tie
 

@@ -1,5 +1,5 @@
 use borrow.Author.Needs.{needs}
-use Rattle.sift_walk.specs.Words.{turned-on, turned-round}
+use Rattle.sift_walk.specs.Seats.{turned-on, turned-round}
 use Rattle.sift_walk.proofs.turned.Statement.{statement}
 use Rattle.sift_walk.proofs.turned.Tie as tie
 

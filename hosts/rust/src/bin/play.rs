@@ -70,15 +70,16 @@ fn take_bytes<'a>(list: &mut &'a [u8], length: u64) -> Option<&'a [u8]> {
 }
 
 /// Sets one field, if that is what the record asks for.
-fn set_field(layout: &mut Layout, [op, a, b, _]: Record) -> bool {
+fn set_field(layout: &mut Layout, [op, a, b, c]: Record) -> bool {
     let fields = layout.fields_mut();
-    let place = a as usize;
+    let (place, other) = (a as usize, b as usize);
     match op {
         2 => fields.n = place,
         3 if place < PLACES => fields.order[place] = b as u8,
         4 if place < PLACES => fields.adjacency[place] = b,
-        3 | 4 => {}
-        5 => fields.count = a as u32,
+        5 => fields.count = a,
+        6 if place < PLACES && other < PLACES => fields.weights[PLACES * place + other] = c as u8,
+        3 | 4 | 6 => {}
         _ => return false,
     }
     true
@@ -87,7 +88,7 @@ fn set_field(layout: &mut Layout, [op, a, b, _]: Record) -> bool {
 /// Plays one record that answers: its name, refusal code and answers. None if
 /// it ends the list.
 fn play_record(layout: &mut Layout, record: Record, list: &mut &[u8]) -> Option<String> {
-    let [op, a, b, _] = record;
+    let [op, a, b, c] = record;
     let (v, w) = (a as usize, b as usize);
     let none = |()| String::new();
     Some(match op {
@@ -97,7 +98,11 @@ fn play_record(layout: &mut Layout, record: Record, list: &mut &[u8]) -> Option<
         }
         1 => start(layout, "chart", Layout::read_chart, list, a)?,
         16 => told("add", " 0", layout.add_vertex().map(|v| format!(" {v}"))),
-        17 => told("link", "", layout.add_edge(v, w).map(none)),
+        17 => told(
+            "link",
+            "",
+            layout.add_weighted_edge(v, w, c as u8).map(none),
+        ),
         18 => told("unlink", "", layout.remove_edge(v, w).map(none)),
         19 => told("move", "", layout.move_after(v, w).map(none)),
         20 => told(
@@ -149,7 +154,7 @@ fn write(layout: &Layout, name: &str, write: Writing, [_, a, b, _]: Record) -> S
 }
 
 fn edge_crossings(layout: &Layout, [_, a, b, _]: Record) -> String {
-    let mut table = filled(a, LONGEST_TABLE, b as u32);
+    let mut table = filled(a, LONGEST_TABLE, b);
     let edges = layout.write_edge_crossings(&mut table);
     told("perlink", " 0", edges.map(|e| format!(" {e}"))) + " table" + &numbers(&table)
 }
@@ -210,13 +215,18 @@ fn numbers<T: Display>(values: &[T]) -> String {
     values.iter().map(|value| format!(" {value}")).collect()
 }
 
-/// The layout, with the adjacency words that differ from those before.
+/// The layout, with the adjacency words and weights that differ from those
+/// before.
 fn layout_text(layout: &Layout, before: &Layout) -> String {
     let (now, before) = (layout.fields(), before.fields());
     let words: String = (0..PLACES)
         .filter(|&v| now.adjacency[v] != before.adjacency[v])
         .map(|v| format!(" {v} {}", now.adjacency[v]))
         .collect();
+    let weights: String = (0..PLACES * PLACES)
+        .filter(|&i| now.weights[i] != before.weights[i])
+        .map(|i| format!(" {} {} {}", i / PLACES, i % PLACES, now.weights[i]))
+        .collect();
     let (n, order, count) = (now.n, numbers(&now.order), now.count);
-    format!(" n {n} order{order} count {count} words{words}\n")
+    format!(" n {n} order{order} count {count} words{words} weights{weights}\n")
 }

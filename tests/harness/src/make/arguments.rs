@@ -85,6 +85,23 @@ impl Maker {
         self.rng.pick(&[(a.into(), b.into()), (b.into(), a.into())])
     }
 
+    /// A weight for a link: in a list with weights any byte, in others 1; now and
+    /// then 0, or a larger number that stands for the same byte.
+    pub fn weight(&mut self) -> u64 {
+        let any = self.rng.within(1, 255) as u64;
+        let byte = match self.rng.below(10) {
+            0 => 0,
+            1..=6 if self.weighs => self.rng.pick(&[2, 255, any]),
+            _ => 1,
+        };
+        let over = self.rng.pick(&[1, 2, 255, 1 << 24, (1 << 56) - 1]);
+        if self.rng.once_in(8) {
+            byte + 256 * over
+        } else {
+            byte
+        }
+    }
+
     fn limit(&mut self) -> u64 {
         let any = self.rng.within(1, 1000) as u64;
         let wide = 1 << 32;
@@ -116,5 +133,30 @@ impl Maker {
         let odd = self.rng.pick(&[64, 255, 256, 1 << 32, u64::MAX]);
         let lengths = [n, n + 1, n.saturating_sub(1), any, any, odd];
         self.rng.pick(&lengths)
+    }
+}
+
+#[cfg(test)]
+mod tests {
+    use super::*;
+    use crate::rng::Rng;
+    use std::collections::BTreeSet;
+
+    /// The bytes that the weights of links in a list stand for, and whether a
+    /// larger number does.
+    fn bytes(weighs: bool) -> (BTreeSet<u64>, bool) {
+        let mut maker = Maker::new(Rng::new(1, "weights of links", 0), &Known::all());
+        maker.weighs = weighs;
+        let numbers: Vec<u64> = (0..20_000).map(|_| maker.weight()).collect();
+        let bytes = numbers.iter().map(|number| number % 256).collect();
+        (bytes, numbers.iter().any(|&number| number > 255))
+    }
+
+    #[test]
+    fn links_have_every_weight_or_1_and_now_and_then_0() {
+        let (all, over) = bytes(true);
+        assert!(over && all.into_iter().eq(0..256));
+        let (ones, over) = bytes(false);
+        assert!(over && ones.into_iter().eq([0, 1]));
     }
 }

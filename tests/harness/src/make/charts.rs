@@ -1,19 +1,22 @@
-//! Charts: of every size and density, of every family of graphs, settled
-//! already, and those that are refused.
+//! Charts: of every size and density, of every family of graphs, with each kind
+//! of weights, settled already, and those that are refused.
 
 use super::cost;
 use super::density::QUARTERS;
 use super::families;
 use super::graph::Graph;
 use super::settled::settled;
-use super::special::{Special, SPECIALS};
+use super::special::{Special, DEAR, SPECIALS};
+use super::weights;
 use crate::rng::Rng;
 
-/// The bodies of a chart's three fields, whatever they hold.
+/// The bodies of a chart's fields, whatever they hold; that of the weights may
+/// be missing.
 pub struct Chart {
     pub size: Vec<u8>,
     pub edges: Vec<u8>,
     pub order: Vec<u8>,
+    pub weights: Option<Vec<u8>>,
 }
 
 impl Chart {
@@ -22,15 +25,19 @@ impl Chart {
             size: vec![graph.n() as u8],
             edges: graph.edges.iter().flat_map(|&(a, b)| [a, b]).collect(),
             order: graph.order.clone(),
+            weights: graph.weights.clone(),
         }
     }
 
-    pub fn fields(&self) -> [Vec<u8>; 3] {
-        [
+    /// Three fields, or four.
+    pub fn fields(&self) -> Vec<Vec<u8>> {
+        let mut fields = vec![
             field(0x44, &self.size),
             field(0x4C, &self.edges),
             field(0x52, &self.order),
-        ]
+        ];
+        fields.extend(self.weights.iter().map(|weights| field(0x57, weights)));
+        fields
     }
 
     pub fn bytes(&self) -> Vec<u8> {
@@ -39,9 +46,11 @@ impl Chart {
 }
 
 /// The length of a chart of n vertices and m edges: three headers, the size,
-/// two bytes an edge and one a vertex.
-pub fn length(n: usize, m: usize) -> u64 {
-    (3 * 3 + 1 + 2 * m + n) as u64
+/// two bytes an edge and one a vertex; with weights another header and a third
+/// byte an edge.
+pub fn length(n: usize, m: usize, weighted: bool) -> u64 {
+    let weights = if weighted { 3 + m } else { 0 };
+    (3 * 3 + 1 + 2 * m + n + weights) as u64
 }
 
 pub fn field(tag: u8, body: &[u8]) -> Vec<u8> {
@@ -55,6 +64,8 @@ pub struct Made {
     pub kind: &'static str,
     /// The family that its graph is of, if it is of one.
     pub family: Option<&'static str>,
+    /// The kind of weights that it has, if it is an accepted one.
+    pub weights: Option<&'static str>,
     pub refusal: Option<u8>,
     /// Whether the naive model can settle it in bearable time.
     pub naive: bool,
@@ -77,10 +88,13 @@ pub fn chart(seed: u64, index: usize) -> Made {
 }
 
 /// What an accepted chart is to be. Any 65 in a row have every size once; the
-/// quarters of all edges and the families take turns, and one chart in five is
-/// settled already, if its graph can be settled in bearable time.
+/// quarters of all edges, the families and the kinds of weights take turns, and
+/// one chart in five is settled already, if its graph can be settled in bearable
+/// time.
 struct Shape {
     n: usize,
+    /// Its number among the accepted charts.
+    number: usize,
     /// Its number among the charts that are of a family or of any density.
     turn: usize,
     of_family: bool,
@@ -93,6 +107,7 @@ impl Shape {
         let n = ((seed % 65) as usize + 7 * accepted) % 65;
         Shape {
             n,
+            number: accepted,
             turn: accepted / 2,
             of_family: n < 2 || accepted % 2 == 1,
             settled: accepted.is_multiple_of(5),
@@ -110,7 +125,8 @@ impl Shape {
 }
 
 fn accepted_chart(rng: &mut Rng, shape: Shape) -> Made {
-    let (graph, family) = shape.graph(rng);
+    let (mut graph, family) = shape.graph(rng);
+    let weights = weights::in_turn(rng, &mut graph, shape.number);
     let settled = shape.settled.then(|| settled(&graph)).flatten();
     let kind = match (&settled, family) {
         (Some(_), _) => SETTLED,
@@ -122,18 +138,19 @@ fn accepted_chart(rng: &mut Rng, shape: Shape) -> Made {
         bytes: Chart::of(&graph).bytes(),
         kind,
         family,
+        weights: Some(weights),
         refusal: Some(0),
         naive: cost::settle(graph.n(), graph.edges.len()) <= cost::NAIVE,
     }
 }
 
-/// The special chart with some number. They take turns, but for the first one,
-/// which is dear and always the same.
+/// The special chart with some number. They take turns, but for the first ones,
+/// which are dear and always the same.
 pub fn special(number: usize) -> &'static Special {
-    let others = SPECIALS.len() - 1;
-    match number {
-        0 => &SPECIALS[0],
-        _ => &SPECIALS[1 + (number - 1) % others],
+    let others = SPECIALS.len() - DEAR;
+    match number.checked_sub(DEAR) {
+        None => &SPECIALS[number],
+        Some(turn) => &SPECIALS[DEAR + turn % others],
     }
 }
 
@@ -143,6 +160,7 @@ fn special_chart(rng: &mut Rng, number: usize) -> Made {
         bytes: (special.make)(rng),
         kind: special.kind,
         family: None,
+        weights: None,
         refusal: special.refusal,
         naive: true,
     }
@@ -181,10 +199,13 @@ mod tests {
     #[test]
     fn charts_have_their_length() {
         for (n, m) in [(0, 0), (17, 127), (17, 128), (64, 2016)] {
-            let graph = Graph::with_edges(&mut Rng::new(1, "length", m), n, m);
-            assert_eq!(Chart::of(&graph).bytes().len() as u64, length(n, m));
+            let mut graph = Graph::with_edges(&mut Rng::new(1, "length", m), n, m);
+            assert_eq!(Chart::of(&graph).bytes().len() as u64, length(n, m, false));
+            graph.weights = Some(vec![2; m]);
+            assert_eq!(Chart::of(&graph).bytes().len() as u64, length(n, m, true));
         }
-        assert_eq!((length(0, 0), length(64, 2016)), (10, 4106));
+        let longest = [false, true].map(|weighted| length(64, 2016, weighted));
+        assert_eq!((length(0, 0, false), longest), (10, [4106, 6125]));
     }
 
     #[test]
@@ -193,6 +214,9 @@ mod tests {
             let made: Vec<Made> = (0..100).map(|index| chart(seed, index)).collect();
             for kind in ACCEPTED {
                 assert!(made.iter().any(|made| made.kind == kind), "{kind}");
+            }
+            for kind in weights::names() {
+                assert!(made.iter().any(|made| made.weights == Some(kind)), "{kind}");
             }
             assert!(made.iter().any(|made| !made.naive));
         }

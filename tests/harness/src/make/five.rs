@@ -1,5 +1,5 @@
-//! All graphs on five vertices, each laid from every vertex and settled, its
-//! edges' crossings counted before.
+//! All graphs on five vertices, without weights and with some, each laid from
+//! every vertex and settled, its edges' crossings counted before.
 
 use super::charts::Chart;
 use super::graph::{all_pairs, vertices, Graph};
@@ -27,13 +27,14 @@ pub fn open(known: &Known) -> bool {
 /// The list with some number below `LISTS`.
 pub fn list(number: usize) -> Vec<u8> {
     let first = number * TOGETHER;
-    (first..first + TOGETHER).flat_map(calls).collect()
+    let graphs = (first..first + TOGETHER).flat_map(|number| [graph(number), weighed(number)]);
+    graphs.flat_map(|graph| calls(&graph)).collect()
 }
 
 /// A graph, settled as it is read and as it is laid from every vertex, its edges'
 /// crossings counted into a table for all ten.
-fn calls(number: usize) -> Vec<u8> {
-    let start = records::chart(&Chart::of(&graph(number)).bytes());
+fn calls(graph: &Graph) -> Vec<u8> {
+    let start = records::chart(&Chart::of(graph).bytes());
     let settle = [[PERLINK, 10, 7, 0], [SETTLE, 1000, 0, 0], [PAIR, 0, 0, 0]].map(records::bytes);
     let mut list = [start.clone(), settle.concat()].concat();
     for v in 0..VERTICES as u64 {
@@ -50,10 +51,19 @@ pub fn graph(number: usize) -> Graph {
         .enumerate()
         .collect::<Vec<_>>();
     pairs.retain(|(bit, _)| number >> bit & 1 == 1);
-    Graph {
-        edges: pairs.into_iter().map(|(_, pair)| pair).collect(),
-        order: vertices(VERTICES),
-    }
+    let edges = pairs.into_iter().map(|(_, pair)| pair).collect();
+    Graph::of(edges, vertices(VERTICES))
+}
+
+/// The weights that edges of these graphs have.
+const WEIGHTS: [u8; 7] = [1, 2, 3, 1, 255, 5, 2];
+
+/// The same graph with weights.
+pub fn weighed(number: usize) -> Graph {
+    let mut graph = graph(number);
+    let weight = |place: usize| WEIGHTS[(number + 3 * place) % WEIGHTS.len()];
+    graph.weights = Some((0..graph.edges.len()).map(weight).collect());
+    graph
 }
 
 #[cfg(test)]
@@ -69,24 +79,26 @@ mod tests {
             let list = list(number);
             let lines = play(&list);
             let answers = |start: &str| lines.lines().filter(|l| l.starts_with(start)).count();
-            assert_eq!(answers("chart 0 "), 6 * TOGETHER);
-            assert_eq!(answers("lay 0 "), 5 * TOGETHER);
-            assert_eq!(answers("settle 0 "), 6 * TOGETHER);
-            assert_eq!(answers("perlink 0 "), 6 * TOGETHER);
+            assert_eq!(answers("chart 0 "), 12 * TOGETHER);
+            assert_eq!(answers("lay 0 "), 10 * TOGETHER);
+            assert_eq!(answers("settle 0 "), 12 * TOGETHER);
+            assert_eq!(answers("perlink 0 "), 12 * TOGETHER);
             assert_eq!(
                 answers("chart") + answers("lay") + answers("settle"),
-                17 * TOGETHER
+                34 * TOGETHER
             );
             let first = number * TOGETHER;
-            charts.extend((first..first + TOGETHER).map(|n| Chart::of(&graph(n)).bytes()));
+            for number in first..first + TOGETHER {
+                charts.extend([graph(number), weighed(number)].map(|g| Chart::of(&g).bytes()));
+            }
         }
-        assert_eq!(charts.len(), GRAPHS);
+        assert_eq!(charts.len(), 2 * GRAPHS);
     }
 
     #[test]
     fn settled_graphs_show_no_crossing_but_for_the_dense() {
         let line = |number| {
-            play(&calls(number))
+            play(&calls(&graph(number)))
                 .lines()
                 .nth(3)
                 .expect("a pair")

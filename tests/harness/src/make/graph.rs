@@ -1,4 +1,4 @@
-//! Graphs with an order, of which charts and layouts are made.
+//! Graphs with an order and weights, of which charts and layouts are made.
 
 use super::density;
 use crate::rng::Rng;
@@ -6,14 +6,25 @@ use crate::rng::Rng;
 /// An edge, its ends either way round.
 pub type Edge = (u8, u8);
 
-/// Edges and an order of the vertices.
+/// Edges, their weights and an order of the vertices.
 #[derive(Clone)]
 pub struct Graph {
     pub edges: Vec<Edge>,
+    /// One for each edge; where there are none, all weigh 1.
+    pub weights: Option<Vec<u8>>,
     pub order: Vec<u8>,
 }
 
 impl Graph {
+    /// The vertices of some order with these edges, without weights.
+    pub fn of(edges: Vec<Edge>, order: Vec<u8>) -> Graph {
+        Graph {
+            edges,
+            weights: None,
+            order,
+        }
+    }
+
     /// n vertices with these edges, turned either way round, in any order; now
     /// and then in the rising one.
     pub fn new(rng: &mut Rng, n: usize, mut edges: Vec<Edge>) -> Graph {
@@ -26,7 +37,7 @@ impl Graph {
         if !rng.once_in(5) {
             rng.shuffle(&mut order);
         }
-        Graph { edges, order }
+        Graph::of(edges, order)
     }
 
     /// A graph of n vertices with any number of edges up to the most, from
@@ -55,6 +66,35 @@ impl Graph {
 
     pub fn n(&self) -> usize {
         self.order.len()
+    }
+
+    /// The edges, each with its weight.
+    pub fn weighted_edges(&self) -> Vec<(Edge, u8)> {
+        let ones = vec![1; self.edges.len()];
+        let weights = self.weights.as_ref().unwrap_or(&ones);
+        let edges = self.edges.iter().copied();
+        edges.zip(weights.iter().copied()).collect()
+    }
+
+    /// The same graph with its edges in another sequence and turned anyhow; one
+    /// without weights gets those of 1, one with these none.
+    pub fn listed_otherwise(&self, rng: &mut Rng) -> Graph {
+        let mut edges = self.weighted_edges();
+        rng.shuffle(&mut edges);
+        let (ends, weights): (Vec<Edge>, Vec<u8>) = edges.into_iter().unzip();
+        let mut other = Graph::new(rng, self.n(), ends);
+        let ones = weights.iter().all(|&weight| weight == 1);
+        other.weights = (!ones || self.weights.is_none()).then_some(weights);
+        other.order = self.order.clone();
+        other
+    }
+
+    /// The same graph without weights.
+    pub fn unweighted(&self) -> Graph {
+        Graph {
+            weights: None,
+            ..self.clone()
+        }
     }
 
     /// The adjacency words.

@@ -167,8 +167,7 @@ pub const SPECIALS: [Special; 35] = [
     }),
     accepted("all edges", |rng| {
         let n = rng.pick(&[2, 3, 4, 5, 61, 62, 63, 64]);
-        let (edges, order) = (all_pairs(n), vertices(n));
-        Graph6::of(&Graph { edges, order }).bytes()
+        Graph6::of(&Graph::of(all_pairs(n), vertices(n))).bytes()
     }),
     accepted("one edge", |rng| {
         let n = rng.pick(&[2, 3, 4, 5, 61, 62, 63, 64]);

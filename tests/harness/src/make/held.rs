@@ -4,7 +4,7 @@ use super::ops::*;
 use super::records;
 use crate::naive::chart::{read, written};
 use crate::naive::graph6::{exported, import};
-use crate::naive::layout::{empty, valid, Layout};
+use crate::naive::layout::{empty, is_weighted, valid, Layout};
 use crate::naive::play::after;
 
 /// What the naive model may do for it in one list.
@@ -47,13 +47,15 @@ impl Held {
         self.layout = Some(layout);
     }
 
-    /// What a call writes of it, if it is known and valid.
+    /// What a call writes of it, if it is known and valid and, for a graph6,
+    /// without weights.
     pub fn written(&self, op: u64) -> Option<Vec<u8>> {
-        let layout = self.layout.as_ref().filter(|layout| valid(layout));
-        layout.map(match op {
-            EXPORT => exported,
-            _ => written,
-        })
+        let layout = self.layout.as_ref().filter(|layout| valid(layout))?;
+        match op {
+            EXPORT if is_weighted(layout) => None,
+            EXPORT => Some(exported(layout)),
+            _ => Some(written(layout)),
+        }
     }
 }
 
@@ -67,7 +69,7 @@ mod tests {
         for _ in 0..3 {
             held.record([ADD, 0, 0, 0], 0);
         }
-        held.record([LINK, 2, 0, 0], 1);
+        held.record([LINK, 2, 0, 1], 1);
         held.record([MOVE, 0, 2, 0], BUDGET - 1);
         held.record([WRITE, 9, 0, 0], 1);
         held.record([EXPORT, 9, 0, 0], 1);
@@ -85,6 +87,11 @@ mod tests {
         assert_eq!(held.written(EXPORT), None);
         held.start(IMPORT, b"BO");
         assert_eq!(held.written(EXPORT), Some(b"BO".to_vec()));
+        held.record([LINK, 2, 1, 9], 0);
+        assert_eq!(held.written(EXPORT), None);
+        let due = [0x44, 0, 1, 3, 0x4C, 0, 4, 0, 2, 1, 2, 0x52, 0, 3, 0, 1, 2];
+        let due = [&due[..], &[0x57, 0, 2, 1, 9]].concat();
+        assert_eq!(held.written(WRITE), Some(due));
         held.record([EMPTY, 0, 0, 0], 0);
         assert_eq!(held.written(WRITE).map(|chart| chart.len()), Some(10));
     }

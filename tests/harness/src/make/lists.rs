@@ -5,10 +5,11 @@ use std::collections::BTreeSet;
 use super::charts;
 use super::density::{LARGE, QUARTERS};
 use super::families::{self, Family};
-use super::graph::Graph;
+use super::graph::{all_pairs, vertices, Graph};
 use super::maker::Maker;
 use super::ops::*;
 use super::starts::{self, FAMILY};
+use super::weights::HEAVIEST;
 use crate::rng::Rng;
 
 /// A kind of list: its name, an op that it cannot do without, and what it puts
@@ -36,6 +37,8 @@ pub struct Made {
     pub starts: Vec<&'static str>,
     /// The families of its graphs.
     pub graphs: Vec<&'static str>,
+    /// The kinds of its graphs' weights.
+    pub weights: Vec<&'static str>,
     /// Whether the naive model can play it in bearable time.
     pub naive: bool,
 }
@@ -54,6 +57,7 @@ pub fn list(seed: u64, index: usize, known: &Known) -> Made {
         kind,
         starts: maker.starts,
         graphs: maker.graphs,
+        weights: maker.weights,
     }
 }
 
@@ -136,7 +140,7 @@ impl Maker {
         for quarter in 0..QUARTERS {
             let n = self.large_size();
             let graph = Graph::in_quarter(&mut self.rng, n, quarter);
-            self.large_graph(&graph);
+            self.large_graph(graph);
             if quarter == index % QUARTERS {
                 self.emit(SETTLE, 1000, 0);
                 self.emit(ROUND, 0, 0);
@@ -146,7 +150,22 @@ impl Maker {
         let family = self.rng.pick(&families::of_size(n));
         self.graphs.push(family.name);
         let graph = family.graph_of_size(&mut self.rng, n);
-        self.large_graph(&graph);
+        self.large_graph(graph);
+        self.heavy_cliques();
+    }
+
+    /// Two complete graphs of 32 vertices with the largest weights, whose vertices
+    /// stand in turn. What settling saves is more than 32 bits can tell, and so
+    /// is the tally of a lay.
+    fn heavy_cliques(&mut self) {
+        let mut edges = all_pairs(64);
+        edges.retain(|(a, b)| a % 2 == b % 2);
+        let mut graph = Graph::of(edges, vertices(64));
+        graph.weights = Some(vec![255; graph.edges.len()]);
+        self.weights.push(HEAVIEST);
+        self.write_graph(&graph);
+        self.emit(SETTLE, 1000, 0);
+        self.emit(LAY, 0, 0);
     }
 
     /// Any large number of vertices, the most too.
@@ -155,9 +174,10 @@ impl Maker {
         self.rng.pick(&[any, any, any, 63, 64])
     }
 
-    fn large_graph(&mut self, graph: &Graph) {
+    fn large_graph(&mut self, mut graph: Graph) {
         self.without_naive();
-        self.write_graph(graph);
+        self.weigh(&mut graph);
+        self.write_graph(&graph);
         self.sift_twice();
         self.every_call();
         self.any_calls(2, 10);
@@ -182,18 +202,21 @@ impl Maker {
 
     /// What takes its turn from list to list: each size with some density, a
     /// vertex of which is sifted twice, each length of a buffer or a table, each
-    /// number of edges that is written, each family, each refusal number of each
-    /// call, and each special chart and graph6.
+    /// number of edges that is written, each family, each way to spoil a layout,
+    /// each refusal number of each call, and each special chart and graph6.
     fn in_turn(&mut self, seed: u64, index: usize) {
         let n = ((seed % 65) as usize + 7 * index) % 65;
-        let graph = Graph::in_quarter(&mut self.rng, n, index % QUARTERS);
+        let mut graph = Graph::in_quarter(&mut self.rng, n, index % QUARTERS);
+        self.weigh(&mut graph);
         self.write_graph(&graph);
         self.sift_twice();
         self.any_calls(2, 5);
         self.emit(ORDER, index as u64 % 66, 7);
+        self.write_alike(&graph);
         self.call_lent_in_turn(&graph, index);
         self.import_in_turn(&graph, index);
         self.lay_in_turn(index);
+        self.spoilt_in_turn(index);
         let refused = self.known.refused();
         let (_, op, number) = refused[index % refused.len()];
         self.refused_call(op, number);
@@ -222,7 +245,7 @@ impl Maker {
     fn end(&mut self) {
         match self.rng.below(8) {
             0 => {
-                let ops = [6, 15, 31, 255, 256 + ADD, (1 << 32) + COUNT, u64::MAX];
+                let ops = [7, 15, 31, 255, 256 + ADD, (1 << 32) + COUNT, u64::MAX];
                 let op = self.rng.pick(&ops);
                 self.record([op, 0, 0, 0]);
                 self.record([ADD, 0, 0, 0]);
@@ -252,9 +275,11 @@ impl Maker {
 #[cfg(test)]
 mod tests {
     use super::*;
+    use crate::counted::true_count;
     use crate::entries::{entries, Entry};
     use crate::followed::{steps, Step};
-    use crate::make::density::quarter;
+    use crate::make::density::{possible, quarter};
+    use crate::make::records;
     use crate::naive::chart::{read, written};
     use crate::naive::graph6::import;
     use crate::naive::layout::{empty, isolated};
@@ -453,6 +478,46 @@ mod tests {
         let starts = made.map(|made| starts(&made.bytes));
         let sizes: BTreeSet<usize> = starts.flatten().map(|(n, _)| n).collect();
         assert!((0..=64).all(|n| sizes.contains(&n)), "{sizes:?}");
+    }
+
+    /// How many valid layouts with edges calls are made on, and how many of them
+    /// have weights other than 1.
+    fn weighted(list: &[u8]) -> (usize, usize) {
+        let lines = play(list);
+        let has_edges = |step: &Step| step.m() > 0 && step.answer().is_some_and(|a| a.1 != 11);
+        let steps: Vec<Step> = steps(list, &lines).filter(has_edges).collect();
+        let weighted = steps.iter().filter(|step| step.is_weighted());
+        (steps.len(), weighted.count())
+    }
+
+    /// One list in three has no weights but in what takes its turn.
+    #[test]
+    fn lists_have_weights_and_have_none() {
+        let made = (0..60).map(|index| list(2, index, &Known::all()));
+        let naive = made.filter(|made| made.naive);
+        let shares: Vec<(usize, usize)> = naive.map(|made| weighted(&made.bytes)).collect();
+        let few = shares.iter().filter(|(all, some)| 4 * some < *all).count();
+        let many = shares.iter().filter(|(all, some)| 2 * some > *all).count();
+        assert!(4 * few > shares.len(), "{few} of {}", shares.len());
+        assert!(4 * many > shares.len(), "{many} of {}", shares.len());
+    }
+
+    /// Two complete graphs of 32 vertices cross least when they stand apart. What
+    /// is left then, and what is saved, 32 bits can't tell.
+    #[test]
+    fn heavy_cliques_need_wide_numbers() {
+        let mut maker = Maker::new(Rng::new(1, "cliques", 0), &Known::all());
+        maker.heavy_cliques();
+        let calls = ["settle with limit 1000", "lay from 0"].map(String::from);
+        let texts: Vec<String> = entries(&maker.bytes).iter().map(Entry::text).collect();
+        assert!(texts.ends_with(&calls));
+        let started = &maker.bytes[..maker.bytes.len() - 64];
+        let count = [started, &records::bytes([COUNT, 0, 0, 0])].concat();
+        let lines = play(&count);
+        let step = steps(&count, &lines).last().expect("a count");
+        assert_eq!((step.n(), step.m()), (64, 2 * possible(32)));
+        let (in_turn, apart) = (true_count(&step.after), 65_025 * 2 * 35_960);
+        assert!(apart >= 1 << 32 && in_turn >= apart + (1 << 32));
     }
 
     #[test]

@@ -7,6 +7,7 @@ use super::graph6::Graph6;
 use super::held::Held;
 use super::ops::*;
 use super::records;
+use super::weights::{self, WITHOUT};
 use crate::rng::Rng;
 
 /// The calls, those oftener that are to come oftener.
@@ -23,6 +24,9 @@ const NAIVE: u64 = 1 << 28;
 /// that are chosen by it.
 const PROVED: u64 = 150_000_000;
 
+/// More edges than these are many.
+const MANY: usize = 300;
+
 /// A list in the making. What is held of the layout is what it is if it was
 /// valid at its start, and otherwise good enough to name vertices and edges by.
 pub struct Maker {
@@ -33,10 +37,16 @@ pub struct Maker {
     pub starts: Vec<&'static str>,
     /// The names of the families that graphs are of.
     pub graphs: Vec<&'static str>,
+    /// The names of the kinds of weights that graphs have.
+    pub weights: Vec<&'static str>,
+    /// Whether graphs have weights, and links others than 1.
+    pub weighs: bool,
     /// How many calls there are.
     pub calls: usize,
     pub n: usize,
     pub edges: Vec<Edge>,
+    /// The edges of another weight than 1.
+    heavy: Vec<Edge>,
     /// The layout itself, as long as that is known.
     held: Held,
     budget: Budget,
@@ -52,16 +62,20 @@ enum Budget {
 }
 
 impl Maker {
-    pub fn new(rng: Rng, known: &Known) -> Maker {
+    /// Two lists in three have weights.
+    pub fn new(mut rng: Rng, known: &Known) -> Maker {
         Maker {
+            weighs: !rng.once_in(3),
             rng,
             known: known.clone(),
             bytes: Vec::new(),
             starts: Vec::new(),
             graphs: Vec::new(),
+            weights: Vec::new(),
             calls: 0,
             n: 0,
             edges: Vec::new(),
+            heavy: Vec::new(),
             held: Held::new(),
             budget: Budget::Naive(NAIVE),
             naive: 0,
@@ -108,10 +122,10 @@ impl Maker {
         self.hold(graph);
     }
 
-    /// Starts from the graph6 of a graph, which drops the order.
+    /// Starts from the graph6 of a graph, which drops the order and the weights.
     pub fn write_graph6(&mut self, graph: &Graph) {
         self.read(IMPORT, &Graph6::of(graph).bytes());
-        self.hold(graph);
+        self.hold(&graph.unweighted());
     }
 
     /// Starts from the layout of a graph, set field by field.
@@ -124,11 +138,31 @@ impl Maker {
 
     fn hold(&mut self, graph: &Graph) {
         (self.n, self.edges) = (graph.n(), graph.edges.clone());
+        let heavy = graph.weighted_edges().into_iter();
+        let heavy = heavy.filter(|&(_, weight)| weight != 1);
+        self.heavy = heavy.map(|(edge, _)| edge).collect();
     }
 
-    /// Starts from a graph in its order, in one way or the other.
+    /// Whether some edge has another weight than 1.
+    pub fn is_weighted(&self) -> bool {
+        !self.heavy.is_empty()
+    }
+
+    /// Gives a graph weights of some kind, if the list has weights.
+    pub fn weigh(&mut self, graph: &mut Graph) {
+        let kind = if self.weighs {
+            weights::any(&mut self.rng, graph)
+        } else {
+            WITHOUT
+        };
+        self.weights.push(kind);
+    }
+
+    /// Starts from a graph in its order, in one way or the other. One with many
+    /// edges, each of which takes two records for its weight, is mostly a chart.
     pub fn write_graph(&mut self, graph: &Graph) {
-        if self.known.has(CHART) && self.rng.once_in(2) {
+        let one_in = if graph.edges.len() > MANY { 5 } else { 2 };
+        if self.known.has(CHART) && !self.rng.once_in(one_in) {
             self.write_chart(graph);
         } else {
             self.write_fields(graph);
@@ -146,7 +180,7 @@ impl Maker {
 
     /// The layout is the empty one, or nothing is known of it.
     pub fn forget(&mut self) {
-        (self.n, self.edges) = (0, Vec::new());
+        (self.n, self.edges, self.heavy) = (0, Vec::new(), Vec::new());
     }
 
     /// The most edges with which n vertices can be settled a few times.
@@ -180,6 +214,9 @@ impl Maker {
     /// back.
     pub fn call(&mut self, op: u64) {
         let (a, b) = self.arguments(op);
+        if op == LINK {
+            return self.link(a, b);
+        }
         self.emit(op, a, b);
         let writes = WRITERS.iter().any(|&(writer, _)| writer == op);
         if writes && self.rng.once_in(2) {
@@ -187,15 +224,26 @@ impl Maker {
         }
     }
 
+    /// Links two vertices with some weight.
+    pub fn link(&mut self, a: u64, b: u64) {
+        let weight = self.weight();
+        self.emit_record([LINK, a, b, weight]);
+    }
+
     /// Puts a call into the list, if it is known.
     pub fn emit(&mut self, op: u64, a: u64, b: u64) {
+        self.emit_record([op, a, b, 0]);
+    }
+
+    pub fn emit_record(&mut self, record: Record) {
+        let [op, a, ..] = record;
         if !self.known.has(op) {
             return;
         }
         self.spend(op, a);
-        self.record([op, a, b, 0]);
+        self.record(record);
         self.calls += 1;
-        self.follow(op, a, b);
+        self.follow(record);
     }
 
     /// Every known call once, in any sequence.
@@ -250,16 +298,22 @@ impl Maker {
     }
 
     /// What a call does to the vertices and the edges.
-    fn follow(&mut self, op: u64, a: u64, b: u64) {
+    fn follow(&mut self, [op, a, b, weight]: Record) {
         let n = self.n as u64;
+        let are_vertices = a < n && b < n && a != b;
         let (edge, turned) = ((a as u8, b as u8), (b as u8, a as u8));
+        let is_edge = |held: &Edge| *held == edge || *held == turned;
         match op {
             ADD if n < 64 => self.n += 1,
-            LINK | UNLINK if a < n && b < n && a != b => {
-                self.edges.retain(|&held| held != edge && held != turned);
-                if op == LINK {
-                    self.edges.push(edge);
+            LINK if are_vertices && !self.edges.iter().any(is_edge) && weight % 256 != 0 => {
+                self.edges.push(edge);
+                if weight % 256 != 1 {
+                    self.heavy.push(edge);
                 }
+            }
+            UNLINK if are_vertices => {
+                self.edges.retain(|held| !is_edge(held));
+                self.heavy.retain(|held| !is_edge(held));
             }
             _ => {}
         }

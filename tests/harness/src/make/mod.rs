@@ -21,4 +21,5 @@ pub mod special;
 pub mod spoil;
 pub mod starts;
 pub mod stored;
+pub mod weights;
 pub mod written;

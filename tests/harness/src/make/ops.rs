@@ -10,6 +10,7 @@ pub const SET_N: u64 = 2;
 pub const SET_ORDER: u64 = 3;
 pub const SET_WORD: u64 = 4;
 pub const SET_COUNT: u64 = 5;
+pub const SET_WEIGHT: u64 = 6;
 pub const ADD: u64 = 16;
 pub const LINK: u64 = 17;
 pub const UNLINK: u64 = 18;
@@ -36,13 +37,16 @@ pub const WRITERS: [(u64, u64); 2] = [(WRITE, CHART), (EXPORT, IMPORT)];
 /// that write a layout, and the one that counts each edge's crossings.
 pub const LENT: [u64; 3] = [WRITE, EXPORT, PERLINK];
 
+/// The refusal numbers of charts, in the sequence in which they are asked.
+pub const CHART_REFUSALS: [u8; 10] = [1, 2, 3, 4, 5, 6, 7, 8, 24, 25];
+
 /// A call's name, its op, and the refusal numbers that it can answer.
 type Call = (&'static str, u64, &'static [u8]);
 
 const CALLS: [Call; 16] = [
-    ("chart", CHART, &[1, 2, 3, 4, 5, 6, 7, 8]),
+    ("chart", CHART, &CHART_REFUSALS),
     ("add", ADD, &[11, 16]),
-    ("link", LINK, &[11, 12, 13, 14]),
+    ("link", LINK, &[11, 12, 13, 14, 25]),
     ("unlink", UNLINK, &[11, 12, 13, 15]),
     ("move", MOVE, &[11, 12, 13]),
     ("lay", LAY, &[11, 12]),
@@ -54,7 +58,7 @@ const CALLS: [Call; 16] = [
     ("pair", PAIR, &[11]),
     ("write", WRITE, &[11, 19]),
     ("import", IMPORT, &[20, 21, 22]),
-    ("export", EXPORT, &[11, 19]),
+    ("export", EXPORT, &[11, 19, 26]),
     ("perlink", PERLINK, &[11, 23]),
 ];
 
@@ -104,7 +108,7 @@ impl Known {
 
     /// Whether a record with this op can be played.
     pub fn has(&self, op: u64) -> bool {
-        let is_start = matches!(op, EMPTY | SET_N | SET_ORDER | SET_WORD | SET_COUNT);
+        let is_start = matches!(op, EMPTY | SET_N..=SET_WEIGHT);
         is_start || self.0.iter().any(|&(_, known, _)| known == op)
     }
 
@@ -146,8 +150,8 @@ mod tests {
     #[test]
     fn names_and_sets_are_read() {
         let known = Known::parse("layout,sift").expect("known names");
-        let has_all = [MOVE, WRITE, PERLINK, SIFT, SET_N].map(|op| known.has(op));
-        assert_eq!(has_all, [true; 5]);
+        let has_all = [MOVE, WRITE, PERLINK, SIFT, SET_N, SET_WEIGHT].map(|op| known.has(op));
+        assert_eq!(has_all, [true; 6]);
         assert!(!known.has(SETTLE) && !known.has(CHART));
         assert!(Known::parse("layout,shift").is_none());
         assert!(Known::parse("").is_none());
@@ -166,10 +170,10 @@ mod tests {
     #[test]
     fn all_calls_have_all_refusal_numbers() {
         let answers = Known::all().answers();
-        for number in (0..=8).chain(11..=23) {
+        for number in (0..=8).chain(11..=26) {
             assert!(answers.iter().any(|answer| answer.1 == number), "{number}");
         }
-        assert_eq!(answers.len(), 16 + 8 + 28 + 5);
+        assert_eq!(answers.len(), 16 + 10 + 28 + 5 + 2);
     }
 
     #[test]

@@ -1,7 +1,7 @@
 //! Records, charts and graph6 as they stand in a list (tests/README.md).
 
 use super::graph::Graph;
-use super::ops::{Record, CHART, EMPTY, IMPORT, SET_N, SET_ORDER, SET_WORD};
+use super::ops::{Record, CHART, EMPTY, IMPORT, SET_N, SET_ORDER, SET_WEIGHT, SET_WORD};
 
 pub fn bytes(record: Record) -> Vec<u8> {
     record.iter().flat_map(|n| n.to_le_bytes()).collect()
@@ -36,5 +36,13 @@ pub fn fields(graph: &Graph) -> Vec<Record> {
             records.push([SET_WORD, v as u64, word, 0]);
         }
     }
+    for ((v, w), weight) in graph.weighted_edges() {
+        records.extend(both_ways([v.into(), w.into()], weight.into()));
+    }
     records
+}
+
+/// Sets the weight of two vertices both ways round.
+pub fn both_ways([v, w]: [u64; 2], weight: u64) -> [Record; 2] {
+    [[SET_WEIGHT, v, w, weight], [SET_WEIGHT, w, v, weight]]
 }

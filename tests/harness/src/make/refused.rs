@@ -3,35 +3,73 @@
 use super::graph::Graph;
 use super::maker::Maker;
 use super::ops::*;
-use super::spoil::{n_over_64, SPOILS};
+use super::spoil::{n_over_64, Way, SPOILS};
+
+/// So often a way to spoil is tried that goes by what is chosen at random.
+const TRIES: usize = 20;
 
 impl Maker {
     /// A call that has to be refused with a number that it can answer.
     pub fn refused_call(&mut self, op: u64, number: u8) {
-        let graph = self.graph_to_refuse(number);
+        let graph = self.graph_to_refuse(op, number);
         self.write_graph(&graph);
         if number == 11 {
             self.spoil(&graph);
         }
         let (a, b) = self.refused_arguments(op, number, &graph);
-        self.emit(op, a, b);
+        let weight = match (op, number) {
+            (LINK, 25) => 256 * self.rng.pick(&[0, 0, 1, 1 << 24, 1 << 55]),
+            (LINK, _) => self.weight(),
+            _ => 0,
+        };
+        self.emit_record([op, a, b, weight]);
     }
 
     /// A graph with two vertices that are joined and two that aren't; a full
-    /// one for what only that refuses.
-    fn graph_to_refuse(&mut self, number: u8) -> Graph {
+    /// one for what only that refuses, and one with weights or without where
+    /// they decide.
+    fn graph_to_refuse(&mut self, op: u64, number: u8) -> Graph {
         let n = match number {
             16 => 64,
             _ => self.rng.within(3, 12),
         };
         let m = self.rng.within(1, n - 1);
-        Graph::with_edges(&mut self.rng, n, m)
+        let mut graph = Graph::with_edges(&mut self.rng, n, m);
+        match (op, number) {
+            (EXPORT, 19) => {}
+            (EXPORT, 26) => {
+                let mut weights = vec![1; m];
+                weights[self.rng.below(m)] = self.rng.within(2, 255) as u8;
+                graph.weights = Some(weights);
+            }
+            _ => self.weigh(&mut graph),
+        }
+        graph
     }
 
-    /// Makes the layout of a graph invalid, and tells in which way.
+    /// Any call on a layout that isn't valid in a way that takes its turn.
+    pub fn spoilt_in_turn(&mut self, index: usize) {
+        let graph = self.graph_to_refuse(COUNT, 11);
+        self.write_graph(&graph);
+        self.spoil_in(SPOILS[index % SPOILS.len()], &graph);
+        self.any_call();
+    }
+
+    /// Makes the layout of a graph invalid in any way.
     pub fn spoil(&mut self, graph: &Graph) {
-        let (name, spoil) = self.rng.pick(&SPOILS);
-        let mut records = spoil(&mut self.rng, graph);
+        let way = self.rng.pick(&SPOILS);
+        self.spoil_in(way, graph);
+    }
+
+    /// Makes the layout of a graph invalid in one way, or if that is barred in
+    /// another.
+    pub fn spoil_in(&mut self, (name, spoil): Way, graph: &Graph) {
+        let mut records = Vec::new();
+        for _ in 0..TRIES {
+            if records.is_empty() {
+                records = spoil(&mut self.rng, graph);
+            }
+        }
         if records.is_empty() {
             records = n_over_64(&mut self.rng, graph);
         } else {
@@ -54,10 +92,11 @@ impl Maker {
                 .pick(&[(far, v), (v, far), (far, far)][..self.places(op)]),
             13 => (v, v),
             14 => self.two_of(graph, true),
-            15 => self.two_of(graph, false),
+            15 | 25 => self.two_of(graph, false),
             17 => (self.rng.pick(&[0, 1001, 1 << 32, u64::MAX]), 0),
             18 => (self.rng.below(graph.n()) as u64, 7),
             19 | 23 => (self.rng.below(self.filled_length(op) as usize) as u64, 7),
+            26 => (self.any_length(op), 7),
             _ => (v, (v + 1) % n),
         }
     }

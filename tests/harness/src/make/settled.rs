@@ -25,8 +25,10 @@ pub fn settled(graph: &Graph) -> Option<Graph> {
     let (_, mut ring) = chart::read(&Chart::of(graph).bytes());
     let (_, (_, _, settled, _)) = calls::settle(&mut ring, LIMIT);
     let order = layout::list(&ring).into_iter().map(|v| v as u8).collect();
-    let edges = graph.edges.clone();
-    settled.then_some(Graph { edges, order })
+    settled.then(|| Graph {
+        order,
+        ..graph.clone()
+    })
 }
 
 #[cfg(test)]

@@ -64,7 +64,8 @@ impl Maker {
     pub fn start_family(&mut self, families: &[Family], most: usize) {
         let family = self.rng.pick(families);
         self.graphs.push(family.name);
-        let graph = family.graph(&mut self.rng, most);
+        let mut graph = family.graph(&mut self.rng, most);
+        self.weigh(&mut graph);
         self.write_graph_in_any_order(&graph);
     }
 
@@ -75,7 +76,7 @@ impl Maker {
         }
         for _ in 0..2 * self.n {
             let (a, b) = self.two_vertices();
-            self.emit(LINK, a, b);
+            self.link(a, b);
         }
         self.any_calls(3, 20);
     }
@@ -92,7 +93,9 @@ impl Maker {
         } else {
             self.most_edges(n)
         };
-        Graph::random(&mut self.rng, n, most)
+        let mut graph = Graph::random(&mut self.rng, n, most);
+        self.weigh(&mut graph);
+        graph
     }
 
     fn start_graph(&mut self, write: fn(&mut Maker, &Graph)) {
@@ -113,8 +116,10 @@ impl Maker {
     /// Now and then a carried count that is not the true one.
     pub fn any_count(&mut self) {
         if self.rng.once_in(3) {
-            let word = self.rng.word();
-            let count = self.rng.pick(&[0, 1, u64::from(u32::MAX), word]);
+            let (word, wide) = (self.rng.word(), 1 << 32);
+            let last = u64::MAX - self.rng.below(1000) as u64;
+            let counts = [0, 1, wide - 1, wide, last, last, word, word];
+            let count = self.rng.pick(&counts);
             self.record([SET_COUNT, count, 0, 0]);
         }
     }
@@ -124,9 +129,13 @@ impl Maker {
         self.n = self.rng.below(65);
         self.record([SET_N, self.n as u64, 0, 0]);
         for _ in 0..self.rng.within(1, 80) {
-            let op = self.rng.pick(&[SET_ORDER, SET_WORD]);
+            let op = self.rng.pick(&[SET_ORDER, SET_WORD, SET_WEIGHT]);
             let (place, value) = (self.rng.below(66) as u64, self.rng.word());
-            self.record([op, place, value, 0]);
+            let record = match op {
+                SET_WEIGHT => [op, place, self.rng.below(66) as u64, value],
+                _ => [op, place, value, 0],
+            };
+            self.record(record);
         }
         self.any_count();
         self.any_calls(2, 8);
@@ -156,7 +165,8 @@ impl Maker {
     fn start_settled(&mut self) {
         let n = self.rng.below(65);
         let most = settled::most_edges(n).min(self.most_edges(n));
-        let graph = Graph::random(&mut self.rng, n, most);
+        let mut graph = Graph::random(&mut self.rng, n, most);
+        self.weigh(&mut graph);
         let graph = settled(&graph).unwrap_or(graph);
         self.write_graph(&graph);
         self.any_count();
@@ -166,7 +176,8 @@ impl Maker {
 
     fn start_full(&mut self) {
         let most = self.rng.pick(&[0, 100, usize::MAX]);
-        let graph = Graph::random(&mut self.rng, 64, most);
+        let mut graph = Graph::random(&mut self.rng, 64, most);
+        self.weigh(&mut graph);
         self.write_graph(&graph);
         self.emit(ADD, 0, 0);
         self.any_calls(3, 12);

@@ -1,11 +1,11 @@
 //! The list that is stored as a program's test: every call, accepted and with
 //! each of its refusal numbers, on layouts small enough to follow by hand.
 
-use super::charts::Chart;
+use super::charts::{field, Chart};
 use super::graph::{all_pairs, vertices, Graph};
 use super::graph6::Graph6;
 use super::ops::*;
-use super::records::{bytes, chart, fields, import};
+use super::records::{both_ways, bytes, chart, fields, import};
 use super::special::SPECIALS;
 use crate::rng::Rng;
 
@@ -45,21 +45,32 @@ pub fn list(known: &Known) -> Vec<u8> {
     list.lays();
     list.sifts();
     list.full_layout();
+    list.heaviest_layout();
+    list.weighted_layouts();
+    list.weighted_links();
     list.invalid_layouts();
+    list.invalid_weights();
     list.any_count();
     list.read_back();
     list.charts();
+    list.weighted_charts();
     list.imports();
     list.end();
     list.bytes
 }
 
+/// The weights of all edges of four vertices, with which lay chooses another end
+/// than without them, and sifting another place.
+const WEIGHTS: [u8; 6] = [1, 2, 1, 2, 3, 1];
+
 /// The first ring of document 01.
 fn square() -> Graph {
-    Graph {
-        edges: vec![(0, 2), (3, 1)],
-        order: vec![0, 1, 2, 3],
-    }
+    Graph::of(vec![(0, 2), (3, 1)], vertices(4))
+}
+
+/// The same as it is written.
+fn sorted_square() -> Graph {
+    Graph::of(vec![(0, 2), (1, 3)], vertices(4))
 }
 
 struct List<'a> {
@@ -78,7 +89,7 @@ impl List<'_> {
     fn every_call(&mut self) {
         self.play(&[
             [ADD, 0, 0, 0],
-            [LINK, 0, 1, 0],
+            [LINK, 0, 1, 1],
             [UNLINK, 0, 1, 0],
             [MOVE, 0, 1, 0],
             [LAY, 0, 0, 0],
@@ -124,14 +135,14 @@ impl List<'_> {
     fn six_vertices(&mut self) {
         self.play(&[[ADD, 0, 0, 0]; 6]);
         self.play(&[
-            [LINK, 0, 2, 0],
-            [LINK, 3, 1, 0],
-            [LINK, 1, 3, 0],
-            [LINK, 2, 2, 0],
-            [LINK, 5, 6, 0],
-            [LINK, 6, 5, 0],
-            [LINK, 1, 4, 0],
-            [LINK, 5, 2, 0],
+            [LINK, 0, 2, 1],
+            [LINK, 3, 1, 1],
+            [LINK, 1, 3, 1],
+            [LINK, 2, 2, 1],
+            [LINK, 5, 6, 1],
+            [LINK, 6, 5, 1],
+            [LINK, 1, 4, 1],
+            [LINK, 5, 2, 1],
             [COUNT, 0, 0, 0],
             [PAIR, 0, 0, 0],
             [WRITE, 23, 9, 0],
@@ -162,7 +173,7 @@ impl List<'_> {
             [ORDER, 255, 0, 0],
             [ORDER, 256, 1, 0],
             [SIFT, 0, 0, 0],
-            [LINK, 3, 1, 0],
+            [LINK, 3, 1, 1],
             [SETTLE, 0, 0, 0],
             [SETTLE, 1001, 0, 0],
             [SETTLE, 1 << 32, 0, 0],
@@ -176,7 +187,7 @@ impl List<'_> {
     fn far_vertices(&mut self) {
         for far in FAR {
             self.play(&[
-                [LINK, 0, far, 0],
+                [LINK, 0, far, 1],
                 [UNLINK, far, 2, 0],
                 [MOVE, 0, far, 0],
                 [LAY, far, 0, 0],
@@ -207,7 +218,7 @@ impl List<'_> {
             let order = vertices(n);
             for v in 0..=n as u64 {
                 let (edges, order) = (edges.clone(), order.clone());
-                self.play(&fields(&Graph { edges, order }));
+                self.play(&fields(&Graph::of(edges, order)));
                 self.play(&[[LAY, v, 0, 0]]);
             }
         }
@@ -228,7 +239,7 @@ impl List<'_> {
             (3, vec![]),
         ] {
             let order = vertices(n);
-            let graph = fields(&Graph { edges, order });
+            let graph = fields(&Graph::of(edges, order));
             for calls in [
                 &[[SIFT, 0, 0, 0]; 2][..],
                 &[[ROUND, 0, 0, 0]],
@@ -241,18 +252,25 @@ impl List<'_> {
         }
     }
 
+    /// Starts from a graph, by a chart, which is shorter, or by its fields.
+    fn start(&mut self, graph: &Graph) {
+        if self.known.has(CHART) {
+            self.bytes.extend(chart(&Chart::of(graph).bytes()));
+        } else {
+            self.play(&fields(graph));
+        }
+    }
+
     /// 64 vertices against the sun, with all 2,016 edges.
     fn full_layout(&mut self) {
-        let edges = all_pairs(64);
-        let order = (0..64).rev().collect();
-        self.play(&fields(&Graph { edges, order }));
+        self.start(&Graph::of(all_pairs(64), (0..64).rev().collect()));
         self.play(&[
             [SET_COUNT, 635_376, 0, 0],
             [COUNT, 0, 0, 0],
             [ADD, 0, 0, 0],
-            [LINK, 0, 63, 0],
+            [LINK, 0, 63, 1],
             [UNLINK, 0, 63, 0],
-            [LINK, 63, 0, 0],
+            [LINK, 63, 0, 1],
             [MOVE, 63, 0, 0],
             [LAY, 63, 0, 0],
             [ORDER, 63, 0, 0],
@@ -266,6 +284,110 @@ impl List<'_> {
             [PERLINK, 2015, 0, 0],
             [PERLINK, 2016, 0, 0],
             [PERLINK, 2101, 1 << 32, 0],
+        ]);
+    }
+
+    /// 64 vertices, all 2,016 edges of the largest weight.
+    fn heaviest_layout(&mut self) {
+        let mut graph = Graph::of(all_pairs(64), vertices(64));
+        graph.weights = Some(vec![255; 2016]);
+        self.start(&graph);
+        self.play(&[
+            [SET_COUNT, 41_315_324_400, 0, 0],
+            [COUNT, 0, 0, 0],
+            [ADD, 0, 0, 0],
+            [UNLINK, 0, 32, 0],
+            [LINK, 0, 32, 255],
+            [LAY, 0, 0, 0],
+            [SIFT, 9, 0, 0],
+            [PERLINK, 2015, 0, 0],
+            [PERLINK, 2016, 0, 0],
+            [WRITE, 18, 0, 0],
+            [WRITE, 6125, 0, 0],
+            [EXPORT, 0, 0, 0],
+            [EXPORT, 340, 0, 0],
+        ]);
+    }
+
+    /// All edges of four vertices with weights: laid from every vertex, and with
+    /// every other call; and the first ring with one weight and with two.
+    fn weighted_layouts(&mut self) {
+        let mut four = Graph::of(all_pairs(4), vertices(4));
+        four.weights = Some(WEIGHTS.to_vec());
+        for v in 0..4 {
+            self.play(&fields(&four));
+            self.play(&[[LAY, v, 0, 0]]);
+        }
+        for calls in [
+            &[[SIFT, 0, 0, 0]; 2][..],
+            &[[ROUND, 0, 0, 0]],
+            &[[SETTLE, 1, 0, 0]],
+            &[[SETTLE, 1000, 0, 0]],
+        ] {
+            self.play(&fields(&four));
+            self.play(calls);
+        }
+        self.play(&fields(&four));
+        self.play(&[
+            [SET_COUNT, 6, 0, 0],
+            [PERLINK, 5, 7, 0],
+            [PERLINK, 6, 7, 0],
+            [PAIR, 0, 0, 0],
+            [WRITE, 34, 7, 0],
+            [WRITE, 35, 7, 0],
+            [WRITE, 36, 7, 0],
+            [EXPORT, 0, 7, 0],
+            [EXPORT, 2, 7, 0],
+            [EXPORT, 9, 7, 0],
+            [MOVE, 0, 2, 0],
+            [ADD, 0, 0, 0],
+            [UNLINK, 3, 1, 0],
+        ]);
+        for weights in [[1, 2], [255, 255]] {
+            let mut square = square();
+            square.weights = Some(weights.to_vec());
+            self.play(&fields(&square));
+            self.every_call();
+        }
+    }
+
+    /// Links with weights, those of 0 refused, behind each other question; and a
+    /// carried count that goes round at 2^64 by them.
+    fn weighted_links(&mut self) {
+        self.play(&fields(&Graph::of(vec![(0, 2)], vertices(5))));
+        self.play(&[
+            [LINK, 9, 9, 0],
+            [LINK, 1, 1, 0],
+            [LINK, 2, 0, 0],
+            [LINK, 1, 3, 0],
+            [LINK, 1, 3, 256],
+            [LINK, 3, 1, 1 << 32],
+            [LINK, 3, 1, 2],
+            [LINK, 1, 3, 2],
+            [LINK, 1, 4, 255],
+            [LINK, 0, 3, 256 + 1],
+            [LINK, 4, 2, (1 << 32) + 3],
+            [LINK, 3, 4, u64::MAX],
+            [WRITE, 39, 7, 0],
+            [PERLINK, 6, 7, 0],
+            [SETTLE, 1000, 0, 0],
+            [UNLINK, 1, 3, 0],
+            [LINK, 1, 3, 1],
+            [UNLINK, 4, 3, 0],
+            [UNLINK, 4, 1, 0],
+            [UNLINK, 4, 2, 0],
+            [EXPORT, 3, 7, 0],
+            [LAY, 1, 0, 0],
+        ]);
+        self.play(&fields(&Graph::of(vec![(0, 2)], vertices(4))));
+        self.play(&[
+            [SET_COUNT, u64::MAX, 0, 0],
+            [LINK, 1, 3, 255],
+            [UNLINK, 1, 3, 0],
+            [SET_COUNT, u64::from(u32::MAX), 0, 0],
+            [LINK, 1, 3, 1],
+            [COUNT, 0, 0, 0],
+            [SIFT, 0, 0, 0],
         ]);
     }
 
@@ -290,6 +412,14 @@ impl List<'_> {
             self.play(&fields(&square()));
             self.play(&[broken, [COUNT, 0, 0, 0], [ADD, 0, 0, 0], [LINK, 9, 9, 0]]);
         }
+        // An edge with a weight, both ways, where none can be.
+        for [v, w] in [[1, 1], [0, 4], [62, 63]] {
+            self.play(&fields(&square()));
+            let word = |v: u64, w: u64| square().words()[v as usize] | 1 << w;
+            self.play(&[[SET_WORD, v, word(v, w), 0], [SET_WORD, w, word(w, v), 0]]);
+            self.play(&both_ways([v, w], 1));
+            self.play(&[[COUNT, 0, 0, 0]]);
+        }
         // None of these changes the layout in a way that counts.
         self.play(&fields(&square()));
         self.play(&[
@@ -302,18 +432,59 @@ impl List<'_> {
         self.every_call();
     }
 
-    /// The carried count isn't examined, and goes round at 2^32.
+    /// Weights that make a layout invalid: of an edge one way round, another or
+    /// none; both ways round, none; without an edge, one way round and both; of
+    /// a vertex towards itself; and in rows and columns at or above n.
+    fn invalid_weights(&mut self) {
+        let one_way = [
+            [0, 2, 9],
+            [2, 0, 9],
+            [3, 1, 0],
+            [0, 1, 1],
+            [2, 2, 1],
+            [4, 0, 1],
+            [0, 4, 1],
+            [63, 63, 255],
+        ];
+        for [v, w, weight] in one_way {
+            self.play(&fields(&square()));
+            self.play(&[[SET_WEIGHT, v, w, weight], [COUNT, 0, 0, 0]]);
+        }
+        for (ends, weight) in [([1, 3], 0), ([0, 1], 1), ([3, 4], 1), ([62, 63], 1)] {
+            self.play(&fields(&square()));
+            self.play(&both_ways(ends, weight));
+            self.play(&[[COUNT, 0, 0, 0]]);
+        }
+        self.play(&fields(&square()));
+        self.play(&[[SET_WEIGHT, 0, 2, 9]]);
+        self.every_call();
+        // These leave it valid: an edge's weight, set both ways round, a number
+        // over 255, and what isn't there.
+        self.play(&fields(&square()));
+        self.play(&both_ways([2, 0], 256 + 9));
+        self.play(&[
+            [SET_WEIGHT, 0, 1, 256],
+            [SET_WEIGHT, 64, 0, 1],
+            [SET_WEIGHT, 0, 64, 1],
+            [SET_WEIGHT, u64::MAX, 1 << 32, 1],
+        ]);
+        self.every_call();
+    }
+
+    /// The carried count isn't examined, and goes round at 2^64.
     fn any_count(&mut self) {
         self.play(&fields(&square()));
         self.play(&[
-            [SET_COUNT, 1 << 32, 0, 0],
+            [SET_COUNT, 0, 0, 0],
             [COUNT, 0, 0, 0],
             [UNLINK, 0, 2, 0],
-            [LINK, 2, 0, 0],
+            [LINK, 2, 0, 1],
             [SET_COUNT, (1 << 32) + u64::from(u32::MAX), 0, 0],
             [COUNT, 0, 0, 0],
+            [SET_COUNT, u64::MAX, 0, 0],
+            [COUNT, 0, 0, 0],
             [ADD, 0, 0, 0],
-            [LINK, 1, 4, 0],
+            [LINK, 1, 4, 1],
             [MOVE, 0, 1, 0],
         ]);
     }
@@ -324,9 +495,8 @@ impl List<'_> {
         self.play(&fields(&square()));
         self.play(&[[SET_COUNT, 7, 0, 0], [WRITE, 17, 0, 0], [WRITE, 18, 0, 0]]);
         if self.known.has(CHART) {
-            let edges = vec![(0, 2), (1, 3)];
-            let sorted = Graph { edges, ..square() };
-            self.bytes.extend(chart(&Chart::of(&sorted).bytes()));
+            self.bytes
+                .extend(chart(&Chart::of(&sorted_square()).bytes()));
         }
         self.play(&[[WRITE, 19, 255, 0], [MOVE, 0, 1, 0]]);
         self.play(&[[SET_COUNT, 7, 0, 0], [EXPORT, 1, 0, 0], [EXPORT, 2, 0, 0]]);
@@ -341,7 +511,7 @@ impl List<'_> {
         if !self.known.has(CHART) {
             return;
         }
-        for number in 1..=8 {
+        for number in CHART_REFUSALS {
             let special = SPECIALS.iter().find(|s| s.refusal == Some(number));
             let special = special.expect("a chart of each refusal number");
             let refused = (special.make)(&mut Rng::new(0, "stored", usize::from(number)));
@@ -350,6 +520,52 @@ impl List<'_> {
         }
         self.bytes.extend(chart(&Chart::of(&square()).bytes()));
         self.every_call();
+    }
+
+    /// The first ring with each field of weights that is read, written again and
+    /// read back; with each that is refused; and with fields elsewhere.
+    fn weighted_charts(&mut self) {
+        if !self.known.has(CHART) {
+            return;
+        }
+        for weights in [[1, 1], [1, 2], [2, 1], [255, 255]] {
+            let mut square = square();
+            square.weights = Some(weights.to_vec());
+            self.bytes.extend(chart(&Chart::of(&square).bytes()));
+            self.play(&[[WRITE, 23, 7, 0]]);
+            let mut sorted = sorted_square();
+            sorted.weights = Some(weights.to_vec()).filter(|weights| *weights != [1, 1]);
+            self.bytes.extend(chart(&Chart::of(&sorted).bytes()));
+            self.play(&[[WRITE, 23, 7, 0], [EXPORT, 2, 7, 0]]);
+        }
+        let mut none = Graph::of(vec![], vertices(2));
+        none.weights = Some(vec![]);
+        self.bytes.extend(chart(&Chart::of(&none).bytes()));
+        none.weights = Some(vec![1]);
+        self.bytes.extend(chart(&Chart::of(&none).bytes()));
+        for weights in [
+            &[][..],
+            &[1],
+            &[0],
+            &[1, 1, 1],
+            &[0, 0, 0],
+            &[0, 1],
+            &[9, 0],
+        ] {
+            for order in [vertices(4), vec![0, 1, 2, 2]] {
+                let mut square = Graph { order, ..square() };
+                square.weights = Some(weights.to_vec());
+                self.bytes.extend(chart(&Chart::of(&square).bytes()));
+            }
+        }
+        let weights = field(0x57, &[1, 1]);
+        for place in 0..=3 {
+            let mut fields = Chart::of(&square()).fields();
+            fields.insert(place, weights.clone());
+            self.bytes.extend(chart(&fields.concat()));
+            fields.push(weights.clone());
+            self.bytes.extend(chart(&fields.concat()));
+        }
     }
 
     /// A graph6 of each refusal number, those that are accepted behind a layout
@@ -371,7 +587,7 @@ impl List<'_> {
         }
         for n in 61..=64 {
             let (edges, order) = (all_pairs(n), vertices(n));
-            let mut path = Graph { edges, order };
+            let mut path = Graph::of(edges, order);
             path.edges.retain(|(a, b)| a + 1 == *b);
             let graph6 = Graph6::of(&path).bytes();
             self.bytes.extend(import(&graph6));
@@ -467,11 +683,11 @@ mod tests {
         for due in [
             "perlink 0 0 table n 0 ",
             "perlink 0 0 table 263 n 0 ",
-            "perlink 0 0 table 7 7 n 0 ",
+            "perlink 0 0 table 4294967303 4294967303 n 0 ",
             "perlink 23 0 table n 6 ",
-            "perlink 23 0 table 4294967295 4294967295 4294967295 n 6 ",
+            "perlink 23 0 table 18446744073709551615 18446744073709551615 ",
             "perlink 0 4 table 2 2 2 2 n 6 ",
-            "perlink 0 4 table 2 2 2 2 4294967295 n 6 ",
+            "perlink 0 4 table 2 2 2 2 18446744073709551615 n 6 ",
             "perlink 0 3 table 1 2 1 9 n 6 ",
             "perlink 11 0 table 7 7 7 7 n 65 ",
             "perlink 23 0 table 0 0 ",
@@ -480,7 +696,45 @@ mod tests {
         }
         let full = lines.lines().filter(|l| l.starts_with("perlink 0 2016 "));
         let lengths: Vec<usize> = full.map(|line| lent(line).len()).collect();
-        assert_eq!(lengths, [2016, 2100]);
+        assert_eq!(lengths, [2016, 2100, 2016]);
+    }
+
+    #[test]
+    fn weights_are_told_and_refused() {
+        let lines = play(&list(&Known::all()));
+        for due in [
+            "lay 0 1 n 4 order 1 2 0 3 ",
+            "sift 0 5 1 n 4 order 1 2 0 3 ",
+            "round 0 5 1 4 n 4 ",
+            "settle 0 5 2 yes 8 n 4 ",
+            "perlink 0 6 table 0 6 0 0 6 0 n 4 ",
+            "pair 0 pair 0 2 1 3 n 4 ",
+            "write 19 0 buffer 7 7 ",
+            "write 0 35 buffer 68 0 1 4 76 0 12 ",
+            "write 0 6125 buffer 68 0 1 64 76 15 192 ",
+            "export 26 0 buffer n 4 ",
+            "export 26 0 buffer 7 7 n 4 ",
+            "link 25 n 5 ",
+            "lay 0 41315324400 n 64 ",
+        ] {
+            assert!(lines.lines().any(|line| line.starts_with(due)), "{due}");
+        }
+        let most = u64::MAX;
+        for due in [
+            "count 2 words 1 8 3 2 weights 1 3 2 3 1 2".to_string(),
+            "count 254 words 1 8 3 2 weights 1 3 255 3 1 255".to_string(),
+            format!("count {most} words 1 0 3 0 weights 1 3 0 3 1 0"),
+        ] {
+            assert!(lines.lines().any(|line| line.ends_with(&due)), "{due}");
+        }
+        let charts = |refusal: u8| {
+            let start = format!("chart {refusal} ");
+            lines
+                .lines()
+                .filter(|line| line.starts_with(&start))
+                .count()
+        };
+        assert_eq!([8, 24, 25].map(charts), [1 + 7, 1 + 6, 1 + 2]);
     }
 
     /// What `tests/store` wrote, with the second program, for the player.

@@ -7,6 +7,7 @@ use super::graph::Graph;
 use super::graph6;
 use super::maker::Maker;
 use super::ops::*;
+use super::weights;
 
 /// Numbers of edges: none, those about which the length of their field gets its
 /// high byte, and all of 64 vertices.
@@ -17,12 +18,13 @@ const LENGTHS: usize = 11;
 const SHORT: usize = 8;
 
 /// How much a call fills of what it is lent, for a layout of n vertices and m
-/// edges: bytes of a buffer, or entries of a table.
-pub fn filled_length(op: u64, n: usize, m: usize) -> u64 {
+/// edges, with weights other than 1 or without: bytes of a buffer, or entries of
+/// a table.
+pub fn filled_length(op: u64, n: usize, m: usize, weighted: bool) -> u64 {
     match op {
         EXPORT => graph6::length(n),
         PERLINK => m as u64,
-        _ => charts::length(n, m),
+        _ => charts::length(n, m, weighted),
     }
 }
 
@@ -37,7 +39,7 @@ fn most_lent(op: u64) -> u64 {
 impl Maker {
     /// How much a call fills of what it is lent.
     pub fn filled_length(&self, op: u64) -> u64 {
-        filled_length(op, self.n, self.edges.len())
+        filled_length(op, self.n, self.edges.len(), self.is_weighted())
     }
 
     /// Lengths of what is lent: short ones and about as much as a call fills,
@@ -77,7 +79,8 @@ impl Maker {
         let wide = 1 << 32;
         match op {
             PERLINK => {
-                let wider = self.rng.pick(&[wide, wide + any, u64::MAX]);
+                let word = self.rng.word();
+                let wider = self.rng.pick(&[wide, wide + any, u64::MAX, word]);
                 self.rng.pick(&[0, wide - 1, wider, any, any])
             }
             _ => self.rng.pick(&[0, 255, any, any]),
@@ -100,12 +103,15 @@ impl Maker {
 
     /// Makes each call that is lent what it fills on a graph and on one whose
     /// number of edges takes its turn, each with a length that takes its turn and
-    /// with one that is just enough.
+    /// with one that is just enough. What is exported has no weights.
     pub fn call_lent_in_turn(&mut self, graph: &Graph, index: usize) {
         for op in self.known.among(&LENT) {
             let other = self.graph_in_turn(index);
             for graph in [graph, &other] {
-                self.write_graph(graph);
+                match op {
+                    EXPORT => self.write_graph(&graph.unweighted()),
+                    _ => self.write_graph(graph),
+                }
                 let lengths = self.lengths(op);
                 self.call_lent(op, lengths[index % LENGTHS]);
                 self.call_lent(op, self.filled_length(op));
@@ -113,12 +119,29 @@ impl Maker {
         }
     }
 
-    /// A graph whose number of edges takes its turn.
+    /// Writes a graph's chart, and that of the same graph with its edges listed
+    /// otherwise, and weights of 1 for none or none for those.
+    pub fn write_alike(&mut self, graph: &Graph) {
+        if self.known.among(&[CHART, WRITE]).len() < 2 {
+            return;
+        }
+        let other = graph.listed_otherwise(&mut self.rng);
+        for graph in [graph, &other] {
+            self.write_chart(graph);
+            self.emit(WRITE, self.filled_length(WRITE), 0);
+        }
+    }
+
+    /// A graph whose number of edges takes its turn, and with each of these
+    /// numbers the kind of weights.
     fn graph_in_turn(&mut self, index: usize) -> Graph {
         let m = EDGES[index % EDGES.len()];
         let fewest = (0..64).find(|&n| possible(n) >= m).unwrap_or(64);
         let n = self.rng.within(fewest, 64);
-        Graph::with_edges(&mut self.rng, n, m)
+        let mut graph = Graph::with_edges(&mut self.rng, n, m);
+        let kind = weights::in_turn(&mut self.rng, &mut graph, index / EDGES.len());
+        self.weights.push(kind);
+        graph
     }
 
     /// Makes a call, now and then on another count than the true one, that is
@@ -180,7 +203,7 @@ mod tests {
                     continue;
                 };
                 if called == op {
-                    let due = filled_length(op, step.n(), step.m());
+                    let due = filled_length(op, step.n(), step.m(), step.is_weighted());
                     rooms.insert((step.m(), length.wrapping_sub(due) as i64));
                     lents.insert((step.m(), lent(step.line).len() as u64));
                     fills.insert(fill);

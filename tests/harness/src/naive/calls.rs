@@ -3,7 +3,8 @@
 use super::chart::written;
 use super::graph6::exported;
 use super::layout::{
-    crossings, crossings_of_each, edges, first_pair, isolated, joined, list, valid, Edge, Layout,
+    crossings, crossings_of_each, first_pair, is_weighted, isolated, joined, list, valid, weighted,
+    Edge, Layout, Weighted,
 };
 
 /// The refusal number and the answers. Only an accepted call changes the
@@ -18,16 +19,21 @@ fn moved(order: &[usize], a: usize, b: usize) -> Vec<usize> {
     result
 }
 
-/// Writes the list into the layout, and changes the count by crossings after
-/// less crossings before.
-fn set_order(layout: &mut Layout, order: &[usize]) {
-    let edges = edges(layout);
-    let before = crossings(&list(layout), &edges);
-    for (i, &v) in order.iter().enumerate() {
-        layout.order[i] = v as u8;
-    }
-    let after = crossings(order, &edges);
+/// Changes a layout, and its count by crossings after less crossings before.
+fn counting(layout: &mut Layout, change: impl FnOnce(&mut Layout)) {
+    let before = crossings(&list(layout), &weighted(layout));
+    change(layout);
+    let after = crossings(&list(layout), &weighted(layout));
     layout.count = layout.count.wrapping_add(after).wrapping_sub(before);
+}
+
+/// Writes the list into the layout.
+fn set_order(layout: &mut Layout, order: &[usize]) {
+    counting(layout, |layout| {
+        for (i, &v) in order.iter().enumerate() {
+            layout.order[i] = v as u8;
+        }
+    });
 }
 
 pub fn add(layout: &mut Layout) -> Reply<u64> {
@@ -55,22 +61,43 @@ fn refuse_two(layout: &Layout, a: u64, b: u64) -> u8 {
     }
 }
 
-/// Link (`wanted` true) or unlink (`wanted` false).
-pub fn set_edge(layout: &mut Layout, a: u64, b: u64, wanted: bool) -> u8 {
+/// Links two vertices with a weight.
+pub fn link(layout: &mut Layout, a: u64, b: u64, weight: u8) -> u8 {
     let refusal = refuse_two(layout, a, b);
     if refusal != 0 {
         return refusal;
     }
     let (a, b) = (a as usize, b as usize);
-    if joined(&layout.words, a, b) == wanted {
-        return if wanted { 14 } else { 15 };
+    if joined(&layout.words, a, b) {
+        return 14;
     }
-    let order = list(layout);
-    let before = crossings(&order, &edges(layout));
-    layout.words[a] ^= 1 << b;
-    layout.words[b] ^= 1 << a;
-    let after = crossings(&order, &edges(layout));
-    layout.count = layout.count.wrapping_add(after).wrapping_sub(before);
+    if weight == 0 {
+        return 25;
+    }
+    counting(layout, |layout| {
+        layout.words[a] |= 1 << b;
+        layout.words[b] |= 1 << a;
+        layout.weights[a][b] = weight;
+        layout.weights[b][a] = weight;
+    });
+    0
+}
+
+pub fn unlink(layout: &mut Layout, a: u64, b: u64) -> u8 {
+    let refusal = refuse_two(layout, a, b);
+    if refusal != 0 {
+        return refusal;
+    }
+    let (a, b) = (a as usize, b as usize);
+    if !joined(&layout.words, a, b) {
+        return 15;
+    }
+    counting(layout, |layout| {
+        layout.words[a] ^= 1 << b;
+        layout.words[b] ^= 1 << a;
+        layout.weights[a][b] = 0;
+        layout.weights[b][a] = 0;
+    });
     0
 }
 
@@ -95,19 +122,19 @@ fn refuse_one(layout: &Layout, v: u64) -> u8 {
 }
 
 /// Greedy append (lay). Answers the tally.
-pub fn lay(layout: &mut Layout, s: u64) -> Reply<u32> {
+pub fn lay(layout: &mut Layout, s: u64) -> Reply<u64> {
     let isolated = isolated(layout);
     lay_with_last(layout, s, &isolated)
 }
 
 /// Lay as it was before Note 2 of document 02. No program is compared with it.
-pub fn former_lay(layout: &mut Layout, s: u64) -> Reply<u32> {
+pub fn former_lay(layout: &mut Layout, s: u64) -> Reply<u64> {
     lay_with_last(layout, s, &[])
 }
 
 /// Places the start, then by the rule of document 01 all vertices but those
 /// that are to be last, then these at the back in their sequence.
-fn lay_with_last(layout: &mut Layout, s: u64, last: &[usize]) -> Reply<u32> {
+fn lay_with_last(layout: &mut Layout, s: u64, last: &[usize]) -> Reply<u64> {
     let refusal = refuse_one(layout, s);
     if refusal != 0 {
         return (refusal, 0);
@@ -147,17 +174,20 @@ fn next_to_lay(layout: &Layout, placed: &[usize], last: &[usize]) -> Option<usiz
     best.map(|(_, _, v)| v)
 }
 
-/// The crossings of closing with open edges, v put in front and at the back.
-fn crossings_at_ends(layout: &Layout, placed: &[usize], v: usize) -> (u32, u32) {
+/// The crossings of closing with open edges, v put in front and at the back,
+/// each with the product of its two weights.
+fn crossings_at_ends(layout: &Layout, placed: &[usize], v: usize) -> (u64, u64) {
     let (mut front, mut back) = (0, 0);
+    let weight = |v: usize, w: usize| u64::from(layout.weights[v][w]);
     let unplaced = |w: &usize| *w != v && !placed.contains(w);
     let unplaced: Vec<usize> = (0..layout.n as usize).filter(unplaced).collect();
     for (i, &p) in placed.iter().enumerate() {
         for (j, &q) in placed.iter().enumerate() {
             for &w in &unplaced {
                 if joined(&layout.words, v, p) && joined(&layout.words, q, w) {
-                    front += u32::from(j < i);
-                    back += u32::from(j > i);
+                    let product = weight(v, p) * weight(q, w);
+                    front += if j < i { product } else { 0 };
+                    back += if j > i { product } else { 0 };
                 }
             }
         }
@@ -166,11 +196,11 @@ fn crossings_at_ends(layout: &Layout, placed: &[usize], v: usize) -> (u32, u32) 
 }
 
 /// A list that has u in some place, and its crossings.
-type Candidate = (Vec<usize>, u32);
+type Candidate = (Vec<usize>, u64);
 
 /// The candidates that have u directly after each of the others, clockwise from
 /// u.
-fn candidates(order: &[usize], edges: &[Edge], u: usize) -> Vec<Candidate> {
+fn candidates(order: &[usize], edges: &[Weighted], u: usize) -> Vec<Candidate> {
     let place = order.iter().position(|&v| v == u).expect("u is listed");
     let mut candidates = Vec::new();
     for k in 1..order.len() {
@@ -182,7 +212,7 @@ fn candidates(order: &[usize], edges: &[Edge], u: usize) -> Vec<Candidate> {
 }
 
 /// Those of them that have the least crossings, in their sequence.
-fn best_candidates(order: &[usize], edges: &[Edge], u: usize) -> Vec<Candidate> {
+fn best_candidates(order: &[usize], edges: &[Weighted], u: usize) -> Vec<Candidate> {
     let mut candidates = candidates(order, edges, u);
     let least = candidates.iter().map(|&(_, found)| found).min();
     candidates.retain(|&(_, found)| Some(found) == least);
@@ -192,12 +222,12 @@ fn best_candidates(order: &[usize], edges: &[Edge], u: usize) -> Vec<Candidate> 
 /// What sifting answers: the reduction (saving), how many vertices moved, and
 /// the optima, how many of the n - 1 candidate places have the least crossings
 /// (document 02, Note 3), each summed over the sifts.
-type Sums = (u32, u32, u32);
+type Sums = (u64, u32, u32);
 
 /// Sifts these vertices one after the other.
 fn sift_all(layout: &mut Layout, vertices: impl Iterator<Item = usize>) -> Sums {
     let (mut saving, mut moves, mut optima) = (0, 0, 0);
-    let edges = edges(layout);
+    let edges = weighted(layout);
     for u in vertices {
         let order = list(layout);
         let best = best_candidates(&order, &edges, u);
@@ -213,7 +243,7 @@ fn sift_all(layout: &mut Layout, vertices: impl Iterator<Item = usize>) -> Sums 
 }
 
 /// Answers the reduction (saving) and the optima.
-pub fn sift(layout: &mut Layout, u: u64) -> Reply<(u32, u32)> {
+pub fn sift(layout: &mut Layout, u: u64) -> Reply<(u64, u32)> {
     let refusal = refuse_one(layout, u);
     if refusal != 0 {
         return (refusal, (0, 0));
@@ -233,7 +263,7 @@ pub fn round(layout: &mut Layout) -> Reply<Sums> {
 
 /// Converging (settle). Answers the reduction (saving), the rounds run, whether
 /// the last one moved nothing (settled), and the optima.
-pub fn settle(layout: &mut Layout, limit: u64) -> Reply<(u32, u32, bool, u32)> {
+pub fn settle(layout: &mut Layout, limit: u64) -> Reply<(u64, u32, bool, u32)> {
     if !valid(layout) {
         return (11, (0, 0, false, 0));
     }
@@ -252,7 +282,7 @@ pub fn settle(layout: &mut Layout, limit: u64) -> Reply<(u32, u32, bool, u32)> {
     unreachable!("the limit is at most 1000")
 }
 
-pub fn count(layout: &Layout) -> Reply<u32> {
+pub fn count(layout: &Layout) -> Reply<u64> {
     if valid(layout) {
         (0, layout.count)
     } else {
@@ -278,39 +308,41 @@ pub fn pair(layout: &Layout) -> Reply<Option<(Edge, Edge)>> {
     if !valid(layout) {
         return (11, None);
     }
-    (0, first_pair(&list(layout), &edges(layout)))
+    (0, first_pair(&list(layout), &weighted(layout)))
 }
 
 /// Writes the chart into a lent buffer. Answers its length.
 pub fn write(layout: &Layout, buffer: &mut [u8]) -> Reply<usize> {
-    put(layout, buffer, 19, written)
+    if !valid(layout) {
+        return (11, 0);
+    }
+    put(&written(layout), buffer, 19)
 }
 
 /// Writes the graph6 into a lent buffer. Answers its length.
 pub fn export(layout: &Layout, buffer: &mut [u8]) -> Reply<usize> {
-    put(layout, buffer, 19, exported)
+    if !valid(layout) {
+        return (11, 0);
+    }
+    if is_weighted(layout) {
+        return (26, 0);
+    }
+    put(&exported(layout), buffer, 19)
 }
 
 /// Fills a lent table with the crossings of each edge (link), in the sequence in
 /// which the chart has them. Answers how many edges there are.
-pub fn edge_crossings(layout: &Layout, table: &mut [u32]) -> Reply<usize> {
-    put(layout, table, 23, |layout| {
-        crossings_of_each(&list(layout), &edges(layout))
-    })
-}
-
-/// Puts what is made of a valid layout into what is lent, which is refused with
-/// some number if it is too short. Answers the length of what is made.
-fn put<E: Copy>(
-    layout: &Layout,
-    lent: &mut [E],
-    too_short: u8,
-    make: fn(&Layout) -> Vec<E>,
-) -> Reply<usize> {
+pub fn edge_crossings(layout: &Layout, table: &mut [u64]) -> Reply<usize> {
     if !valid(layout) {
         return (11, 0);
     }
-    let made = make(layout);
+    let numbers = crossings_of_each(&list(layout), &weighted(layout));
+    put(&numbers, table, 23)
+}
+
+/// Puts what is made of a layout into what is lent, which is refused with some
+/// number if it is too short. Answers the length of what is made.
+fn put<E: Copy>(made: &[E], lent: &mut [E], too_short: u8) -> Reply<usize> {
     if lent.len() < made.len() {
         return (too_short, 0);
     }

@@ -1,7 +1,7 @@
 //! graph6: Note 4 of document 02. Both ways the graph is a row of bits, each 0
 //! or 1, six to a byte.
 
-use super::layout::{crossings, edges, empty, joined, list, Edge, Layout};
+use super::layout::{crossings, empty, joined, list, weighted, Edge, Layout};
 
 /// The refusal number, and the layout: the empty one where it isn't 0.
 pub fn import(input: &[u8]) -> (u8, Layout) {
@@ -25,9 +25,11 @@ pub fn import(input: &[u8]) -> (u8, Layout) {
         if row[i] == 1 {
             layout.words[v] |= 1 << w;
             layout.words[w] |= 1 << v;
+            layout.weights[v][w] = 1;
+            layout.weights[w][v] = 1;
         }
     }
-    layout.count = crossings(&list(&layout), &edges(&layout));
+    layout.count = crossings(&list(&layout), &weighted(&layout));
     (0, layout)
 }
 
@@ -85,7 +87,7 @@ fn number(bits: &[u8]) -> usize {
     bits.iter().fold(0, |sum, &bit| 2 * sum + bit as usize)
 }
 
-/// The graph6 of a valid layout.
+/// The graph6 of a valid layout, which has no place for weights.
 pub fn exported(layout: &Layout) -> Vec<u8> {
     let n = layout.n as usize;
     let mut row = if n <= 62 {

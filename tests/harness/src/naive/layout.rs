@@ -8,18 +8,24 @@ pub struct Layout {
     pub order: [u8; 64],
     /// Adjacency words (neighbour words).
     pub words: [u64; 64],
+    /// The weight of each vertex towards each other one.
+    pub weights: [[u8; 64]; 64],
     /// The carried count.
-    pub count: u32,
+    pub count: u64,
 }
 
 /// An edge (link) between two vertices, lower end first.
 pub type Edge = (usize, usize);
+
+/// An edge and its weight.
+pub type Weighted = (Edge, u8);
 
 pub fn empty() -> Layout {
     Layout {
         n: 0,
         order: [0; 64],
         words: [0; 64],
+        weights: [[0; 64]; 64],
         count: 0,
     }
 }
@@ -49,6 +55,10 @@ pub fn valid(layout: &Layout) -> bool {
             if edge != joined(&layout.words, w, v) || edge && (v == w || v >= n || w >= n) {
                 return false;
             }
+            let weight = layout.weights[v][w];
+            if weight != layout.weights[w][v] || (weight == 0) == edge {
+                return false;
+            }
         }
     }
     true
@@ -74,6 +84,17 @@ pub fn edges(layout: &Layout) -> Vec<Edge> {
     edges
 }
 
+/// The same, each with its weight.
+pub fn weighted(layout: &Layout) -> Vec<Weighted> {
+    let edges = edges(layout).into_iter();
+    edges.map(|(v, w)| ((v, w), layout.weights[v][w])).collect()
+}
+
+/// Whether some edge has another weight than 1.
+pub fn is_weighted(layout: &Layout) -> bool {
+    weighted(layout).iter().any(|&(_, weight)| weight != 1)
+}
+
 /// The isolated vertices (unlinked devices), in rising number.
 pub fn isolated(layout: &Layout) -> Vec<usize> {
     let unlinked = |v: &usize| (*v as u64) < layout.n && layout.words[*v] == 0;
@@ -84,64 +105,80 @@ pub fn isolated(layout: &Layout) -> Vec<usize> {
 const TOGETHER: usize = 32;
 
 /// The places in which the first and the second ends of edges stand, as signed
-/// bytes, which are quicker to compare. Behind them comes what fills up the
-/// last edges that are looked at together: edges from a place to itself, which
-/// cross nothing.
+/// bytes, which are quicker to compare, and the edges' weights. Behind them
+/// comes what fills up the last edges that are looked at together: edges of no
+/// weight.
 struct Places {
     first: Vec<i8>,
     second: Vec<i8>,
+    weight: Vec<u8>,
 }
 
-fn places(order: &[usize], edges: &[Edge]) -> Places {
+fn places(order: &[usize], edges: &[Weighted]) -> Places {
     let mut place = [0; 64];
     for (i, &v) in order.iter().enumerate() {
         place[v] = i as i8;
     }
     let mut places = Places {
-        first: edges.iter().map(|&(v, _)| place[v]).collect(),
-        second: edges.iter().map(|&(_, w)| place[w]).collect(),
+        first: edges.iter().map(|&((v, _), _)| place[v]).collect(),
+        second: edges.iter().map(|&((_, w), _)| place[w]).collect(),
+        weight: edges.iter().map(|&(_, weight)| weight).collect(),
     };
     let filled = edges.len() + TOGETHER - 1;
     places.first.resize(filled, 0);
     places.second.resize(filled, 0);
+    places.weight.resize(filled, 0);
     places
 }
 
 impl Places {
-    /// How many edges cross one, of those from some number on.
-    fn crossed_from(&self, edge: usize, from: usize) -> u32 {
-        let edge = (self.first[edge], self.second[edge]);
-        let first = self.first[from..].chunks_exact(TOGETHER);
-        let second = self.second[from..].chunks_exact(TOGETHER);
+    /// The products of an edge's weight with the weight of each that crosses it,
+    /// of those from some number on, summed: the one weight is multiplied with
+    /// the sum of the others.
+    fn crossed_from(&self, edge: usize, from: usize) -> u64 {
+        let ends = (self.first[edge], self.second[edge]);
+        let (first, _) = self.first[from..].as_chunks::<TOGETHER>();
+        let (second, _) = self.second[from..].as_chunks::<TOGETHER>();
+        let (weight, _) = self.weight[from..].as_chunks::<TOGETHER>();
         let mut total = 0;
-        for (first, second) in first.zip(second) {
-            total += u32::from(crossed(edge, first, second));
+        for ((first, second), weight) in first.iter().zip(second).zip(weight) {
+            total += u64::from(crossed(ends, first, second, weight));
         }
-        total
+        u64::from(self.weight[edge]) * total
     }
 }
 
-/// The crossings of the edges in an order: the unordered pairs that cross.
-pub fn crossings(order: &[usize], edges: &[Edge]) -> u32 {
+/// The crossings of the edges in an order: the unordered pairs that cross, each
+/// with the product of its two weights.
+pub fn crossings(order: &[usize], edges: &[Weighted]) -> u64 {
     let places = places(order, edges);
     (0..edges.len())
         .map(|i| places.crossed_from(i, i + 1))
         .sum()
 }
 
-/// The crossings that each edge takes part in: how many of all edges cross it.
-/// None crosses itself.
-pub fn crossings_of_each(order: &[usize], edges: &[Edge]) -> Vec<u32> {
+/// The crossings that each edge takes part in: those of all edges that cross
+/// it. None crosses itself.
+pub fn crossings_of_each(order: &[usize], edges: &[Weighted]) -> Vec<u64> {
     let places = places(order, edges);
     (0..edges.len())
         .map(|i| places.crossed_from(i, 0))
         .collect()
 }
 
-/// How many of some edges cross one, looked at one by one.
-fn crossed(edge: (i8, i8), first: &[i8], second: &[i8]) -> u8 {
-    let others = first.iter().zip(second);
-    others.map(|(&c, &d)| u8::from(cross(edge, (c, d)))).sum()
+/// The weights of those of some edges that cross one, looked at one by one.
+fn crossed(
+    edge: (i8, i8),
+    first: &[i8; TOGETHER],
+    second: &[i8; TOGETHER],
+    weight: &[u8; TOGETHER],
+) -> u16 {
+    let mut total = 0;
+    for i in 0..TOGETHER {
+        let times = u8::from(cross(edge, (first[i], second[i])));
+        total += u16::from(times * weight[i]);
+    }
+    total
 }
 
 /// Whether two edges, given by the places of their ends, cross: the four ends
@@ -153,12 +190,12 @@ fn cross((a, b): (i8, i8), (c, d): (i8, i8)) -> bool {
 }
 
 /// The first two edges that cross: lowest first edge, then lowest second one.
-pub fn first_pair(order: &[usize], edges: &[Edge]) -> Option<(Edge, Edge)> {
-    let Places { first, second } = places(order, edges);
+pub fn first_pair(order: &[usize], edges: &[Weighted]) -> Option<(Edge, Edge)> {
+    let Places { first, second, .. } = places(order, edges);
     for i in 0..edges.len() {
         for j in i + 1..edges.len() {
             if cross((first[i], second[i]), (first[j], second[j])) {
-                return Some((edges[i], edges[j]));
+                return Some((edges[i].0, edges[j].0));
             }
         }
     }

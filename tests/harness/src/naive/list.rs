@@ -2,14 +2,14 @@
 
 use super::calls::settle;
 use super::chart::read;
-use super::layout::{crossings, edges, list};
+use super::layout::{crossings, list, weighted};
 
 pub fn listing(chart: &[u8]) -> String {
     let (refusal, mut layout) = read(chart);
     if refusal != 0 {
         return format!("refused {refusal}\n");
     }
-    let edges = edges(&layout);
+    let edges = weighted(&layout);
     let mut text = format!("devices {}\n", layout.n);
     text += &format!("links {}\n", edges.len());
     text += &format!("before {}\n", crossings(&list(&layout), &edges));

@@ -16,7 +16,7 @@ pub fn play(list: &[u8]) -> String {
     };
     let mut lines = Vec::new();
     while player.at < list.len() {
-        let before = player.layout.words;
+        let before = player.layout.clone();
         match player.step() {
             Step::Quiet => {}
             Step::Said(said) => lines.push(line(&said, &player.layout, &before)),
@@ -69,7 +69,7 @@ impl Player<'_> {
         if self.list.len() - self.at < 32 {
             return Step::End;
         }
-        let [op, a, b] = [0, 1, 2].map(|i| self.number(i));
+        let [op, a, b, c] = [0, 1, 2, 3].map(|i| self.number(i));
         self.at += 32;
         match op {
             0 => {
@@ -78,11 +78,11 @@ impl Player<'_> {
             }
             1 => self.start("chart", a, chart::read),
             28 => self.start("import", a, graph6::import),
-            2..=5 => {
-                self.set(op, a, b);
+            2..=6 => {
+                self.set(op, a, b, c);
                 Step::Quiet
             }
-            16..=27 | 29..=30 => Step::Said(self.call(op, a, b)),
+            16..=27 | 29..=30 => Step::Said(self.call(op, a, b, c)),
             _ => Step::End,
         }
     }
@@ -101,24 +101,26 @@ impl Player<'_> {
         Step::Said(format!("{name} {refusal}"))
     }
 
-    fn set(&mut self, op: u64, a: u64, b: u64) {
+    fn set(&mut self, op: u64, a: u64, b: u64, c: u64) {
         if op == 2 {
             self.layout.n = a;
         } else if op == 3 && a < 64 {
-            self.layout.order[a as usize] = (b % 256) as u8;
+            self.layout.order[a as usize] = byte(b);
         } else if op == 4 && a < 64 {
             self.layout.words[a as usize] = b;
         } else if op == 5 {
-            self.layout.count = (a % (1 << 32)) as u32;
+            self.layout.count = a;
+        } else if op == 6 && a < 64 && b < 64 {
+            self.layout.weights[a as usize][b as usize] = byte(c);
         }
     }
 
-    fn call(&mut self, op: u64, a: u64, b: u64) -> String {
+    fn call(&mut self, op: u64, a: u64, b: u64, c: u64) -> String {
         let layout = &mut self.layout;
         match op {
             16 => one("add", calls::add(layout)),
-            17 => format!("link {}", calls::set_edge(layout, a, b, true)),
-            18 => format!("unlink {}", calls::set_edge(layout, a, b, false)),
+            17 => format!("link {}", calls::link(layout, a, b, byte(c))),
+            18 => format!("unlink {}", calls::unlink(layout, a, b)),
             19 => format!("move {}", calls::move_behind(layout, a, b)),
             20 => one("lay", calls::lay(layout, a)),
             21 => {
@@ -171,13 +173,13 @@ pub fn export(layout: &Layout, length: u64, fill: u64) -> String {
 
 /// What the call `perlink` says.
 pub fn perlink(layout: &Layout, length: u64, fill: u64) -> String {
-    let mut table = lent(length, 2100, (fill % (1 << 32)) as u32);
+    let mut table = lent(length, 2100, fill);
     let reply = calls::edge_crossings(layout, &mut table);
     format!("{} {}", one("perlink", reply), shown("table", &table))
 }
 
-fn byte(fill: u64) -> u8 {
-    (fill % 256) as u8
+fn byte(number: u64) -> u8 {
+    (number % 256) as u8
 }
 
 /// So many entries, or the most if there are more.
@@ -202,15 +204,24 @@ fn pair(layout: &Layout) -> String {
     }
 }
 
-fn line(said: &str, layout: &Layout, words_before: &[u64; 64]) -> String {
+fn line(said: &str, layout: &Layout, before: &Layout) -> String {
     let mut line = format!("{said} n {} order", layout.n);
     for v in layout.order {
         line += &format!(" {v}");
     }
     line += &format!(" count {} words", layout.count);
     for (v, word) in layout.words.iter().enumerate() {
-        if *word != words_before[v] {
+        if *word != before.words[v] {
             line += &format!(" {v} {word}");
+        }
+    }
+    line += " weights";
+    for v in 0..64 {
+        for w in 0..64 {
+            let weight = layout.weights[v][w];
+            if weight != before.weights[v][w] {
+                line += &format!(" {v} {w} {weight}");
+            }
         }
     }
     line + "\n"

@@ -1,29 +1,51 @@
 //! The naive model on the rings worked by hand in document 01, on the points
 //! that it leaves open of lay, on isolated vertices, on the optima of sifts, on
-//! charts written out again, on graph6, on the crossings of each edge, and on
-//! random graphs.
+//! charts written out again, on graph6, on the crossings of each edge, on
+//! weights, and on random graphs.
 
 use std::collections::BTreeSet;
 
 use super::calls::{self, Reply};
 use super::chart::{read, written};
 use super::graph6::{exported, import, long_size, size};
-use super::layout::{crossings, crossings_of_each, edges, empty, list, Edge, Layout};
+use super::layout::{
+    crossings, crossings_of_each, edges, empty, list, valid, weighted, Edge, Layout, Weighted,
+};
 use super::list::listing;
 use super::play::play;
 use crate::make::charts::Chart;
 use crate::make::families;
 use crate::make::five;
 use crate::make::graph::{all_pairs, vertices, Graph};
+use crate::make::records;
+use crate::make::weights;
 use crate::rng::Rng;
 
 const FIRST: [(u8, u8); 2] = [(0, 2), (1, 3)];
 
 fn layout(order: &[u8], edges: &[(u8, u8)]) -> Layout {
-    let (order, edges) = (order.to_vec(), edges.to_vec());
-    let (refusal, layout) = read(&Chart::of(&Graph { edges, order }).bytes());
+    layout_of(&Graph::of(edges.to_vec(), order.to_vec()))
+}
+
+fn layout_of(graph: &Graph) -> Layout {
+    let (refusal, layout) = read(&Chart::of(graph).bytes());
     assert_eq!(refusal, 0);
     layout
+}
+
+/// A layout of edges with weights.
+fn heavy(order: &[u8], edges: &[(u8, u8, u8)]) -> Layout {
+    let mut graph = Graph::of(vec![], order.to_vec());
+    graph.edges = edges.iter().map(|&(v, w, _)| (v, w)).collect();
+    graph.weights = Some(edges.iter().map(|&(.., weight)| weight).collect());
+    layout_of(&graph)
+}
+
+/// A random graph of n vertices, without weights or with some.
+fn random(rng: &mut Rng, n: usize) -> Graph {
+    let mut graph = Graph::random(rng, n, usize::MAX);
+    weights::any(rng, &mut graph);
+    graph
 }
 
 fn complete(n: usize) -> Layout {
@@ -31,10 +53,10 @@ fn complete(n: usize) -> Layout {
 }
 
 /// The list, the tally and the crossings behind a lay.
-type Laid = (Vec<usize>, u32, u32);
+type Laid = (Vec<usize>, u64, u64);
 
-fn laid_by(lay: fn(&mut Layout, u64) -> Reply<u32>, graph: &Graph, start: u64) -> Laid {
-    let mut ring = layout(&graph.order, &graph.edges);
+fn laid_by(lay: fn(&mut Layout, u64) -> Reply<u64>, graph: &Graph, start: u64) -> Laid {
+    let mut ring = layout_of(graph);
     let (refusal, tally) = lay(&mut ring, start);
     assert_eq!(refusal, 0);
     (list(&ring), tally, ring.count)
@@ -42,8 +64,7 @@ fn laid_by(lay: fn(&mut Layout, u64) -> Reply<u32>, graph: &Graph, start: u64) -
 
 /// Vertices in rising order.
 fn rising(n: usize, edges: &[(u8, u8)]) -> Graph {
-    let (edges, order) = (edges.to_vec(), vertices(n));
-    Graph { edges, order }
+    Graph::of(edges.to_vec(), vertices(n))
 }
 
 /// After laying vertices in rising order.
@@ -104,7 +125,7 @@ fn optima_of_few_vertices_and_of_refused_calls() {
 
 /// Sifts u twice. The candidates are the same behind the first sift, and so are
 /// the optima. Gives the first answers.
-fn sifted_twice(ring: &mut Layout, u: usize) -> (u32, u32) {
+fn sifted_twice(ring: &mut Layout, u: usize) -> (u64, u32) {
     let (refusal, (saving, optima)) = calls::sift(ring, u as u64);
     let mut again = ring.clone();
     let due = (refusal, (0, optima));
@@ -255,7 +276,8 @@ fn only_isolated_vertices_move_in_random_graphs() {
         let mut differ = 0;
         for index in 0..100 {
             let mut rng = Rng::new(1, family.name, index);
-            let graph = family.graph(&mut rng, 64);
+            let mut graph = family.graph(&mut rng, 64);
+            weights::any(&mut rng, &mut graph);
             let start = rng.below(graph.n());
             differ += usize::from(only_isolated_vertices_move(&graph, start));
         }
@@ -271,27 +293,28 @@ fn a_tally_is_the_crossings_laid() {
     for index in 0..400 {
         let mut rng = Rng::new(1, "tally", index);
         let n = rng.within(1, 64);
-        let graph = Graph::random(&mut rng, n, usize::MAX);
-        let mut ring = layout(&graph.order, &graph.edges);
+        let mut ring = layout_of(&random(&mut rng, n));
         let start = rng.below(n) as u64;
         let (refusal, tally) = calls::lay(&mut ring, start);
         assert_eq!(refusal, 0);
-        let laid = crossings(&list(&ring), &edges(&ring));
+        let laid = crossings(&list(&ring), &weighted(&ring));
         assert_eq!((tally, ring.count), (laid, laid), "{ring:?} from {start}");
     }
 }
 
-/// The crossings of each edge, each pair of edges looked at alone.
-fn one_by_one(order: &[usize], edges: &[Edge]) -> Vec<u32> {
+/// The crossings of each edge, each pair of edges looked at alone and counted
+/// with the product of its weights.
+fn one_by_one(order: &[usize], edges: &[Weighted]) -> Vec<u64> {
     let place = |v| order.iter().position(|&w| w == v).expect("v is listed");
-    let places = |&(v, w): &Edge| (place(v).min(place(w)), place(v).max(place(w)));
+    let places = |&((v, w), _): &Weighted| (place(v).min(place(w)), place(v).max(place(w)));
     let places: Vec<(usize, usize)> = edges.iter().map(places).collect();
     let mut numbers = vec![0; edges.len()];
     for (i, &(a, b)) in places.iter().enumerate() {
         for (j, &(c, d)) in places.iter().enumerate() {
             if a < c && c < b && b < d {
-                numbers[i] += 1;
-                numbers[j] += 1;
+                let product = u64::from(edges[i].1) * u64::from(edges[j].1);
+                numbers[i] += product;
+                numbers[j] += product;
             }
         }
     }
@@ -307,16 +330,17 @@ fn edges_looked_at_together_are_counted_as_one_by_one() {
         graph.edges = all_pairs(64);
         rng.shuffle(&mut graph.edges);
         graph.edges.truncate(m);
-        let ring = layout(&graph.order, &graph.edges);
-        let (order, edges) = (list(&ring), edges(&ring));
+        weights::any(&mut rng, &mut graph);
+        let ring = layout_of(&graph);
+        let (order, edges) = (list(&ring), weighted(&ring));
         let numbers = one_by_one(&order, &edges);
-        assert_eq!(numbers.iter().sum::<u32>(), 2 * ring.count);
+        assert_eq!(numbers.iter().sum::<u64>(), 2 * ring.count);
         assert_eq!(crossings_of_each(&order, &edges), numbers);
     }
 }
 
 /// The numbers of the edges in a table that is just long enough.
-fn numbers(layout: &Layout) -> Vec<u32> {
+fn numbers(layout: &Layout) -> Vec<u64> {
     let mut table = vec![9; edges(layout).len()];
     assert_eq!(calls::edge_crossings(layout, &mut table), (0, table.len()));
     table
@@ -340,13 +364,12 @@ fn crossings_of_each_edge_of_the_worked_rings() {
 fn crossings_of_each_edge_add_up_to_twice_all() {
     for number in 0..five::GRAPHS {
         let ring = layout(&[3, 1, 4, 0, 2], &five::graph(number).edges);
-        assert_eq!(numbers(&ring).iter().sum::<u32>(), 2 * ring.count);
+        assert_eq!(numbers(&ring).iter().sum::<u64>(), 2 * ring.count);
     }
     for index in 0..200 {
         let mut rng = Rng::new(1, "each edge", index);
-        let graph = Graph::random(&mut rng, index % 65, usize::MAX);
-        let ring = layout(&graph.order, &graph.edges);
-        assert_eq!(numbers(&ring).iter().sum::<u32>(), 2 * ring.count);
+        let ring = layout_of(&random(&mut rng, index % 65));
+        assert_eq!(numbers(&ring).iter().sum::<u64>(), 2 * ring.count);
     }
 }
 
@@ -356,10 +379,10 @@ fn crossings_of_each_edge_add_up_to_twice_all() {
 fn crossings_of_each_of_all_edges() {
     for n in [6, 64] {
         let number = |(a, b): (u8, u8)| {
-            let between = u32::from(b - a - 1);
-            between * (n as u32 - 2 - between)
+            let between = u64::from(b - a - 1);
+            between * (n as u64 - 2 - between)
         };
-        let due: Vec<u32> = all_pairs(n).into_iter().map(number).collect();
+        let due: Vec<u64> = all_pairs(n).into_iter().map(number).collect();
         assert_eq!(numbers(&complete(n)), due);
     }
 }
@@ -384,8 +407,8 @@ fn crossings_are_played_into_at_most_2100_entries() {
     let ring = layout(&[0, 1, 2, 3], &FIRST);
     let said = |length, fill| super::play::perlink(&ring, length, fill);
     assert_eq!(said(4, 7), "perlink 0 2 table 1 1 7 7");
-    assert_eq!(said(3, (1 << 32) + 256), "perlink 0 2 table 1 1 256");
-    assert_eq!(said(1, u64::MAX), "perlink 23 0 table 4294967295");
+    assert_eq!(said(3, (1 << 32) + 256), "perlink 0 2 table 1 1 4294967552");
+    assert_eq!(said(1, u64::MAX), "perlink 23 0 table 18446744073709551615");
     assert_eq!(said(0, 7), "perlink 23 0 table");
     for length in [2100, 2101, (1 << 32) + 2, u64::MAX] {
         let rest = " 0".repeat(2098);
@@ -397,12 +420,15 @@ fn crossings_are_played_into_at_most_2100_entries() {
 fn refused_calls() {
     let mut full = complete(64);
     assert_eq!(calls::add(&mut full), (16, 0));
-    assert_eq!(calls::set_edge(&mut full, 1, 64, true), 12);
-    assert_eq!(calls::set_edge(&mut full, 1, 1, true), 13);
-    assert_eq!(calls::set_edge(&mut full, 1, 0, true), 14);
-    assert_eq!(calls::set_edge(&mut full, 1, 0, false), 0);
-    assert_eq!(calls::set_edge(&mut full, 1, 0, false), 15);
-    assert_eq!(full.count, crossings(&list(&full), &edges(&full)));
+    for weight in [0, 1] {
+        assert_eq!(calls::link(&mut full, 1, 64, weight), 12);
+        assert_eq!(calls::link(&mut full, 1, 1, weight), 13);
+        assert_eq!(calls::link(&mut full, 1, 0, weight), 14);
+    }
+    assert_eq!(calls::unlink(&mut full, 1, 0), 0);
+    assert_eq!(calls::unlink(&mut full, 1, 0), 15);
+    assert_eq!(calls::link(&mut full, 1, 0, 0), 25);
+    assert_eq!(full.count, crossings(&list(&full), &weighted(&full)));
     assert_eq!(calls::order(&full, &mut [0; 63]), 18);
     assert_eq!(calls::write(&full, &mut [0; 4103]), (19, 0));
     assert_eq!(calls::write(&full, &mut [0; 4104]), (0, 4104));
@@ -445,10 +471,9 @@ fn charts_of_no_vertex_and_about_a_high_byte() {
 fn what_is_written_is_read_back() {
     for index in 0..300 {
         let mut rng = Rng::new(1, "written", index);
-        let graph = Graph::random(&mut rng, index % 65, usize::MAX);
-        let ring = layout(&graph.order, &graph.edges);
+        let ring = layout_of(&random(&mut rng, index % 65));
         let mut carrying = ring.clone();
-        carrying.count = rng.word() as u32;
+        carrying.count = rng.word();
         assert_eq!(read(&written(&carrying)), (0, ring));
     }
 }
@@ -543,7 +568,7 @@ fn what_is_exported_is_imported() {
         let n = index % 65;
         let graph = Graph::random(&mut rng, n, usize::MAX);
         let mut ring = layout(&graph.order, &graph.edges);
-        ring.count = rng.word() as u32;
+        ring.count = rng.word();
         let due = layout(&vertices(n), &graph.edges);
         assert_eq!(import(&exported(&ring)), (0, due));
     }
@@ -570,9 +595,7 @@ fn an_export_asks_for_validity_and_then_for_room() {
 
 #[test]
 fn the_listing_and_the_list_worked_in_full() {
-    let order = vec![0, 1, 2, 3];
-    let edges = FIRST.to_vec();
-    let chart = Chart::of(&Graph { edges, order }).bytes();
+    let chart = Chart::of(&rising(4, &FIRST)).bytes();
     let due = "devices 4\nlinks 2\nbefore 1\nafter 0\nrounds 2\nsettled yes\norder 1 0 2 3\n";
     assert_eq!(listing(&chart), due);
     let mut calls = vec![0; 96];
@@ -580,8 +603,231 @@ fn the_listing_and_the_list_worked_in_full() {
     calls[32..50].copy_from_slice(&chart);
     let rest = " 0".repeat(60);
     let due = format!(
-        "chart 0 n 4 order 0 1 2 3{rest} count 1 words 0 4 1 8 2 1 3 2\n\
-         sift 0 1 2 n 4 order 1 0 2 3{rest} count 0 words\n"
+        "chart 0 n 4 order 0 1 2 3{rest} count 1 \
+         words 0 4 1 8 2 1 3 2 weights 0 2 1 1 3 1 2 0 1 3 1 1\n\
+         sift 0 1 2 n 4 order 1 0 2 3{rest} count 0 words weights\n"
     );
     assert_eq!(play(&calls), due);
+}
+
+/// All edges of four vertices with weights. Of the three pairs that can cross,
+/// 0-2 with 1-3 counts 6, 0-3 with 1-2 counts 2, and 0-1 with 2-3 counts 1.
+const FOUR: [(u8, u8, u8); 6] = [
+    (0, 1, 1),
+    (0, 2, 2),
+    (0, 3, 1),
+    (1, 2, 2),
+    (1, 3, 3),
+    (2, 3, 1),
+];
+
+/// n vertices in rising order with all edges, each of the largest weight.
+fn heaviest(n: usize) -> Layout {
+    let edges: Vec<(u8, u8, u8)> = all_pairs(n).iter().map(|&(v, w)| (v, w, 255)).collect();
+    heavy(&vertices(n), &edges)
+}
+
+#[test]
+fn a_crossing_counts_the_product_of_its_weights() {
+    for (v, w, due) in [(1, 1, 1), (2, 3, 6), (1, 255, 255), (255, 255, 65_025)] {
+        let ring = heavy(&[0, 1, 2, 3], &[(0, 2, v), (3, 1, w)]);
+        assert_eq!((ring.count, numbers(&ring)), (due, vec![due, due]));
+        assert_eq!(pair(&ring), Some(((0, 2), (1, 3))));
+    }
+    let orders = [[0, 1, 2, 3], [0, 2, 3, 1], [0, 2, 1, 3]];
+    assert_eq!(orders.map(|order| heavy(&order, &FOUR).count), [6, 2, 1]);
+    assert_eq!(numbers(&heavy(&[0, 1, 2, 3], &FOUR)), [0, 6, 0, 0, 6, 0]);
+    assert_eq!(heaviest(64).count, 41_315_324_400);
+    assert_eq!(numbers(&heaviest(64)).iter().max(), Some(&(961 * 65_025)));
+}
+
+#[test]
+fn sifting_goes_by_weight() {
+    let four = || heavy(&[0, 1, 2, 3], &FOUR);
+    let mut ring = four();
+    assert_eq!(calls::sift(&mut ring, 0), (0, (5, 1)));
+    assert_eq!((list(&ring), ring.count), (vec![1, 2, 0, 3], 1));
+    assert_eq!(calls::round(&mut four()), (0, (5, 1, 4)));
+    assert_eq!(calls::settle(&mut four(), 9), (0, (5, 2, true, 8)));
+    assert_eq!(calls::sift(&mut complete(4), 0), (0, (0, 3)));
+    let edges = [(0, 1, 3), (0, 3, 1), (1, 2, 1), (1, 4, 3), (2, 4, 1)];
+    let mut ring = heavy(&vertices(5), &edges);
+    assert_eq!(calls::sift(&mut ring, 0), (0, (2, 1)));
+    assert_eq!(list(&ring), [1, 0, 2, 3, 4]);
+    let mut ring = layout(&vertices(5), &edges.map(|(v, w, _)| (v, w)));
+    assert_eq!(calls::sift(&mut ring, 0), (0, (1, 2)));
+    assert_eq!(list(&ring), [1, 2, 0, 3, 4]);
+}
+
+/// Its ends go by weight, its choice by numbers of edges.
+#[test]
+fn laying_with_weights() {
+    let laid = |n, edges: &[(u8, u8, u8)], start| {
+        let mut ring = heavy(&vertices(n), edges);
+        let (refusal, tally) = calls::lay(&mut ring, start);
+        assert_eq!((refusal, tally), (0, ring.count));
+        (list(&ring), tally)
+    };
+    assert_eq!(laid(4, &FOUR, 2), (vec![1, 2, 0, 3], 1));
+    let ones = FOUR.map(|(v, w, _)| (v, w, 1));
+    assert_eq!(laid(4, &ones, 2), (vec![2, 0, 1, 3], 1));
+    assert_eq!(laid(3, &[(0, 1, 1), (0, 2, 255)], 0).0, [0, 1, 2]);
+    let edges = [
+        (0, 1, 1),
+        (0, 2, 1),
+        (1, 2, 1),
+        (0, 3, 255),
+        (3, 4, 1),
+        (3, 5, 1),
+    ];
+    assert_eq!(laid(6, &edges, 0).0, [0, 1, 2, 3, 4, 5]);
+    let edges = [(0, 1, 1), (0, 2, 1), (1, 3, 1), (1, 4, 1), (2, 5, 255)];
+    assert_eq!(laid(6, &edges, 0).0, [0, 2, 5, 1, 3, 4]);
+    let mut full = heaviest(64);
+    assert_eq!(calls::lay(&mut full, 0), (0, 41_315_324_400));
+}
+
+#[test]
+fn a_link_has_its_weight_both_ways_and_an_unlink_clears_both() {
+    let before = layout(&[0, 1, 2, 3], &[(0, 2)]);
+    for weight in [1, 2, 255] {
+        let mut ring = before.clone();
+        assert_eq!(calls::link(&mut ring, 3, 1, weight), 0);
+        assert_eq!([ring.weights[1][3], ring.weights[3][1]], [weight; 2]);
+        assert_eq!((ring.count, valid(&ring)), (weight.into(), true));
+        assert_eq!(calls::unlink(&mut ring, 1, 3), 0);
+        assert_eq!(ring, before);
+    }
+    let mut ring = before.clone();
+    ring.count = u64::MAX - 100;
+    assert_eq!(calls::link(&mut ring, 3, 1, 255), 0);
+    assert_eq!(ring.count, 154);
+    assert_eq!(calls::unlink(&mut ring, 3, 1), 0);
+    assert_eq!(ring.count, u64::MAX - 100);
+}
+
+/// Every weight set one way round and both ways: valid are those that an edge
+/// has, the same both ways.
+#[test]
+fn each_weight_counts_for_validity() {
+    for v in 0..64 {
+        for w in 0..64 {
+            let is_valid = |both: bool, weight: u8| {
+                let mut ring = layout(&[0, 1, 2, 3], &FIRST);
+                ring.weights[v][w] = weight;
+                if both {
+                    ring.weights[w][v] = weight;
+                }
+                valid(&ring)
+            };
+            let edge = FIRST.contains(&(v.min(w) as u8, v.max(w) as u8));
+            for both in [false, true] {
+                assert_eq!([0, 1].map(|weight| is_valid(both, weight)), [!edge, edge]);
+                assert_eq!(is_valid(both, 2), both && edge, "{v} {w}");
+                assert_eq!(is_valid(both, 255), both && edge, "{v} {w}");
+            }
+        }
+    }
+}
+
+/// A chart of three vertices and two edges with some field 57.
+fn with_weights(weights: &[u8]) -> Vec<u8> {
+    let mut graph = rising(3, &[(2, 1), (0, 1)]);
+    graph.weights = Some(weights.to_vec());
+    Chart::of(&graph).bytes()
+}
+
+#[test]
+fn weights_of_charts() {
+    let refusal = |weights: &[u8]| read(&with_weights(weights)).0;
+    assert_eq!(refusal(&[1, 255]), 0);
+    for weights in [&[][..], &[1], &[0], &[1, 1, 1], &[0, 0, 0]] {
+        assert_eq!(refusal(weights), 24, "{weights:?}");
+    }
+    for weights in [[0, 1], [1, 0], [0, 0]] {
+        assert_eq!(refusal(&weights), 25, "{weights:?}");
+    }
+    let (_, ring) = read(&with_weights(&[7, 9]));
+    assert_eq!(weighted(&ring), [((0, 1), 9), ((1, 2), 7)]);
+    let sorted = [&with_weights(&[])[..4], &[0x4C, 0, 4, 0, 1, 1, 2]].concat();
+    let behind = [0x52, 0, 3, 0, 1, 2, 0x57, 0, 2, 9, 7];
+    assert_eq!(written(&ring), [&sorted[..], &behind].concat());
+    let without = layout(&[0, 1, 2], &[(0, 1), (1, 2)]);
+    assert_eq!(read(&with_weights(&[1, 1])), (0, without.clone()));
+    assert_eq!(written(&without), [&sorted[..], &behind[..6]].concat());
+    assert_eq!(written(&heaviest(64)).len(), 6125);
+    let mut none = rising(3, &[]);
+    none.weights = Some(vec![]);
+    assert_eq!(
+        read(&Chart::of(&none).bytes()),
+        (0, layout(&[0, 1, 2], &[]))
+    );
+    none.weights = Some(vec![1]);
+    assert_eq!(read(&Chart::of(&none).bytes()).0, 24);
+}
+
+/// Two charts of the same ring give the same bytes, however their edges are
+/// listed, and with weights of 1 or without.
+#[test]
+fn another_listing_is_written_alike() {
+    for index in 0..200 {
+        let mut rng = Rng::new(1, "alike", index);
+        let graph = random(&mut rng, index % 65);
+        let other = graph.listed_otherwise(&mut rng);
+        let [one, other] = [graph, other].map(|graph| layout_of(&graph));
+        assert_eq!((written(&one), one), (written(&other), other));
+    }
+}
+
+#[test]
+fn an_export_asks_for_weights_before_room() {
+    let mut buffer = [9; 3];
+    let mut ring = heavy(&[0, 1, 2, 3], &[(0, 2, 1), (1, 3, 2)]);
+    for length in 0..=3 {
+        assert_eq!(calls::export(&ring, &mut buffer[..length]), (26, 0));
+    }
+    ring.weights[3][1] = 1;
+    assert_eq!(calls::export(&ring, &mut buffer), (11, 0));
+    assert_eq!(buffer, [9; 3]);
+    ring.weights[1][3] = 1;
+    assert_eq!(calls::export(&ring, &mut buffer), (0, 2));
+}
+
+#[test]
+fn weights_and_wide_counts_are_played() {
+    let records = [
+        [2, 2, 0, 0],
+        [3, 1, 1, 0],
+        [17, 1, 0, 256 + 7],
+        [6, 0, 1, 256 + 9],
+        [6, 64, 0, 9],
+        [6, 0, 64, 9],
+        [24, 0, 0, 0],
+        [6, 1, 0, 9],
+        [5, u64::MAX, 0, 0],
+        [24, 0, 0, 0],
+        [18, 0, 1, 0],
+        [17, 0, 1, 256],
+        [7, 0, 0, 0],
+    ];
+    let lines = play(&records.map(records::bytes).concat());
+    let order = format!("n 2 order 0 1{}", " 0".repeat(62));
+    let most = u64::MAX;
+    let due = format!(
+        "link 0 {order} count 0 words 0 2 1 1 weights 0 1 7 1 0 7\n\
+         count 11 0 {order} count 0 words weights\n\
+         count 0 {most} {order} count {most} words weights\n\
+         unlink 0 {order} count {most} words 0 0 1 0 weights 0 1 0 1 0 0\n\
+         link 25 {order} count {most} words weights\n\
+         end\n"
+    );
+    assert_eq!(lines, due);
+}
+
+#[test]
+fn a_listing_has_the_sums() {
+    let mut graph = rising(4, &FOUR.map(|(v, w, _)| (v, w)));
+    graph.weights = Some(FOUR.map(|(.., weight)| weight).to_vec());
+    let due = "devices 4\nlinks 6\nbefore 6\nafter 1\nrounds 2\nsettled yes\norder 1 2 0 3\n";
+    assert_eq!(listing(&Chart::of(&graph).bytes()), due);
 }

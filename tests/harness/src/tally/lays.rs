@@ -66,7 +66,7 @@ mod tests {
     /// The numbers of the sorts that a lay is of.
     fn sorts(n: usize, edges: &[(u8, u8)], start: u64) -> Vec<usize> {
         let (edges, order) = (edges.to_vec(), vertices(n));
-        let chart = Chart::of(&Graph { edges, order }).bytes();
+        let chart = Chart::of(&Graph::of(edges, order)).bytes();
         let lay = records::bytes([LAY, start, 0, 0]);
         let list = [records::chart(&chart), lay].concat();
         let lines = play(&list);

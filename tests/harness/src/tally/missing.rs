@@ -3,8 +3,9 @@
 use std::collections::BTreeSet;
 use std::ops::RangeInclusive;
 
-use super::{imports, lays, sifts, writes, Counts, Quarters, Tally};
-use crate::make::ops::{Known, EXPORT, IMPORT, ORDER, PERLINK, WRITE};
+use super::{imports, lays, sifts, weights, writes, Counts, Quarters, Tally};
+use crate::make::ops::{Known, CHART_REFUSALS, EXPORT, IMPORT, ORDER, PERLINK, WRITE};
+use crate::make::spoil::SPOILS;
 use crate::make::{charts, families, lists, starts};
 
 /// The quarters of all possible edges in words.
@@ -23,7 +24,11 @@ impl Tally {
         missing.extend(absent("list", lists::kinds(known), &self.lists));
         let starts = starts::open(known).into_iter().map(|(name, ..)| name);
         missing.extend(absent("start", starts, &self.starts));
+        let spoilt = SPOILS.into_iter().map(|(name, _)| name);
+        missing.extend(absent("start", spoilt, &self.starts));
         missing.extend(absent("graph in lists", families(), &self.list_graphs));
+        let kinds = crate::make::weights::names();
+        missing.extend(absent("weights in lists", kinds, &self.list_weights));
         missing.extend(without("calls on size", 0..=64, &self.list_sizes));
         if known.has(ORDER) {
             missing.extend(without("buffer of", 0..=65, &self.buffers));
@@ -32,6 +37,7 @@ impl Tally {
         missing.extend(absent("sift", sifts::due(known), &self.sifts));
         let settles = sifts::due_of_settles(known);
         missing.extend(absent("settle", settles, &self.settles));
+        missing.extend(absent("weights", weights::due(known), &self.weights));
         missing.extend(self.missing_transfers(known));
         missing
     }
@@ -58,10 +64,13 @@ impl Tally {
     }
 
     fn missing_charts(&self) -> Vec<String> {
-        let refusals = (0..=8).filter(|number| !self.listings.contains_key(number));
+        let answers = std::iter::once(0).chain(CHART_REFUSALS);
+        let refusals = answers.filter(|number| !self.listings.contains_key(number));
         let mut missing: Vec<String> = refusals.map(|number| answer("listing", number)).collect();
         missing.extend(absent("chart", charts::ACCEPTED, &self.charts));
         missing.extend(absent("graph in charts", families(), &self.chart_graphs));
+        let kinds = crate::make::weights::names();
+        missing.extend(absent("weights in charts", kinds, &self.chart_weights));
         missing.extend(without("chart of size", 0..=64, &self.chart_sizes));
         missing.extend(empty_quarters("large chart", &self.chart_quarters));
         missing
@@ -137,21 +146,24 @@ mod tests {
     use crate::make::records;
 
     /// What there is of each: kinds of list, of which two need lay, ways to
-    /// start, of which one needs add, three chart and two import, and families of
-    /// graphs.
+    /// start, of which one needs add, three chart and two import, ways to spoil,
+    /// families of graphs, and kinds of weights.
     const LISTS: usize = 5;
     const STARTS: usize = 12;
+    const SPOILT: usize = 19;
     const GRAPHS: usize = 16;
+    const KINDS: usize = 8;
     /// Calls, and their answers; those of charts.
     const CALLS: usize = 14;
-    const ANSWERS: usize = 57;
-    const LISTINGS: usize = 9;
-    /// What is to occur of lays, of sifts, of settlings, of charts that are
-    /// written, one of which needs chart, of graph6 that are exported and
-    /// imported, one of which needs the other, and of tables that are filled.
+    const ANSWERS: usize = 61;
+    const LISTINGS: usize = 11;
+    /// What is to occur of lays, of sifts, of settlings, of weights, of charts
+    /// that are written, one of which needs chart, of graph6 that are exported
+    /// and imported, one of which needs the other, and of tables that are filled.
     const LAYS: usize = 8;
     const SIFTS: usize = 8;
     const SETTLES: usize = 2;
+    const WEIGHTS: usize = 13 + 1 + 20;
     const WRITES: usize = 9;
     const EXPORTS: usize = 5;
     const IMPORTS: usize = 34;
@@ -163,16 +175,14 @@ mod tests {
             kind: "several starts",
             starts: vec!["empty"],
             graphs: vec!["path", "path"],
+            weights: Vec::new(),
             naive: true,
         }
     }
 
     /// Four vertices, two edges that cross, and one that crosses neither.
     fn square() -> Graph {
-        Graph {
-            edges: vec![(0, 1), (0, 2), (1, 3)],
-            order: vec![0, 1, 2, 3],
-        }
+        Graph::of(vec![(0, 1), (0, 2), (1, 3)], vec![0, 1, 2, 3])
     }
 
     fn chart() -> charts::Made {
@@ -180,6 +190,7 @@ mod tests {
             bytes: Vec::new(),
             kind: "settled already",
             family: Some("path"),
+            weights: None,
             refusal: None,
             naive: false,
         }
@@ -200,26 +211,28 @@ mod tests {
 
     #[test]
     fn at_first_everything_is_missing() {
-        let of_charts = LISTINGS + 3 + GRAPHS + 65 + 4;
-        let of_lists = ANSWERS + 4 * CALLS + LISTS + STARTS + GRAPHS + 65 + 66;
+        let of_charts = LISTINGS + 3 + GRAPHS + KINDS + 65 + 4;
+        let of_graphs = SPOILT + GRAPHS + KINDS + 65;
+        let of_lists = ANSWERS + 4 * CALLS + LISTS + STARTS + of_graphs + 66;
+        let of_calls = LAYS + SIFTS + SETTLES + WEIGHTS;
         let of_transfers = WRITES + EXPORTS + IMPORTS + TABLES + 4 * 65;
-        let of_all = of_charts + of_lists + LAYS + SIFTS + SETTLES + of_transfers;
+        let of_all = of_charts + of_lists + of_calls + of_transfers;
         assert_eq!(missing(&Tally::default()).len(), of_all);
-        let few = Known::parse("add,order").expect("known names");
-        let of_few = 6 + 4 * 2 + (LISTS - 2) + (STARTS - 5) + GRAPHS + 65 + 66;
-        assert_eq!(Tally::default().missing(&few, false).len(), of_few);
-        let sifting = Known::parse("sift,settle").expect("known names");
-        let of_sifting = 6 + 4 * 2 + (LISTS - 2) + (STARTS - 6) + GRAPHS + 65 + SIFTS + SETTLES;
-        assert_eq!(Tally::default().missing(&sifting, false).len(), of_sifting);
-        let write = Known::parse("write").expect("known names");
-        let of_write = 3 + 4 + (LISTS - 2) + (STARTS - 6) + GRAPHS + 65 + (WRITES - 1) + 65;
-        assert_eq!(Tally::default().missing(&write, false).len(), of_write);
-        let export = Known::parse("export").expect("known names");
-        let of_export = 3 + 4 + (LISTS - 2) + (STARTS - 6) + GRAPHS + 65 + (EXPORTS - 1) + 65;
-        assert_eq!(Tally::default().missing(&export, false).len(), of_export);
-        let perlink = Known::parse("perlink").expect("known names");
-        let of_perlink = 3 + 4 + (LISTS - 2) + (STARTS - 6) + GRAPHS + 65 + TABLES + 65;
-        assert_eq!(Tally::default().missing(&perlink, false).len(), of_perlink);
+        let of_few = |names: &str| {
+            let known = Known::parse(names).expect("known names");
+            Tally::default().missing(&known, false).len()
+        };
+        let of_any = LISTS - 2 + of_graphs;
+        let due = 6 + 4 * 2 + of_any + (STARTS - 5) + 66 + (2 + 1);
+        assert_eq!(of_few("add,order"), due);
+        let due = 6 + 4 * 2 + of_any + (STARTS - 6) + SIFTS + SETTLES + (2 + 1 + 2);
+        assert_eq!(of_few("sift,settle"), due);
+        let due = 3 + 4 + of_any + (STARTS - 6) + (WRITES - 1) + 65 + (1 + 1 + 1);
+        assert_eq!(of_few("write"), due);
+        let due = 4 + 4 + of_any + (STARTS - 6) + (EXPORTS - 1) + 65 + (1 + 2);
+        assert_eq!(of_few("export"), due);
+        let due = 3 + 4 + of_any + (STARTS - 6) + TABLES + 65 + (1 + 1 + 1);
+        assert_eq!(of_few("perlink"), due);
     }
 
     #[test]
@@ -268,6 +281,45 @@ mod tests {
         ] {
             assert!(accepted.contains(&due.to_string()), "{due}");
         }
+    }
+
+    #[test]
+    fn kinds_of_weights_and_ways_to_spoil_are_met() {
+        let with_weights = met(|tally| {
+            let weights = Some("all 2");
+            let made = charts::Made { weights, ..chart() };
+            tally.chart(&made, "refused 24\n");
+        });
+        let due = ["listing with refusal 24", "weights in charts, all 2"];
+        assert_eq!(with_weights[2..], due);
+        let spoilt = met(|tally| {
+            let made = lists::Made {
+                starts: vec!["a weight not symmetric"],
+                weights: vec!["1 and 2", "1 and 2"],
+                ..list(&[])
+            };
+            tally.list(&made, "");
+        });
+        let due = ["start, a weight not symmetric", "weights in lists, 1 and 2"];
+        assert_eq!(spoilt[2..], due);
+    }
+
+    #[test]
+    fn weights_are_met_by_the_calls_that_have_them() {
+        let records = [[SET_N, 2, 0, 0], [SET_ORDER, 1, 1, 0], [LINK, 0, 1, 258]];
+        let line = "link 0 n 2 order 0 1 count 4294967296 words 0 2 1 1 weights 0 1 2 1 0 2\n";
+        let accepted = met(|tally| tally.list(&list(&records), line));
+        for due in [
+            "weights, a carried count of 2^32 or more",
+            "weights, a link of weight 2",
+            "weights, a link with a number over 255",
+            "weights, link with weights other than 1",
+        ] {
+            assert!(accepted.contains(&due.to_string()), "{due}");
+        }
+        let line = "link 25 n 2 order 0 1 count 4294967296 words weights\n";
+        let refused = met(|tally| tally.list(&list(&records), line));
+        assert!(!refused.iter().any(|due| due.starts_with("weights")));
     }
 
     #[test]

@@ -4,6 +4,7 @@ mod imports;
 mod lays;
 mod missing;
 mod sifts;
+mod weights;
 mod writes;
 
 use std::collections::{BTreeMap, BTreeSet};
@@ -22,8 +23,10 @@ pub const ENOUGH: usize = 100;
 
 type Counts = BTreeMap<String, usize>;
 
-/// The refusal number of a call on a layout that isn't valid.
+/// The refusal number of a call on a layout that isn't valid, and of an export
+/// of one with weights other than 1.
 const NOT_VALID: u8 = 11;
+const WEIGHTED: u8 = 26;
 
 /// How often each quarter of all possible edges occurred in large graphs.
 type Quarters = [usize; QUARTERS];
@@ -32,9 +35,11 @@ type Quarters = [usize; QUARTERS];
 pub struct Tally {
     charts: Counts,
     chart_graphs: Counts,
+    chart_weights: Counts,
     lists: Counts,
     starts: Counts,
     list_graphs: Counts,
+    list_weights: Counts,
     /// How often each call answered with each refusal number.
     answers: BTreeMap<String, BTreeMap<u8, usize>>,
     /// The same of the listings of charts.
@@ -55,6 +60,8 @@ pub struct Tally {
     /// accepted settlings.
     sifts: Counts,
     settles: Counts,
+    /// What occurred of weights and of wide numbers.
+    weights: Counts,
     /// Charts that were written, graph6 that were exported and imported, and
     /// tables that were filled.
     writes: Transfers,
@@ -89,6 +96,7 @@ impl Tally {
     pub fn chart(&mut self, made: &charts::Made, listing: &str) {
         add(&mut self.charts, made.kind);
         add_all(&mut self.chart_graphs, made.family);
+        add_all(&mut self.chart_weights, made.weights);
         self.charts_without_naive += usize::from(!made.naive);
         let numbers: Vec<usize> = listing.lines().take(2).filter_map(last_number).collect();
         match (listing.starts_with("refused"), &numbers[..]) {
@@ -108,14 +116,16 @@ impl Tally {
         self.lists_without_naive += usize::from(!made.naive);
         add_all(&mut self.starts, &made.starts);
         add_all(&mut self.list_graphs, &made.graphs);
-        let mut last: Option<Step> = None;
-        for step in steps(&made.bytes, lines) {
-            self.line(&step);
-            if let Some(last) = &last {
-                self.pair(last, &step);
-            }
-            last = Some(step);
+        add_all(&mut self.list_weights, &made.weights);
+        let steps: Vec<Step> = steps(&made.bytes, lines).collect();
+        for step in &steps {
+            self.line(step);
         }
+        for pair in steps.windows(2) {
+            self.pair(&pair[0], &pair[1]);
+        }
+        let alike = steps.windows(4).filter(|four| weights::is_alike(four));
+        add_all(&mut self.weights, alike.map(|_| weights::ALIKE));
     }
 
     /// Takes in what an answer line is to the one before it.
@@ -126,6 +136,9 @@ impl Tally {
                 _ => &mut self.writes,
             };
             add(&mut transfers.met, writes::READ_BACK);
+            if step.is_weighted() {
+                add(&mut self.weights, weights::READ_BACK);
+            }
         }
         if exported_again(last, step).is_some() {
             add(&mut self.imports.met, imports::EXPORTED);
@@ -145,6 +158,7 @@ impl Tally {
         if refusal != NOT_VALID {
             self.list_sizes.insert(step.n());
         }
+        add_all(&mut self.weights, weights::met(step, name, refusal));
         if refusal == 0 {
             let quarters = self.call_quarters.entry(name.to_string()).or_default();
             add_quarter(quarters, step.n(), step.m());
@@ -189,12 +203,15 @@ impl Tally {
         for (title, counts) in [
             ("chart", &self.charts),
             ("graph in charts", &self.chart_graphs),
+            ("weights in charts", &self.chart_weights),
             ("list", &self.lists),
             ("start", &self.starts),
             ("graph in lists", &self.list_graphs),
+            ("weights in lists", &self.list_weights),
             ("lay", &self.lays),
             ("sift", &self.sifts),
             ("settle", &self.settles),
+            ("weights", &self.weights),
             ("write", &self.writes.met),
             ("export", &self.exports.met),
             ("import", &self.imports.met),

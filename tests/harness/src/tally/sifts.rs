@@ -92,7 +92,7 @@ mod tests {
     /// whether the second one sifts again behind a move.
     fn sorts(n: usize, edges: &[Edge], calls: [[u64; 4]; 2]) -> (Vec<Option<&'static str>>, bool) {
         let (edges, order) = (edges.to_vec(), vertices(n));
-        let chart = records::chart(&Chart::of(&Graph { edges, order }).bytes());
+        let chart = records::chart(&Chart::of(&Graph::of(edges, order)).bytes());
         let list = [chart, calls.map(records::bytes).concat()].concat();
         let lines = play(&list);
         let steps: Vec<Step> = steps(&list, &lines).skip(1).collect();

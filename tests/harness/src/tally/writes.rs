@@ -1,7 +1,7 @@
 //! What occurs of charts and graph6 that are written, and of tables that are
 //! filled.
 
-use super::NOT_VALID;
+use super::{NOT_VALID, WEIGHTED};
 use crate::counted::true_count;
 use crate::followed::{lent, Step};
 use crate::make::ops::{Known, PERLINK, WRITE, WRITERS};
@@ -57,8 +57,9 @@ pub fn due(known: &Known, op: u64) -> Vec<String> {
 pub fn met(step: &Step, op: u64, refusal: u8) -> Vec<String> {
     let mut met = Vec::new();
     let (m, lent) = (step.m(), lent(step.line));
-    if refusal != NOT_VALID {
-        let room = lent.len() as i64 - filled_length(op, step.n(), m) as i64;
+    if ![NOT_VALID, WEIGHTED].contains(&refusal) {
+        let due = filled_length(op, step.n(), m, step.is_weighted());
+        let room = lent.len() as i64 - due as i64;
         let named = rooms(op).into_iter().filter(|(known, _)| *known == room);
         met.extend(named.map(|(_, name)| name));
     }

@@ -4,11 +4,21 @@
 use std::fmt::Debug;
 
 use second::calls::Answer;
-pub use second::crossings::counted as layout;
-use second::layout::Layout;
+pub use second::crossings::counted as weighted;
+use second::layout::{Layout, WeightedEdge};
 
 /// The edges of the first ring worked by hand in document 01.
 pub const FIRST: [(u8, u8); 2] = [(0, 2), (1, 3)];
+
+/// A layout whose edges all have the weight 1, and that carries its crossings.
+pub fn layout(order: &[u8], edges: &[(u8, u8)]) -> Layout {
+    weighted(order, &of_weight(1, edges))
+}
+
+/// Edges that all have one weight.
+pub fn of_weight(weight: u8, edges: &[(u8, u8)]) -> Vec<WeightedEdge> {
+    edges.iter().map(|&(a, b)| (a, b, weight)).collect()
+}
 
 /// The first ring: edges 0-2 and 1-3, order 0 1 2 3.
 pub fn first_ring() -> Layout {
@@ -29,6 +39,11 @@ pub fn all_edges(n: u8) -> Vec<(u8, u8)> {
 /// n vertices in rising order with all edges.
 pub fn complete(n: u8) -> Layout {
     layout(&rising(n), &all_edges(n))
+}
+
+/// The same, each of the largest weight.
+pub fn heaviest(n: u8) -> Layout {
+    weighted(&rising(n), &of_weight(255, &all_edges(n)))
 }
 
 /// The order without its unused places.
@@ -52,6 +67,24 @@ pub fn many_layouts() -> impl Iterator<Item = Layout> {
     small.chain((0..200).map(|seed| Random(seed).layout()))
 }
 
+/// The same graphs with weights.
+pub fn many_weighted_layouts() -> impl Iterator<Item = Layout> {
+    let small = all_graphs(5).map(|edges| weighted(&[3, 1, 4, 0, 2], &by_pair(&edges)));
+    small.chain((0..200).map(|seed| Random(seed).weighted_layout()))
+}
+
+/// Edges of five vertices, each with a weight of its own.
+pub fn by_pair(edges: &[(u8, u8)]) -> Vec<WeightedEdge> {
+    const WEIGHTS: [u8; 10] = [3, 1, 255, 2, 7, 1, 20, 254, 5, 2];
+    let pairs = all_edges(5);
+    let place = |edge| pairs.iter().position(|pair| pair == edge);
+    let place = |edge| place(edge).expect("an edge of five vertices");
+    let weighed = edges
+        .iter()
+        .map(|edge| (edge.0, edge.1, WEIGHTS[place(edge)]));
+    weighed.collect()
+}
+
 /// Numbers from a seed (splitmix64).
 pub struct Random(pub u64);
 
@@ -64,15 +97,34 @@ impl Random {
         ((z ^ (z >> 31)) % bound as u64) as usize
     }
 
-    /// A layout of 1 to 64 vertices with any number of edges.
+    /// A layout of 1 to 64 vertices with any number of edges of weight 1.
     pub fn layout(&mut self) -> Layout {
+        let (order, edges) = self.graph();
+        layout(&order, &edges)
+    }
+
+    /// The same with weights of 1, 2, 255 and any.
+    pub fn weighted_layout(&mut self) -> Layout {
+        let (order, edges) = self.graph();
+        let weighed = edges.into_iter().map(|(a, b)| (a, b, self.weight()));
+        let weighed: Vec<WeightedEdge> = weighed.collect();
+        weighted(&order, &weighed)
+    }
+
+    pub fn weight(&mut self) -> u8 {
+        let any = 1 + self.below(255) as u8;
+        [1, 2, 255, any][self.below(4)]
+    }
+
+    fn graph(&mut self) -> (Vec<u8>, Vec<(u8, u8)>) {
         let n = 1 + self.below(64) as u8;
         let mut edges = all_edges(n);
         self.shuffle(&mut edges);
         let m = self.below(edges.len() + 1);
+        edges.truncate(m);
         let mut order = rising(n);
         self.shuffle(&mut order);
-        layout(&order, &edges[..m])
+        (order, edges)
     }
 
     fn shuffle<T>(&mut self, items: &mut [T]) {
@@ -93,6 +145,11 @@ pub fn chart(size: &[u8], edges: &[u8], order: &[u8]) -> Vec<u8> {
     [field(0x44, size), field(0x4C, edges), field(0x52, order)].concat()
 }
 
+/// A chart of four fields, each body as given.
+pub fn weighted_chart(size: &[u8], edges: &[u8], order: &[u8], weights: &[u8]) -> Vec<u8> {
+    [chart(size, edges, order), field(0x57, weights)].concat()
+}
+
 /// The body of a field of edges.
 pub fn edge_bytes(edges: &[(u8, u8)]) -> Vec<u8> {
     edges.iter().flat_map(|&(a, b)| [a, b]).collect()
@@ -102,7 +159,7 @@ pub fn edge_bytes(edges: &[(u8, u8)]) -> Vec<u8> {
 pub trait Entry: Copy + Debug + PartialEq + From<u8> {}
 
 impl Entry for u8 {}
-impl Entry for u32 {}
+impl Entry for u64 {}
 
 /// A call that writes of a layout into what is lent and answers a length.
 pub type Write<E> = fn(Layout, &mut [E]) -> Answer<usize>;

@@ -12,17 +12,23 @@ returns : tie.Need-returns
 unfolding putOf
 returns c =
     let put = c .before .before in
-    let s = put .before .before .before .args in
-    rw (lt-ltb (s .ends .front) (s .ends .back) (omega (arith, put .before .if1 .taken)))
-    (ap (λ (l : Line). record { line = l; placed = s .placed; tally = s .s .tally + s .ends .front }) (put .put-front .ensures))
+    let start = put .before .before .before in
+    let s = start .args in (
+      rw (lt-ltb (s .ends .front) (s .ends .back) (omega (arith, put .before .if1 .taken)))
+          (ap (λ (l : Line). record { line = l; placed = s .placed; tally = s .s .tally + s .ends .front }) (put .put-front .ensures)),
+      omega (arith, start .pre .1 .front),
+    )
 
 returns-2 : tie.Need-returns-2
 unfolding putOf
 returns-2 c =
     let put = c .before .before in
-    let s = put .before .before .before .args in
-    rw (le-ltb (s .ends .front) (s .ends .back) (omega (arith, put .before .if1 .left)))
-    (ap (λ (l : Line). record { line = l; placed = s .placed; tally = s .s .tally + s .ends .back }) (put .put-back .ensures))
+    let start = put .before .before .before in
+    let s = start .args in (
+      rw (le-ltb (s .ends .front) (s .ends .back) (omega (arith, put .before .if1 .left)))
+          (ap (λ (l : Line). record { line = l; placed = s .placed; tally = s .s .tally + s .ends .back }) (put .put-back .ensures)),
+      omega (arith, start .pre .1 .back),
+    )
 
 pub put-spec : {M : Type 1} → statement M
 put-spec =

@@ -9,7 +9,7 @@ returns c = call-beyond _ _ (c .if1 .taken)
 
 returns-2 : tie.Need-returns-2
 returns-2 c =
-    let inside = c .before .before .before .before in
+    let inside = c .before .before .before .before .before in
     c .call-of .ensures ∙ call-numbers _ _ (inside .if1 .left)
 
 pub call-at-spec : {M : Type 1} → statement M
@@ -17,6 +17,9 @@ call-at-spec =
     tie.close
     (tie.spec
     returns
+    (λ c. search needs)
+    (λ c. search needs)
+    (λ c. search needs)
     (λ c. search needs)
     (λ c. search needs)
     (λ c. search needs)

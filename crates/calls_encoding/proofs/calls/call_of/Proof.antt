@@ -1,3 +1,4 @@
+use borrow.Author.Needs.{needs}
 use borrow.Author.Tests.{ne-eqb}
 use Rattle.model.specs.Playing.{callOf}
 use Rattle.calls_encoding.proofs.calls.call_of.Statement.{statement}
@@ -55,6 +56,7 @@ pub call-of-spec : {M : Type 1} → statement M
 call-of-spec =
     tie.close
     (tie.spec
+    (λ c. search needs)
     returns
     returns-2
     returns-3

@@ -7,7 +7,7 @@ use Rattle.calls_step.proofs.outcomes.of_converged.Tie as tie
 
 returns : tie.Need-returns
 returns c =
-    let told = c .before .before .before in
+    let told = c .before .before in
     let a = told .before .before .args .a in
     ap (λ (k : ℕ). outcome (a .refusal) (a .layout) (a .reduction) (a .rounds) k (a .optima)) (told .number .ensures)
 
@@ -16,7 +16,6 @@ of-converged-spec =
     tie.close
     (tie.spec
     (λ c κs. search needs)
-    (λ c. search needs)
     (λ c. search needs)
     (λ c. search needs)
     returns)

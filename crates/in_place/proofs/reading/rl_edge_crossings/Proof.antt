@@ -1,6 +1,6 @@
 -- `rl_edge_crossings` meets its contract: it is `LookedSlice`'s function, over `edge_crossings::edge_crossings`.
 use mathlib.Core.Path.{refl}
-use mir.Syntax.{w32}
+use mir.Syntax.{w64}
 use Rattle.model.specs.EdgeCrossings.{edgeCrossingsOf, crossingTable}
 use Rattle.model.proofs.EdgesCounted as EdgesCounted
 use Rattle.edge_crossings.proofs.edge_crossings as g
@@ -12,5 +12,5 @@ pub rl-edge-crossings-spec : {M : Type 1} → f.Statement.statement M
 unfolding f.Code.routine
 rl-edge-crossings-spec 𝓤 H 𝓜 𝓖 𝓡 =
     calling 𝓤 H 𝓜 𝓖 𝓡 f.Code.env f.Key.name
-    (walks w32 (struct EdgesCounted.the-type EdgesCounted.Laws.the-laws) edgeCrossingsOf crossingTable g.Symbol.name 𝓤 H (𝓖 .A))
+    (walks w64 (struct EdgesCounted.the-type EdgesCounted.Laws.the-laws) edgeCrossingsOf crossingTable g.Symbol.name 𝓤 H (𝓖 .A))
     (f.spec 𝓤 H) refl (f.Code.unfolded 𝓤 H 𝓜 𝓡) (g.spec 𝓤 H) refl f.Code.calls-edge-crossings·edge-crossings (g.Met.met 𝓤 H 𝓜 𝓖 𝓡)

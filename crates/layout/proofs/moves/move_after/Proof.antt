@@ -15,23 +15,26 @@ use Rattle.layout.proofs.moves.move_after.Statement.{statement}
 use Rattle.layout.proofs.moves.move_after.Tie as tie
 
 -- from where the layout is taken apart: the call's arguments, and the checks that have passed
-abbrev start : tie.After-adjacency → tie.Start
-start c = c .before .before .before .before
+abbrev taken-apart : tie.After-weights → tie.Else1
+taken-apart c = c .before .before .before
 
-accepted : (c : tie.After-adjacency) → let s = start c .args in refusal (moveChecks (s .l) (s .a) (s .b)) ≡ 0
-accepted c = let passed = c .before .before in sym (passed .before .pair-refusal .ensures) ∙ passed .if1 .left
+abbrev start : tie.After-weights → tie.Start
+start c = taken-apart c .before .before
 
-pair : (c : tie.After-adjacency) → let s = start c .args in Pair (s .l) (s .a) (s .b)
+accepted : (c : tie.After-weights) → let s = start c .args in refusal (moveChecks (s .l) (s .a) (s .b)) ≡ 0
+accepted c = let passed = taken-apart c in sym (passed .before .pair-refusal .ensures) ∙ passed .if1 .left
+
+pair : (c : tie.After-weights) → let s = start c .args in Pair (s .l) (s .a) (s .b)
 pair c = let s = start c .args in pair-passed (s .l) (s .a) (s .b) (accepted c)
 
 -- so the vertices are places of the array, and those are lent
-size : (c : tie.After-adjacency) → length (start c .args .l .order) ≡ 64
+size : (c : tie.After-weights) → length (start c .args .l .order) ≡ 64
 size c = search needs
 
-inside : (c : tie.After-adjacency) → let l = start c .args .l in l .n ≤ length (l .order)
+inside : (c : tie.After-weights) → let l = start c .args .l in l .n ≤ length (l .order)
 inside c = omega (arith, size c, sound (start c .args .l) (pair c .is-valid) .small)
 
-lent : (c : tie.After-adjacency) → let l = start c .args .l in l .n ≡ length (take (l .n) (l .order))
+lent : (c : tie.After-weights) → let l = start c .args .l in l .n ≡ length (take (l .n) (l .order))
 lent c = let l = start c .args .l in sym (length-take-le (l .n) (l .order) (inside c))
 
 returns : tie.Need-returns

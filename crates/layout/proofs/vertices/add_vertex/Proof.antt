@@ -23,7 +23,7 @@ returns-2 c =
 returns-3 : tie.Need-returns-3
 unfolding addOf addChecks checked byRefusal refusal isValid hasRoom
 returns-3 c =
-    let placed = c .before in
+    let placed = c .before .before in
     let room = placed .before .before in
     let tested = room .before in
     let l = tested .before .before .args .l in

@@ -19,7 +19,7 @@ abbrev numbers : tie.After-put-settled → tie.After-put-numbers
 numbers c = c .before .before .before .before
 
 abbrev edges : tie.After-put-numbers → tie.After-edge-count
-edges c = c .before .before .before
+edges c = c .before .before .before .before
 
 abbrev settled : tie.After-edge-count → tie.After-converge
 settled c = c .before .before .before
@@ -35,9 +35,6 @@ inside : (c : tie.After-converge) → start c .args .l .n ≤ length (c .converg
 inside c =
     let size : length (c .converge .result .layout .order) ≡ 64 = search needs in
     omega (arith, few (start c))
-
-cast-t11 : tie.Need-cast-t11
-cast-t11 c = omega (arith, few (start (c .before)))
 
 array-share-prefix-order : tie.Need-array-share-prefix-order
 array-share-prefix-order c = inside (settled (edges (numbers (state c))))
@@ -67,8 +64,9 @@ list-layout-spec =
     tie.close
     (tie.spec
     (λ c κs. search needs)
-    cast-t11
     (λ c κs. search needs)
+    (λ c. search needs)
+    (λ c. search needs)
     (λ c κs. search needs)
     (λ c κs. search needs)
     array-share-prefix-order

@@ -8,7 +8,7 @@ returns : tie.Need-returns
 returns c = counted _ _ (c .end .ensures) (c .end .kept .1 .0 ∙ search needs)
 
 returns-2 : tie.Need-returns-2
-returns-2 c = counted _ _ (c .play-op .ensures) (c .play-op .kept .1 .1 .1 .1 .0 ∙ search needs)
+returns-2 c = counted _ _ (c .play-op .ensures) (c .play-op .kept .1 .1 .1 .1 .1 .0 ∙ search needs)
 
 pub play-spec : {M : Type 1} → statement M
 play-spec =
@@ -16,6 +16,7 @@ play-spec =
     (tie.spec
     (λ c κs. search needs)
     returns
+    (λ c κs. search needs)
     (λ c κs. search needs)
     (λ c κs. search needs)
     (λ c κs. search needs)

@@ -19,8 +19,8 @@ returns c =
     (when-refused (settleChecks (s .l) (s .limit)) (roundsUpTo (s .limit) (s .l)) (settleRefused (s .l))
     (c .before .limit-refusal .ensures) (c .if1 .taken))
 
-run-rounds-requires : tie.Need-run-rounds-requires
-run-rounds-requires c κs =
+settle-requires : tie.Need-settle-requires
+settle-requires c κs =
     let passed = limit-passed _ _ (accepted c) in
     (passed .0, passed .2)
 
@@ -28,8 +28,8 @@ returns-2 : tie.Need-returns-2
 unfolding settleOf
 returns-2 c =
     let s = c .before .before .before .args in
-    c .run-rounds .ensures
+    c .settle .ensures
     ∙ sym (when-accepted (settleChecks (s .l) (s .limit)) (roundsUpTo (s .limit) (s .l)) (settleRefused (s .l)) (accepted (c .before)))
 
 pub converge-spec : {M : Type 1} → statement M
-converge-spec = tie.close (tie.spec (λ c κs. search needs) returns run-rounds-requires returns-2)
+converge-spec = tie.close (tie.spec (λ c κs. search needs) returns settle-requires returns-2)

@@ -1,64 +1,66 @@
-use Prim.Native.Nat.{_-_}
+use Prim.Native.Nat.{_-_, _<_}
 use native.Mathlib.Omega.{arith}
-use mathlib.Core.Path.{_≡_, _∙_}
-use Rattle.model.specs.Layouts.{crossingsOf}
-use Rattle.laws.specs.Layouts.Recount.{counted-valid}
-use Rattle.sifting.specs.Loops.{SettlingUpTo, settling-start, settling-next, settling-still, settling-limit, settling-bounds}
+use Rattle.sifting.specs.Settling.{SettlingUpTo, settling-start, settling-next, settling-less, settling-still, settling-limit, settling-bounds}
 use Rattle.sifting.proofs.convergence.run_rounds.Statement.{statement}
 use Rattle.sifting.proofs.convergence.run_rounds.Tie as tie
 
 abbrev Inv-loop : tie.InvT-loop
-Inv-loop limit before state₀ reduction₀ rounds₀ optima₀ state reduction rounds optima = SettlingUpTo state₀ limit state reduction rounds optima
+Inv-loop n weights rows limit state₀ state = SettlingUpTo n (state₀ .order) weights limit state
 
 abbrev μ-loop : tie.MeasureT-loop
-μ-loop limit before state₀ reduction₀ rounds₀ optima₀ state reduction rounds optima = limit - rounds
+μ-loop n weights rows limit state₀ state = limit - state .rounds
+
+-- the moments: a round was run, a turn's test, the turn, and the start
+abbrev round : tie.After-run-next Inv-loop μ-loop → tie.After-sift-all Inv-loop μ-loop
+round c = c .before
+
+abbrev test : tie.After-sift-all Inv-loop μ-loop → tie.Then1 Inv-loop μ-loop
+test c = c .before .before
+
+abbrev turn : tie.Then1 Inv-loop μ-loop → tie.At-loop Inv-loop μ-loop
+turn c = c .before .before
+
+abbrev start : tie.At-loop Inv-loop μ-loop → tie.Start Inv-loop μ-loop
+start c = c .before
+
+-- rounds are left
+more : (c : tie.Then1 Inv-loop μ-loop) → turn c .loop .state .rounds < start (turn c) .args .limit
+more c = omega (arith, c .if1 .taken)
 
 loop-holds : tie.Need-loop-holds Inv-loop μ-loop
-loop-holds c =
-    let start = c .before in
-    settling-start (start .args .l) (start .args .limit) (start .pre .0)
-
--- what is counted before the first round
-crossings-before : (c : tie.After-crossings-of Inv-loop μ-loop) → c .crossings-of .result ≡ crossingsOf (c .before .args .l)
-crossings-before c = c .crossings-of .ensures ∙ counted-valid _ (c .before .pre .0)
-
-sub-crossings : tie.Need-sub-crossings Inv-loop μ-loop
-sub-crossings c =
-    let turn = c .before in
-    omega (arith, turn .loop .inv .exact, crossings-before (turn .before))
+loop-holds c = settling-start _ (c .pre .0)
 
 sift-all-requires : tie.Need-sift-all-requires Inv-loop μ-loop
-sift-all-requires c κs =
-    let turn = c .before in
-    (turn .loop .inv .is-valid, omega (arith, turn .loop .inv .exact, crossings-before (turn .before)))
+sift-all-requires c κs = let now = turn (c .before) in (now .loop .inv .drawn, start now .pre .1)
 
-add-reduction : tie.Need-add-reduction Inv-loop μ-loop
-add-reduction c =
-    let round = c .before .before in
-    let turn = round .before .before in
-    omega (arith, settling-bounds (turn .loop .inv) (round .before .loop-test .taken) (turn .before .before .pre .0) (round .sift-all .ensures) .0)
-
-add-optima : tie.Need-add-optima Inv-loop μ-loop
-add-optima c =
-    let round = c .before .before in
-    let turn = round .before .before in
-    let start = turn .before .before .pre in
-    omega (arith, settling-bounds (turn .loop .inv) (round .before .loop-test .taken) (start .0) (round .sift-all .ensures) .1, start .1)
+run-next-requires : tie.Need-run-next-requires Inv-loop μ-loop
+run-next-requires c κs =
+    let tested = test c in
+    let now = turn tested in
+    let asked = start now .pre in
+    let bounds = settling-bounds (now .loop .inv) (more tested) (c .sift-all .ensures) (asked .0) in
+    (omega (arith, bounds .0), omega (arith, more tested, asked .2), omega (arith, bounds .1, asked .2))
 
 returns : tie.Need-returns Inv-loop μ-loop
 returns c =
-    let summed = c .before .before in
-    let round = summed .before .before in
-    settling-still (round .before .before .loop .inv) (round .before .loop-test .taken) (round .sift-all .ensures) (c .if1 .taken)
+    let swept = round (c .before) in
+    let tested = test swept in
+    settling-still (turn tested .loop .inv) (more tested) (swept .sift-all .ensures) (c .before .run-next .ensures) (c .if2 .taken)
+
+loop-less : tie.Need-loop-less Inv-loop μ-loop
+loop-less c =
+    let swept = round (c .before) in
+    let tested = test swept in
+    settling-less (turn tested .loop .inv) (more tested) (swept .sift-all .ensures) (c .before .run-next .ensures)
 
 loop-again : tie.Need-loop-again Inv-loop μ-loop
 loop-again c =
-    let summed = c .before .before in
-    let round = summed .before .before in
-    settling-next (round .before .before .loop .inv) (round .before .loop-test .taken) (round .sift-all .ensures) (c .if1 .left)
+    let swept = round (c .before) in
+    let tested = test swept in
+    settling-next (turn tested .loop .inv) (more tested) (swept .sift-all .ensures) (c .before .run-next .ensures) (c .if2 .left)
 
 returns-2 : tie.Need-returns-2 Inv-loop μ-loop
-returns-2 c = settling-limit (c .before .loop .inv) (c .loop-test .left)
+returns-2 c = settling-limit (c .before .before .loop .inv) (omega (arith, c .if1 .left))
 
 pub run-rounds-spec : {M : Type 1} → statement M
 run-rounds-spec =
@@ -66,14 +68,10 @@ run-rounds-spec =
     (tie.spec
     Inv-loop
     μ-loop
-    (λ c κs. tt)
     loop-holds
-    sub-crossings
     sift-all-requires
-    add-reduction
-    add-optima
-    (λ c. omega arith)
+    run-next-requires
     returns
-    (λ c. omega arith)
+    loop-less
     loop-again
     returns-2)

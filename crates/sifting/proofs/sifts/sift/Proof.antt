@@ -4,7 +4,6 @@ use Prim.Native.Nat.{_<_}
 use lib.Dec.{T}
 use Rattle.model.specs.Layouts.{valid}
 use Rattle.model.specs.Sifting.{siftChecks, siftAnswer, siftRefused, siftOf}
-use Rattle.laws.specs.Layouts.Recount.{counted-valid}
 use Rattle.laws.specs.Layouts.Refusals.{when-refused, vertex-passed}
 use Rattle.laws.specs.Sifting.Calls.{sift-accepted}
 use Rattle.sifting.proofs.sifts.sift.Statement.{statement}
@@ -23,16 +22,11 @@ returns c =
     let u = c .before .before .args .u in
     sym (when-refused (siftChecks l u) (siftAnswer l u) (siftRefused l) (c .before .vertex-refusal .ensures) (c .if1 .taken))
 
-sift-vertex-requires : tie.Need-sift-vertex-requires
-sift-vertex-requires c κs =
-    let passed = checks (c .before) in
-    (passed .0, passed .1, c .crossings-of .ensures ∙ counted-valid _ (passed .0))
-
 returns-2 : tie.Need-returns-2
 returns-2 c =
-    let accepted = c .before .before in
+    let accepted = c .before in
     let s = accepted .before .before .args in
     c .sift-vertex .ensures ∙ sym (sift-accepted (s .l) (s .u) (checks accepted .0) (checks accepted .1))
 
 pub sift-spec : {M : Type 1} → statement M
-sift-spec = tie.close (tie.spec (λ c κs. search needs) returns (λ c κs. tt) sift-vertex-requires returns-2)
+sift-spec = tie.close (tie.spec (λ c κs. search needs) returns (λ c κs. checks c) returns-2)

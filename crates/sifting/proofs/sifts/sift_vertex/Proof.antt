@@ -1,55 +1,35 @@
 use borrow.Author.Needs.{needs}
-use Prim.Native.Nat.{_-_, _≤_, _<_}
-use native.Mathlib.Omega.{arith}
-use mathlib.Core.Path.{_≡_, sym, _∙_}
-use Rattle.model.specs.Layouts.{vertexOrder, weight, crossingsOf, modulus}
-use Rattle.model.specs.Sifting.{sifted, reduction}
-use Rattle.laws.specs.Layouts.Recount.{drawn}
-use Rattle.laws.specs.Sifting.Candidates.{sifted-optima}
-use Rattle.sift_walk.specs.Finding.{Found}
-use Rattle.sifting.specs.Loops.{sifted-carried, sifted-saves, sift-answered}
+use Prim.Native.Nat.{_<_}
+use mathlib.Core.Path.{_≡_}
+use lib.ListN.{length}
+use Rattle.model.specs.Layouts.{modulus}
+use Rattle.sifting.specs.Arrays.{walker}
+use Rattle.sifting.specs.Layouts.{layout-drawn, sift-answered}
 use Rattle.sifting.proofs.sifts.sift_vertex.Statement.{statement}
 use Rattle.sifting.proofs.sifts.sift_vertex.Tie as tie
 
-abbrev start : tie.After-best-order → tie.Start
+-- the moments: the rows were summed, and the start
+abbrev summed : tie.After-rows → tie.After-row-weights
+summed c = c .before .before .before
+
+abbrev start : tie.After-row-weights → tie.Start
 start c = c .before .before .before .before
 
--- the count has 32 bits
-fits : (s : tie.Start) → s .args .l .count < modulus
-fits s = search needs
+-- the count has 64 bits, the array 64 places
+fits : (c : tie.Start) → c .args .t1 .count < modulus
+fits c = search needs
 
--- what the walk finds
-found : (c : tie.After-best-order) → let s = start c .args in Found (s .l .n) (s .l .order) (s .l .adjacency) (s .u) (c .best-order .result)
-unfolding crossingsOf vertexOrder weight
-found c =
-    let s = start c in
-    c .best-order .ensures (record { size = search needs; drawn = drawn (s .args .l) (s .pre .0); vertex = s .pre .1 }) (s .pre .2)
-
--- and what it saves
-saves : (c : tie.After-best-order)
-    → let s = start c .args in
-    let after = c .best-order .result .after in
-    (after ≤ s .before) × (s .before - after ≡ reduction (s .l) (sifted (s .l) (s .u)))
-unfolding vertexOrder weight
-saves c =
-    let s = start c .args in
-    let ready = start c .pre in
-    sifted-saves (s .l) (ready .0) (s .u) (ready .1) (ready .2) (found c .after)
-
-sub-reduction : tie.Need-sub-reduction
-sub-reduction c = omega (arith, saves (c .before) .0)
+size : (c : tie.Start) → length (c .args .t1 .order) ≡ 64
+size c = search needs
 
 returns : tie.Need-returns
-unfolding crossingsOf vertexOrder weight
 returns c =
     let walked = c .before .before in
-    let s = start walked .args in
-    let ready = start walked .pre in
-    let best = found walked in
-    sift-answered (s .l) (s .u)
-    (sifted-carried (s .l) (ready .0) (s .u) (ready .1) (ready .2) (best .after) (fits (start walked)) (best .order) (c .carried .ensures))
-    (saves walked .1)
-    (best .optima-are ∙ sym (sifted-optima (s .l) (ready .0) (s .u) (ready .1)))
+    let rows = summed (walked .before) in
+    let s = start rows in
+    let drawn = layout-drawn (s .args .t1) (s .pre .0) (size s) in
+    let found = walked .best-order .ensures (walker drawn (s .pre .1)) (rows .row-weights .ensures) in
+    sift-answered (s .args .t1) (s .pre .0) (fits s) (size s) (s .pre .1) found (c .relaid .ensures)
 
 pub sift-vertex-spec : {M : Type 1} → statement M
-sift-vertex-spec = tie.close (tie.spec (λ c κs. search needs) sub-reduction (λ c κs. search needs) returns)
+sift-vertex-spec = tie.close (tie.spec (λ c κs. search needs) (λ c κs. search needs) (λ c κs. search needs) returns)

@@ -1,2 +1,0 @@
--- Ranks: the ranks of vertices, in six words.
-pub mod Ranks

@@ -1,0 +1,2 @@
+-- Units: the table in which every edge weighs 1.
+pub mod Units

@@ -1,2 +1,0 @@
--- Chords: what the loops over the chords have numbered so far.
-pub mod Chords

@@ -1,2 +1,0 @@
--- The loops of the counter.
-pub mod Loops
