@@ -40,13 +40,13 @@ fn even(n: usize, weights: &[u8; 4096]) -> bool
     true
 }
 
-// The same of u with each vertex up to u itself. No branch on what is read: half the time of an early
-// return.
+// The same of u with each vertex up to u itself. No branch on what is read, and 32 bits for what was
+// found: half the time of an early return, three quarters of that with 8.
 fn even_row(weights: &[u8; 4096], u: usize) -> bool
     requires { ⌜ u < 64 ⌝ }
     ensures { λ r. ⌜ r ≡ evenRow (now (weights .entry)) u ⌝ }
 {
-    let mut differences: u8 = 0;
+    let mut differences: u32 = 0;
     let mut v = 0;
     while v <= u {
         differences = joined(differences, weights[64 * u + v], weights[64 * v + u]);
@@ -56,10 +56,10 @@ fn even_row(weights: &[u8; 4096], u: usize) -> bool
 }
 
 // 0 where there was no difference so far, and a and b do not differ. That they are bytes is told along.
-fn joined(differences: u8, a: u8, b: u8) -> u8
+fn joined(differences: u32, a: u8, b: u8) -> u32
     ensures { λ r. ⌜ eqb r 0 ≡ (eqb differences 0 && (eqb a b && leb a 255)) ⌝ }
 {
-    differences | (a ^ b)
+    differences | ((a as u32) ^ (b as u32))
 }
 
 // Is a weight 0 exactly where the word of its second vertex has no bit for the first?
@@ -114,7 +114,7 @@ fn bits_fit(adjacency: &[u64; 64], bits: &[u8; 64], k: usize) -> bool
     requires { ⌜ k < 8 ⌝ }
     ensures { λ r. ⌜ r ≡ bitsFit (now (adjacency .entry)) (now (bits .entry)) k ⌝ }
 {
-    let mut differences: u8 = 0;
+    let mut differences: u32 = 0;
     let mut v = 0;
     while v < 64 {
         differences = joined(differences, byte_of(adjacency[v], k), bits[v]);
