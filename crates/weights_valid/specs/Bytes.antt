@@ -1,62 +1,57 @@
 -- Weights that are 0 exactly where there is no edge, asked of the words a byte at a time.
-use Prim.Native.Nat.{ℕ, zero, suc, _+_, _*_, _-_, _/_, _%_, _^_, _≤_, _<_, min}
-use native.Mathlib.Nat.{not-suc-le-zero, add-zero, pow-suc, mul-one, mul-zero, zero-div, min-eq-left}
-use native.Mathlib.Decide.{decLt}
+use Prim.Native.Nat.{ℕ, zero, suc, _+_, _*_, _-_, _/_, _%_, _^_, _≤_, _<_}
+use native.Mathlib.Nat.{not-suc-le-zero, add-zero, pow-suc, mul-one}
 use native.Mathlib.Omega.{arith}
 use mathlib.Core.Path.{_≡_, refl, sym, ap, _∙_, subst}
-use mathlib.Core.Bool.{Bool, true, false, Bool·beq, cond, _&&_}
+use mathlib.Core.Bool.{Bool, true, false, Bool·beq, _&&_}
 use mathlib.Core.List.{List}
 use lib.Arith.{digits-div, digits-mod}
-use lib.Pow.{pow-mono, ones-lt, shr-shr}
-use lib.Bits.{bitAnd, and-mask}
+use lib.Pow.{pow-mono, shr-shr}
+use lib.Bits.{and-mask}
 use lib.ListN.{length, getD, set, replicate, length-set, length-replicate, getD-replicate}
 use lib.Seq.{getD-set-same, getD-set-other}
 use borrow.Author.Count.{below-more}
-use lib.Dec.{T, eqb, ltb}
-use borrow.Author.Tests.{lt-ltb, le-ltb, eq-eqb, eqb-true}
+use lib.Dec.{T, eqb, leb, ltb}
+use borrow.Author.Tests.{eq-eqb, eqb-true, le-leb}
 use Rattle.model.specs.Lists.{one, upto, every}
 use Rattle.model.specs.Crossings.{bit, linked}
 use Rattle.model.specs.Layouts.{tableWeight}
-use Rattle.laws.specs.Sums.Bits.{bit-lt, bit-first, bit-next, bit-beyond, bit-none, bits-ext, bit-and}
+use Rattle.laws.specs.Sums.Bits.{bit-lt, bit-first, bit-next, bits-ext, bit-and}
 use Rattle.laws.specs.Sums.Indicators.{T-true, bool-ext, beq-self, beq-eq, one-le}
 use Rattle.laws.specs.Sums.Every.{every-upto, upto-every}
 use Rattle.laws.specs.Crossings.Masks.{bit-full}
 
 -- ---- eight rows at a time
 
--- is v joined to u, both below n?
-unfoldable pub joinedBelow : ℕ → List ℕ → ℕ → ℕ → Bool
-joinedBelow n adj v u = ltb v n && ltb u n && linked adj v u
-
-unfoldable pub agrees : ℕ → List ℕ → List ℕ → ℕ → ℕ → Bool
-agrees n adj ws v u = Bool·beq (ltb 0 (tableWeight ws u v)) (joinedBelow n adj v u)
+unfoldable pub agrees : List ℕ → List ℕ → ℕ → ℕ → Bool
+agrees adj ws v u = Bool·beq (ltb 0 (tableWeight ws u v)) (linked adj v u)
 
 -- rows 8 * k to 8 * k + 7, column by column
-unfoldable pub groupFits : ℕ → List ℕ → List ℕ → ℕ → Bool
-groupFits n adj ws k = every (λ v. every (λ i. agrees n adj ws v (8 * k + i)) (upto 8)) (upto 64)
+unfoldable pub groupFits : List ℕ → List ℕ → ℕ → Bool
+groupFits adj ws k = every (λ v. every (λ i. agrees adj ws v (8 * k + i)) (upto 8)) (upto 64)
 
-unfoldable pub onEdges : ℕ → List ℕ → List ℕ → Bool
-onEdges n adj ws = every (groupFits n adj ws) (upto 8)
+unfoldable pub onEdges : List ℕ → List ℕ → Bool
+onEdges adj ws = every (groupFits adj ws) (upto 8)
 
-pub edges-agree : (n : ℕ) (adj ws : List ℕ) → T (onEdges n adj ws)
-    → (u v : ℕ) → u < 64 → v < 64 → ltb 0 (tableWeight ws u v) ≡ joinedBelow n adj v u
+pub edges-agree : (adj ws : List ℕ) → T (onEdges adj ws)
+    → (u v : ℕ) → u < 64 → v < 64 → ltb 0 (tableWeight ws u v) ≡ linked adj v u
 unfolding onEdges groupFits agrees
-edges-agree n adj ws t u v l m =
+edges-agree adj ws t u v l m =
     let e : 8 * (u / 8) + u % 8 ≡ u = omega arith in
-    let group = every-upto (groupFits n adj ws) 8 t (u / 8) (omega arith) in
-    let column = every-upto (λ x. every (λ i. agrees n adj ws x (8 * (u / 8) + i)) (upto 8)) 64 group v m in
-    let here = every-upto (λ i. agrees n adj ws v (8 * (u / 8) + i)) 8 column (u % 8) (omega arith) in
-    beq-eq (ltb 0 (tableWeight ws u v)) (joinedBelow n adj v u) (subst (λ (x : ℕ). T (agrees n adj ws v x)) e here)
+    let group = every-upto (groupFits adj ws) 8 t (u / 8) (omega arith) in
+    let column = every-upto (λ x. every (λ i. agrees adj ws x (8 * (u / 8) + i)) (upto 8)) 64 group v m in
+    let here = every-upto (λ i. agrees adj ws v (8 * (u / 8) + i)) 8 column (u % 8) (omega arith) in
+    beq-eq (ltb 0 (tableWeight ws u v)) (linked adj v u) (subst (λ (x : ℕ). T (agrees adj ws v x)) e here)
 
-pub agree-edges : (n : ℕ) (adj ws : List ℕ)
-    → ((u v : ℕ) → u < 64 → v < 64 → ltb 0 (tableWeight ws u v) ≡ joinedBelow n adj v u) → T (onEdges n adj ws)
+pub agree-edges : (adj ws : List ℕ)
+    → ((u v : ℕ) → u < 64 → v < 64 → ltb 0 (tableWeight ws u v) ≡ linked adj v u) → T (onEdges adj ws)
 unfolding onEdges groupFits agrees
-agree-edges n adj ws h =
-    upto-every (groupFits n adj ws) 8
-    (λ k l. upto-every (λ v. every (λ i. agrees n adj ws v (8 * k + i)) (upto 8)) 64
-    (λ v m. upto-every (λ i. agrees n adj ws v (8 * k + i)) 8
-    (λ i b. subst (λ (t : Bool). T (Bool·beq t (joinedBelow n adj v (8 * k + i)))) (sym (h (8 * k + i) v (omega arith) m))
-    (beq-self (joinedBelow n adj v (8 * k + i))))))
+agree-edges adj ws h =
+    upto-every (groupFits adj ws) 8
+    (λ k l. upto-every (λ v. every (λ i. agrees adj ws v (8 * k + i)) (upto 8)) 64
+    (λ v m. upto-every (λ i. agrees adj ws v (8 * k + i)) 8
+    (λ i b. subst (λ (t : Bool). T (Bool·beq t (linked adj v (8 * k + i)))) (sym (h (8 * k + i) v (omega arith) m))
+    (beq-self (linked adj v (8 * k + i))))))
 
 -- ---- a byte of a word for each column
 
@@ -67,15 +62,11 @@ one-beq true false e = absurd (omega arith)
 one-beq false true e = absurd (omega arith)
 one-beq false false e = tt
 
--- the word of v without bits from n on; 0 where there is no vertex v
-unfoldable pub wordOf : ℕ → List ℕ → ℕ → ℕ
-wordOf n adj v = cond (ltb v n) (bitAnd (getD adj v 0) (2 ^ n - 1)) 0
+unfoldable pub byteOf : ℕ → ℕ → ℕ
+byteOf word k = word / 2 ^ (8 * k) % 256
 
-unfoldable pub byteOf : ℕ → List ℕ → ℕ → ℕ → ℕ
-byteOf n adj v k = wordOf n adj v / 2 ^ (8 * k) % 256
-
-unfoldable pub bitsFit : ℕ → List ℕ → List ℕ → ℕ → Bool
-bitsFit n adj bits k = every (λ v. eqb (getD bits v 0) (byteOf n adj v k)) (upto 64)
+unfoldable pub bitsFit : List ℕ → List ℕ → ℕ → Bool
+bitsFit adj bits k = every (λ v. eqb (byteOf (getD adj v 0) k) (getD bits v 0)) (upto 64)
 
 bit-one : (b : ℕ) → b < 2 → one (eqb b 1) ≡ b
 unfolding one
@@ -83,51 +74,41 @@ bit-one zero h = refl
 bit-one (suc zero) h = refl
 bit-one (suc (suc b)) h = absurd (omega arith)
 
-bit-joined : (n : ℕ) (adj : List ℕ) (v u : ℕ) → bit (wordOf n adj v) u ≡ one (joinedBelow n adj v u)
-unfolding wordOf joinedBelow linked one
-bit-joined n adj v u = by-test (ltb v n)
-  where
-    word : ℕ
-    word = getD adj v 0
-
-    by-test : (b : Bool) → bit (cond b (bitAnd word (2 ^ n - 1)) 0) u ≡ one (b && ltb u n && eqb (bit word u) 1)
-    by-test true =
-        elim (decLt u n) [
-          | yes l ↦ bit-and word (2 ^ n - 1) u ∙ rw (bit-full n u l, lt-ltb u n l, bit-one (bit word u) (bit-lt word u)) (mul-one (bit word u))
-          | no l ↦
-              let m : n ≤ u = omega arith in
-              bit-and word (2 ^ n - 1) u ∙ rw (bit-beyond n (2 ^ n - 1) u (ones-lt n) m, le-ltb u n m) (mul-zero (bit word u))
-        ]
-    by-test false = bit-none u
+bit-joined : (adj : List ℕ) (v u : ℕ) → bit (getD adj v 0) u ≡ one (linked adj v u)
+unfolding linked
+bit-joined adj v u = sym (bit-one (bit (getD adj v 0) u) (bit-lt (getD adj v 0) u))
 
 bit-shifted : (word m i : ℕ) → bit (word / 2 ^ m) i ≡ bit word (m + i)
 unfolding bit
 bit-shifted word m i = ap (λ (x : ℕ). x % 2) (shr-shr word m i)
 
-bit-byte : (n : ℕ) (adj : List ℕ) (v k i : ℕ) → i < 8 → bit (byteOf n adj v k) i ≡ one (joinedBelow n adj v (8 * k + i))
+bit-byte : (adj : List ℕ) (v k i : ℕ) → i < 8 → bit (byteOf (getD adj v 0) k) i ≡ one (linked adj v (8 * k + i))
 unfolding byteOf
-bit-byte n adj v k i h =
-    ap (λ (x : ℕ). bit x i) (sym (and-mask (wordOf n adj v / 2 ^ (8 * k)) 8))
-    ∙ bit-and (wordOf n adj v / 2 ^ (8 * k)) 255 i
-    ∙ ap (λ (x : ℕ). bit (wordOf n adj v / 2 ^ (8 * k)) i * x) (bit-full 8 i h)
-    ∙ mul-one (bit (wordOf n adj v / 2 ^ (8 * k)) i)
-    ∙ bit-shifted (wordOf n adj v) (8 * k) i
-    ∙ bit-joined n adj v (8 * k + i)
+bit-byte adj v k i h =
+    let shifted = getD adj v 0 / 2 ^ (8 * k) in
+    ap (λ (x : ℕ). bit x i) (sym (and-mask shifted 8))
+    ∙ bit-and shifted 255 i
+    ∙ ap (λ (x : ℕ). bit shifted i * x) (bit-full 8 i h)
+    ∙ mul-one (bit shifted i)
+    ∙ bit-shifted (getD adj v 0) (8 * k) i
+    ∙ bit-joined adj v (8 * k + i)
 
-pub byte-none : (n : ℕ) (adj : List ℕ) (v k : ℕ) → n ≤ v → 0 ≡ byteOf n adj v k
-unfolding byteOf wordOf
-byte-none n adj v k h = rw (le-ltb v n h) (sym (ap (λ (x : ℕ). x % 256) (zero-div (2 ^ (8 * k)))))
-
-pub byte-there : (n : ℕ) (adj : List ℕ) (v k : ℕ) → v < n → n ≤ 64 → {most word : ℕ} → most ≡ 2 ^ min n 64 - 1 → word ≡ bitAnd (getD adj v 0) most
-    → word / 2 ^ (8 * k) % 256 ≡ byteOf n adj v k
-unfolding byteOf wordOf
-byte-there n adj v k h few {most} {word} e f =
-    rw (lt-ltb v n h)
-    (ap (λ (x : ℕ). x / 2 ^ (8 * k) % 256) (f ∙ ap (bitAnd (getD adj v 0)) (e ∙ ap (λ (m : ℕ). 2 ^ m - 1) (min-eq-left few))))
-
-byte-lt : (n : ℕ) (adj : List ℕ) (v k : ℕ) → byteOf n adj v k < 2 ^ 8
+byte-lt : (word k : ℕ) → byteOf word k < 2 ^ 8
 unfolding byteOf
-byte-lt n adj v k = omega arith
+byte-lt word k = omega arith
+
+-- a byte of a word compared with another one: that it is a byte, joined tells by itself
+pub joined-byte : (word k d other more : ℕ) {byte : ℕ} → byte ≡ byteOf word k → eqb more 0 ≡ (eqb d 0 && (eqb byte other && leb byte 255))
+    → eqb more 0 ≡ (eqb d 0 && eqb (byteOf word k) other)
+joined-byte word k d other more {byte} e told =
+    told
+    ∙ ap (λ (x : ℕ). eqb d 0 && (eqb x other && leb x 255)) e
+    ∙ ap (λ (t : Bool). eqb d 0 && (eqb (byteOf word k) other && t)) (le-leb (byteOf word k) 255 (omega (arith, byte-lt word k)))
+    ∙ ap (λ (t : Bool). eqb d 0 && t) (and-true (eqb (byteOf word k) other))
+  where
+    and-true : (t : Bool) → (t && true) ≡ t
+    and-true true = refl
+    and-true false = refl
 
 -- 1 where there is a weight
 abbrev pub weighs : List ℕ → ℕ → ℕ → ℕ
@@ -236,27 +217,27 @@ module _ {ws : List ℕ} {k : ℕ} where
             ∙ ap (λ (x : ℕ). weighs ws (8 * k + x) v) e
 
 -- the bytes are those of the words exactly if the rows agree with them
-pub bits-group : (n : ℕ) (adj : List ℕ) {ws : List ℕ} {k : ℕ} {bits : List ℕ} {j : ℕ} → BitsFrom ws k bits j → j ≤ 0
-    → {r : Bool} → r ≡ bitsFit n adj bits k → r ≡ groupFits n adj ws k
+pub bits-group : (adj : List ℕ) {ws : List ℕ} {k : ℕ} {bits : List ℕ} {j : ℕ} → BitsFrom ws k bits j → j ≤ 0
+    → {r : Bool} → r ≡ bitsFit adj bits k → r ≡ groupFits adj ws k
 unfolding bitsFit groupFits agrees
-bits-group n adj {ws} {k} {bits} {j} b z {r} told =
+bits-group adj {ws} {k} {bits} {j} b z {r} told =
     told
-    ∙ bool-ext (bitsFit n adj bits k) (groupFits n adj ws k)
+    ∙ bool-ext (bitsFit adj bits k) (groupFits adj ws k)
     (λ t. upto-every (λ v. every (column v) (upto 8)) 64
-    (λ v l. upto-every (column v) 8 (λ i m. same-there v i l m (eqb-true (getD bits v 0) (byteOf n adj v k) (T-true (byte v) (every-upto byte 64 t v l))))))
+    (λ v l. upto-every (column v) 8 (λ i m. same-there v i l m (eqb-true (byteOf (getD adj v 0) k) (getD bits v 0) (T-true (byte v) (every-upto byte 64 t v l))))))
     (λ t. upto-every byte 64
     (λ v l. subst T
     (sym
-    (eq-eqb (getD bits v 0) (byteOf n adj v k)
-    (bits-ext 8 (getD bits v 0) (byteOf n adj v k) (small v l) (byte-lt n adj v k)
+    (eq-eqb (byteOf (getD adj v 0) k) (getD bits v 0)
+    (bits-ext 8 (byteOf (getD adj v 0) k) (getD bits v 0) (byte-lt (getD adj v 0) k) (small v l)
     (λ i m. there-same v i l m (every-upto (column v) 8 (every-upto (λ x. every (column x) (upto 8)) 64 t v l) i m)))))
     tt))
   where
     byte : ℕ → Bool
-    byte v = eqb (getD bits v 0) (byteOf n adj v k)
+    byte v = eqb (byteOf (getD adj v 0) k) (getD bits v 0)
 
     column : ℕ → ℕ → Bool
-    column v i = agrees n adj ws v (8 * k + i)
+    column v i = agrees adj ws v (8 * k + i)
 
     small : (v : ℕ) → v < 64 → getD bits v 0 < 2 ^ 8
     small v l = let e : 8 - j ≡ 8 = omega arith in subst (λ (x : ℕ). getD bits v 0 < 2 ^ x) e (b .few v l)
@@ -266,13 +247,12 @@ bits-group n adj {ws} {k} {bits} {j} b z {r} told =
         let e : j + i ≡ i = omega arith in
         b .on v i l (omega arith) ∙ ap (λ (x : ℕ). weighs ws (8 * k + x) v) e
 
-    same-there : (v i : ℕ) → v < 64 → i < 8 → getD bits v 0 ≡ byteOf n adj v k → T (column v i)
+    same-there : (v i : ℕ) → v < 64 → i < 8 → byteOf (getD adj v 0) k ≡ getD bits v 0 → T (column v i)
     same-there v i l m e =
-        one-beq (ltb 0 (tableWeight ws (8 * k + i) v)) (joinedBelow n adj v (8 * k + i))
-        (sym (on v i l m) ∙ ap (λ (x : ℕ). bit x i) e ∙ bit-byte n adj v k i m)
+        one-beq (ltb 0 (tableWeight ws (8 * k + i) v)) (linked adj v (8 * k + i))
+        (sym (on v i l m) ∙ ap (λ (x : ℕ). bit x i) (sym e) ∙ bit-byte adj v k i m)
 
-    there-same : (v i : ℕ) → v < 64 → i < 8 → T (column v i) → bit (getD bits v 0) i ≡ bit (byteOf n adj v k) i
+    there-same : (v i : ℕ) → v < 64 → i < 8 → T (column v i) → bit (byteOf (getD adj v 0) k) i ≡ bit (getD bits v 0) i
     there-same v i l m t =
-        on v i l m
-        ∙ ap one (beq-eq (ltb 0 (tableWeight ws (8 * k + i) v)) (joinedBelow n adj v (8 * k + i)) t)
-        ∙ sym (bit-byte n adj v k i m)
+        bit-byte adj v k i m
+        ∙ sym (on v i l m ∙ ap one (beq-eq (ltb 0 (tableWeight ws (8 * k + i) v)) (linked adj v (8 * k + i)) t))

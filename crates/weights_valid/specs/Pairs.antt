@@ -97,26 +97,23 @@ every-last p n =
       | no m ↦ let e : n ≡ i = omega arith in subst (λ (x : ℕ). T (p x)) e (and-right (every p (upto n)) (p n) t)
     ]))
 
--- the pairs of u with each below v
-pub record EvenUpTo (ws : List ℕ) (u differences v : ℕ) : Type 0 where
-  pub inside : v ≤ suc u
-  pub so-far : eqb differences 0 ≡ every (evenPair ws u) (upto v)
+-- no difference was found among those below v exactly if each of them passes
+pub record AlikeUpTo (p : ℕ → Bool) (bound differences v : ℕ) : Type 0 where
+  pub inside : v ≤ bound
+  pub so-far : eqb differences 0 ≡ every p (upto v)
 
-module _ {ws : List ℕ} {u : ℕ} where
-  pub even-start : EvenUpTo ws u 0 0
+module _ {p : ℕ → Bool} {bound : ℕ} where
+  pub alike-start : AlikeUpTo p bound 0 0
   unfolding every upto
-  even-start = record { inside = omega arith; so-far = refl }
+  alike-start = record { inside = omega arith; so-far = refl }
 
-  module _ {differences v : ℕ} (s : EvenUpTo ws u differences v) where
-    pub even-next : v ≤ u → {more : ℕ} → eqb more 0 ≡ (eqb differences 0 && evenPair ws u v) → EvenUpTo ws u more (v + 1)
-    even-next h {more} e =
+  module _ {differences v : ℕ} (s : AlikeUpTo p bound differences v) where
+    pub alike-next : v < bound → {more : ℕ} → eqb more 0 ≡ (eqb differences 0 && p v) → AlikeUpTo p bound more (v + 1)
+    alike-next h {more} e =
         record {
           inside = omega arith;
-          so-far =
-              e ∙ ap (λ (b : Bool). b && evenPair ws u v) (s .so-far) ∙ sym (every-last (evenPair ws u) v)
-              ∙ ap (λ (x : ℕ). every (evenPair ws u) (upto x)) (sym (add-one v));
+          so-far = e ∙ ap (λ (b : Bool). b && p v) (s .so-far) ∙ sym (every-last p v) ∙ ap (λ (x : ℕ). every p (upto x)) (sym (add-one v));
         }
 
-    pub even-end : u < v → eqb differences 0 ≡ evenRow ws u
-    unfolding evenRow
-    even-end h = let e : v ≡ suc u = omega (arith, s .inside) in s .so-far ∙ ap (λ (x : ℕ). every (evenPair ws u) (upto x)) e
+    pub alike-end : bound ≤ v → eqb differences 0 ≡ every p (upto bound)
+    alike-end h = let e : v ≡ bound = omega (arith, s .inside) in s .so-far ∙ ap (λ (x : ℕ). every p (upto x)) e

@@ -1,13 +1,13 @@
 use borrow.Author.Needs.{needs}
-use Prim.Native.Nat.{_+_, _-_}
+use Prim.Native.Nat.{suc, _+_, _-_}
 use native.Mathlib.Omega.{arith}
 use Rattle.model.specs.Layouts.{tableWeight}
-use Rattle.weights_valid.specs.Pairs.{EvenUpTo, even-start, even-next, even-end}
+use Rattle.weights_valid.specs.Pairs.{evenPair, evenRow, AlikeUpTo, alike-start, alike-next, alike-end}
 use Rattle.weights_valid.proofs.even_row.Statement.{statement}
 use Rattle.weights_valid.proofs.even_row.Tie as tie
 
 abbrev Inv-loop : tie.InvT-loop
-Inv-loop weights u differences₀ v₀ differences v = EvenUpTo weights u differences v
+Inv-loop weights u differences₀ v₀ differences v = AlikeUpTo (evenPair weights u) (suc u) differences v
 
 abbrev μ-loop : tie.MeasureT-loop
 μ-loop weights u differences₀ v₀ differences v = u + 1 - v
@@ -16,10 +16,11 @@ loop-again : tie.Need-loop-again Inv-loop μ-loop
 unfolding tableWeight
 loop-again c =
     let turn = c .before .before .before in
-    even-next (turn .before .loop .inv) (turn .loop-test .taken) (c .joined .ensures)
+    alike-next (turn .before .loop .inv) (omega (arith, turn .loop-test .taken)) (c .joined .ensures)
 
 returns : tie.Need-returns Inv-loop μ-loop
-returns c = even-end (c .before .loop .inv) (c .loop-test .left)
+unfolding evenRow
+returns c = alike-end (c .before .loop .inv) (omega (arith, c .loop-test .left))
 
 pub even-row-spec : {M : Type 1} → statement M
 even-row-spec =
@@ -27,7 +28,7 @@ even-row-spec =
     (tie.spec
     Inv-loop
     μ-loop
-    (λ c. even-start)
+    (λ c. alike-start)
     (λ c. omega arith)
     (λ c. omega arith)
     (λ c. omega arith)

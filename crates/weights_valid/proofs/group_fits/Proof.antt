@@ -5,10 +5,10 @@ use Rattle.weights_valid.proofs.group_fits.Statement.{statement}
 use Rattle.weights_valid.proofs.group_fits.Tie as tie
 
 abbrev Inv-loop : tie.InvT-loop
-Inv-loop n adjacency weights k bits₀ j₀ bits j = BitsFrom weights k bits j
+Inv-loop adjacency weights k bits₀ j₀ bits j = BitsFrom weights k bits j
 
 abbrev μ-loop : tie.MeasureT-loop
-μ-loop n adjacency weights k bits₀ j₀ bits j = j
+μ-loop adjacency weights k bits₀ j₀ bits j = j
 
 slice-aggregate-add-row : tie.Need-slice-aggregate-add-row Inv-loop μ-loop
 slice-aggregate-add-row c = sym (c .before .before .loop .inv .size)
@@ -17,7 +17,7 @@ add-row-requires : tie.Need-add-row-requires Inv-loop μ-loop
 add-row-requires c κs =
     let turn = c .before .before in
     let so-far = turn .loop .inv in
-    (omega (arith, so-far .inside, turn .before .pre .1), so-far .size, bits-few so-far (omega (arith, c .before .loop-test .taken)))
+    (omega (arith, so-far .inside, turn .before .pre), so-far .size, bits-few so-far (omega (arith, c .before .loop-test .taken)))
 
 loop-again : tie.Need-loop-again Inv-loop μ-loop
 loop-again c =
@@ -30,7 +30,7 @@ bits-fit-requires c κs = c .before .before .before .pre
 returns : tie.Need-returns Inv-loop μ-loop
 returns c =
     let end = c .before .before in
-    bits-group _ _ (end .before .loop .inv) (omega (arith, end .loop-test .left)) (c .bits-fit .ensures)
+    bits-group _ (end .before .loop .inv) (omega (arith, end .loop-test .left)) (c .bits-fit .ensures)
 
 pub group-fits-spec : {M : Type 1} → statement M
 group-fits-spec =

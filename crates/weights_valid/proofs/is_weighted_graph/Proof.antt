@@ -22,9 +22,6 @@ returns-2 c =
       test-failed (c .before .even .ensures) (c .if2 .taken),
     )
 
-on-edges-requires : tie.Need-on-edges-requires
-on-edges-requires c κs = let bounded = c .before .before in bounded-few _ _ (test-held (bounded .before .is-bounded .ensures) (bounded .if1 .left))
-
 returns-3 : tie.Need-returns-3
 returns-3 c =
     let even = c .before in
@@ -38,4 +35,4 @@ returns-3 c =
     (c .on-edges .ensures)
 
 pub is-weighted-graph-spec : {M : Type 1} → statement M
-is-weighted-graph-spec = tie.close (tie.spec (λ c κs. search needs) returns even-requires returns-2 on-edges-requires returns-3)
+is-weighted-graph-spec = tie.close (tie.spec (λ c κs. search needs) returns even-requires returns-2 (λ c κs. search needs) returns-3)

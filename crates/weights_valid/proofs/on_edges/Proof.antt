@@ -7,10 +7,10 @@ use Rattle.weights_valid.proofs.on_edges.Statement.{statement}
 use Rattle.weights_valid.proofs.on_edges.Tie as tie
 
 abbrev Inv-loop : tie.InvT-loop
-Inv-loop n adjacency weights k₀ k = PassedUpTo (groupFits n adjacency weights) 8 k
+Inv-loop adjacency weights k₀ k = PassedUpTo (groupFits adjacency weights) 8 k
 
 abbrev μ-loop : tie.MeasureT-loop
-μ-loop n adjacency weights k₀ k = 8 - k
+μ-loop adjacency weights k₀ k = 8 - k
 
 returns : tie.Need-returns Inv-loop μ-loop
 unfolding onEdges
@@ -34,7 +34,7 @@ on-edges-spec =
     Inv-loop
     μ-loop
     (λ c. passed-none)
-    (λ c κs. (c .before .before .pre, omega arith))
+    (λ c κs. omega (arith, c .loop-test .taken))
     returns
     (λ c. omega arith)
     (λ c. omega arith)
