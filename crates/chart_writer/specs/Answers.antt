@@ -3,14 +3,13 @@ use Prim.Native.Nat.{ℕ, _+_, _*_, _≤_}
 use native.Mathlib.Omega.{arith}
 use mathlib.Core.Path.{_≡_, refl, sym, ap, _∙_}
 use mathlib.Core.Bool.{Bool, cond}
-use mathlib.Core.List.{List, map}
+use mathlib.Core.List.{List}
 use lib.ListN.{length, take}
 use lib.Seq.{length-take-le}
-use lib.Dec.{T, eqb, leb}
+use lib.Dec.{T, leb}
 use borrow.Author.Tests.{le-leb}
 use Rattle.model.specs.declared.Layout.{Layout}
-use Rattle.model.specs.Lists.{every}
-use Rattle.model.specs.Crossings.{edges, edgeWeight}
+use Rattle.model.specs.Crossings.{edges}
 use Rattle.model.specs.Layouts.{vertexOrder, tableWeight, weight, valid}
 use Rattle.model.specs.Writing.{writeOf, writtenBytes}
 use Rattle.model.specs.WrittenCharts.{weightsOf, unitWeighted, weightField, chartOf, chartFormat}
@@ -35,12 +34,6 @@ counted-is l t {unit} u =
     let es = edges (l .n) (l .adjacency) in
     let last = ap length (field-is l) ∙ weight-bytes-length (unitWeighted l) (weight l) es in
     rw (le-leb (l .n) 64 (sound l t .small), u) (ap (λ (k : ℕ). 10 + 2 * length es + l .n + k) (sym last) ∙ sym (chart-size l t))
-
--- whether all edges weigh 1
-pub unit-is : (l : Layout) {unit : Bool}
-    → unit ≡ every (eqb 1) (map (edgeWeight (tableWeight (l .weights))) (edges (l .n) (l .adjacency))) → unit ≡ unitWeighted l
-unfolding unitWeighted weightsOf weight
-unit-is l e = e
 
 -- what the call has asked
 pub record ChartAsked (l : Layout) (buffer : List ℕ) (unit : Bool) (long code : ℕ) : Type 0 where

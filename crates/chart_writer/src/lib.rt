@@ -18,8 +18,8 @@ use edge_list::put_edges;
 use model::Layout;
 use model::LayoutWritten;
 use text::put_text;
-use unit_weights::all_unit;
 use validity::is_valid;
+use weights::all_unit;
 
 // Writes the chart to the start of the buffer, and answers its length. The bytes beyond it keep
 // their contents.
@@ -30,7 +30,7 @@ pub fn write(l: Layout, buffer: &mut [u8]) -> LayoutWritten
     let n = l.n;
     let adjacency = l.adjacency;
     let weights = l.weights;
-    let unit = all_unit(n, &adjacency, &weights);
+    let unit = all_unit(&weights);
     let length = chart_length(n, &adjacency, unit);
     let refusal = write_refusal(is_valid(l), 0, length, buffer.len(), 19);
     if refusal != 0 {

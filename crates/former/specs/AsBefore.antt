@@ -37,8 +37,8 @@ use Rattle.laws.specs.Append.Agreeing.{all-same}
 use Rattle.laws.specs.Sifting.Images.{shownRound, sift-shown, sift-good, best-shown, all-shown, all-good, moved-shown, saved-shown, bests-shown, sifts-reach}
 use Rattle.laws.specs.Sifting.Images.{rounds-shown, rounds-good, rounds-reach, last-shown, swept-shown, swept-good, steps-shown, played-shown}
 use Rattle.history.specs.StepLaws.{Right, start-right, call-keeps}
-use Rattle.former.specs.Units.{Unit, Agreeing, unit-agrees, agrees-unit, unit-weighted, UnitCall, adding, linking, unlinking, moving}
-use Rattle.former.specs.Units.{laying, sifting, sifting-round, converging, call-unit}
+use Rattle.laws.specs.Layouts.Units.{Unit, Agreeing, unit-agrees, agrees-unit, unit-weighted}
+use Rattle.former.specs.Units.{UnitCall, adding, linking, unlinking, moving, laying, sifting, sifting-round, converging, call-unit}
 use Rattle.former.specs.Forgetting.{forget, forgetOutcome, forgotten-crossings, forgotten-changed, forgotten-reordered, shows}
 
 -- ---- checks that are the same
@@ -238,7 +238,7 @@ pub as-before : {start : Layout} → Start start → T (unitWeighted start) → 
 unfolding playedFrom stepsFrom
 as-before {start} s w {calls} ks =
     let r = start-right s in
-    let o : OfWeightOne start = record { right = r; unit = unit-weighted start (r .is-valid) (r .sized) w } in
+    let o : OfWeightOne start = record { right = r; unit = unit-weighted start (r .is-valid) w } in
     let end = kept-one start o ks in
     record {
       same-steps = steps-shown ringCalls formerCalls forget forgetOutcome OfWeightOne UnitCall keeps-one call-alike (λ a. refl) start o ks;

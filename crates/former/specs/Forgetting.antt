@@ -17,7 +17,7 @@ use Rattle.model.specs.Former.{formerReordered, formerCandidates, formerRing}
 use Rattle.laws.specs.Crossings.Units.{unit-crossings}
 use Rattle.laws.specs.Crossings.Agreeing.{agreeing-crossings}
 use Rattle.laws.specs.Sifting.Images.{Shows}
-use Rattle.former.specs.Units.{Agrees, Agreeing}
+use Rattle.laws.specs.Layouts.Units.{Agrees, Agreeing}
 
 abbrev pub forget : Layout → FormerLayout
 forget l = record { n = l .n; order = l .order; adjacency = l .adjacency; count = l .count % formerModulus }

@@ -25,7 +25,7 @@ use Rattle.laws.specs.Sums.Lists.{All, none, also, sumOver-ext}
 use Rattle.laws.specs.Buffers.Formats.{Coded, chart-coded, graph6-coded, table-coded, room-tells}
 use Rattle.laws.specs.Crossings.Units.{unit-weights}
 use Rattle.laws.specs.Crossings.Agreeing.{EndsBelow, edges-below}
-use Rattle.former.specs.Units.{Agreeing, unit-agrees, agrees-unit}
+use Rattle.laws.specs.Layouts.Units.{Agreeing, unit-agrees, agrees-unit}
 use Rattle.former.specs.Forgetting.{forget}
 use Rattle.former.specs.AsBefore.{checked-shown, was-valid, OfWeightOne}
 

@@ -32,7 +32,7 @@ use Rattle.laws.specs.Charts.Weights.{WeighedBy, table-weighed, joined-has}
 use Rattle.laws.specs.Charts.Layouts.{Accepted, valid-read, count-true}
 use Rattle.laws.specs.Charts.Reading.{read-is, read-number, chart-numbered, accepted, accepted-weights, chartWeight, layout-listed}
 use Rattle.laws.specs.Graph6.Imports.{import-number, import-is, imported-graph6, edges-accepted, unit, unit-listed}
-use Rattle.former.specs.Units.{Unit, Agreeing, unit-agrees, agrees-unit, ones-all}
+use Rattle.laws.specs.Layouts.Units.{Unit, Agreeing, unit-agrees, agrees-unit, ones-all}
 use Rattle.former.specs.Forgetting.{forget, same-crossings}
 use Rattle.former.specs.AsBefore.{checked-shown}
 

@@ -3,7 +3,6 @@
 ghost use mathlib.Core.Path.{_≡_};
 ghost use Prim.Native.Nat.{_≤_};
 ghost use lib.ListN.{length};
-ghost use Rattle.model.specs.Layouts.{tableWeight};
 ghost use Rattle.model.specs.Writing.{writeOf, writtenBytes};
 ghost use Rattle.model.specs.Graph6.{sizePart, graph6Format};
 ghost use Rattle.laws.specs.Buffers.Writing.{Written};
@@ -17,8 +16,8 @@ use graph6_size::size_length;
 use model::Layout;
 use model::LayoutWritten;
 use text::put_text;
-use unit_weights::all_unit;
 use validity::is_valid;
+use weights::all_unit;
 
 // Writes the graph to the start of the buffer, and answers how many bytes it has. The bytes beyond it
 // keep their contents.
@@ -30,7 +29,7 @@ pub fn export(l: Layout, buffer: &mut [u8]) -> LayoutWritten
     let adjacency = l.adjacency;
     let weights = l.weights;
     let length = size_length(n) + data_length(n);
-    let own = weight_refusal(n, &adjacency, &weights);
+    let own = weight_refusal(&weights);
     let refusal = write_refusal(is_valid(l), own, length, buffer.len(), 19);
     if refusal != 0 {
         return LayoutWritten { refusal, length: 0 };
@@ -39,15 +38,11 @@ pub fn export(l: Layout, buffer: &mut [u8]) -> LayoutWritten
     LayoutWritten { refusal: 0, length }
 }
 
-// 26 where the weight of some edge isn't 1, else 0.
-fn weight_refusal(n: usize, adjacency: &[u64; 64], weights: &[u8; 4096]) -> u8
-    ensures { λ r. ⌜ (n ≤ 64 → r ≡ weightCode n (now (adjacency .entry)) (tableWeight (now (weights .entry)))) ⌝ }
+// 26 where some weight is above 1, else 0.
+fn weight_refusal(weights: &[u8; 4096]) -> u8
+    ensures { λ r. ⌜ r ≡ weightCode (now (weights .entry)) ⌝ }
 {
-    if all_unit(n, adjacency, weights) {
-        0
-    } else {
-        26
-    }
+    if all_unit(weights) { 0 } else { 26 }
 }
 
 // The size part, and the bits of the pairs behind it. Answers where they end.

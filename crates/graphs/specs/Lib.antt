@@ -1,2 +1,2 @@
--- Rows: the passes that ask whether the words are those of a graph.
-pub mod Rows
+-- Bounds: a word below a bound.
+pub mod Bounds

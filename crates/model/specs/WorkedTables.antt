@@ -37,6 +37,7 @@ pub worked-tables : let l = layoutOf first in
     && counts (layoutOf (record { vertices = 0; links = []; order = [] })) 1 0 0 (7 ∷ [])
     && counts (layoutOf turned) 6 0 6 (0 ∷ 0 ∷ 1 ∷ 1 ∷ 0 ∷ 0 ∷ [])
     && counts (layoutOf fan) 3 0 3 (1 ∷ 1 ∷ 2 ∷ [])
+    && counts (weightedLayoutOf fan (3 ∷ 5 ∷ 7 ∷ [])) 4 0 3 (21 ∷ 35 ∷ 56 ∷ 7 ∷ [])
     && counts (layoutOf (record { vertices = 5; links = complete 5; order = 0 ∷ 1 ∷ 2 ∷ 3 ∷ 4 ∷ [] })) 11 0 10
     (0 ∷ 2 ∷ 2 ∷ 0 ∷ 0 ∷ 2 ∷ 2 ∷ 0 ∷ 2 ∷ 0 ∷ 7 ∷ []))
 unfolding rowOf isWeight evenWeights weighsEdges blankFrom weightsFit tableWeight withWeights tableIn bothWays weightedLayoutOf counts edgeCrossingsOf

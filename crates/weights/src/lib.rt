@@ -1,7 +1,10 @@
-// A table of weights (document 02, Note 8): the weight of u towards v stands at 64 * u + v. Only here is
-// the table read. Calls of other crates are total: a vertex is taken modulo 64.
+// A table of weights (document 02, Note 8): the weight of u towards v stands at 64 * u + v. Only here, and
+// where it is asked whether it fits (weights_valid), is the table read. Calls of other crates are total: a
+// vertex is taken modulo 64.
+mod light;
 mod units;
 
+pub use light::all_unit;
 pub use units::unit_table;
 ghost use mathlib.Core.Path.{_≡_};
 ghost use Prim.Native.Nat.{_+_, _*_, _-_, _%_, _<_, _≤_};

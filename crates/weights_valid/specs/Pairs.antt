@@ -1,6 +1,5 @@
 -- Weights that are equal both ways round, and bytes, asked of each two vertices once.
-use Prim.Native.Nat.{ℕ, suc, _+_, _≤_, _<_}
-use native.Mathlib.Numerals.{add-one}
+use Prim.Native.Nat.{ℕ, suc, _≤_, _<_}
 use native.Mathlib.Decide.{decLt}
 use native.Mathlib.Omega.{arith}
 use mathlib.Core.Path.{_≡_, refl, sym, ap, ap₂, _∙_, subst}
@@ -86,34 +85,3 @@ joined-bytes d a b few = rw (le-leb a 255 few) (joined-zero d a b ∙ ap (λ (t 
     and-true : (t : Bool) → (t && true) ≡ t
     and-true true = refl
     and-true false = refl
-
-every-last : (p : ℕ → Bool) (n : ℕ) → every p (upto (suc n)) ≡ (every p (upto n) && p n)
-every-last p n =
-    bool-ext (every p (upto (suc n))) (every p (upto n) && p n)
-    (λ t. and-intro (every p (upto n)) (p n) (upto-every p n (λ i l. every-upto p (suc n) t i (omega arith))) (every-upto p (suc n) t n (omega arith)))
-    (λ t. upto-every p (suc n)
-    (λ i l. elim (decLt i n) [
-      | yes m ↦ every-upto p n (and-left (every p (upto n)) (p n) t) i m
-      | no m ↦ let e : n ≡ i = omega arith in subst (λ (x : ℕ). T (p x)) e (and-right (every p (upto n)) (p n) t)
-    ]))
-
--- no difference was found among those below v exactly if each of them passes
-pub record AlikeUpTo (p : ℕ → Bool) (bound differences v : ℕ) : Type 0 where
-  pub inside : v ≤ bound
-  pub so-far : eqb differences 0 ≡ every p (upto v)
-
-module _ {p : ℕ → Bool} {bound : ℕ} where
-  pub alike-start : AlikeUpTo p bound 0 0
-  unfolding every upto
-  alike-start = record { inside = omega arith; so-far = refl }
-
-  module _ {differences v : ℕ} (s : AlikeUpTo p bound differences v) where
-    pub alike-next : v < bound → {more : ℕ} → eqb more 0 ≡ (eqb differences 0 && p v) → AlikeUpTo p bound more (v + 1)
-    alike-next h {more} e =
-        record {
-          inside = omega arith;
-          so-far = e ∙ ap (λ (b : Bool). b && p v) (s .so-far) ∙ sym (every-last p v) ∙ ap (λ (x : ℕ). every p (upto x)) (sym (add-one v));
-        }
-
-    pub alike-end : bound ≤ v → eqb differences 0 ≡ every p (upto bound)
-    alike-end h = let e : v ≡ bound = omega (arith, s .inside) in s .so-far ∙ ap (λ (x : ℕ). every p (upto x)) e

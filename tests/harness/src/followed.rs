@@ -92,6 +92,20 @@ pub fn change_found(
     text
 }
 
+/// The same of several changes, each with words of what is said of it.
+#[cfg(test)]
+pub fn changes_found(
+    list: &[u8],
+    lines: &str,
+    check: impl Fn(&Step) -> Result<(), String>,
+    changes: &[(usize, &str, &str, &str)],
+) {
+    for &(line, from, to, due) in changes {
+        let text = change_found(list, lines, &check, (line, from, to));
+        assert!(text.contains(due), "{to}: {text}");
+    }
+}
+
 impl Step<'_> {
     /// The name and the refusal number; the line `end` has none.
     pub fn answer(&self) -> Option<(&str, u8)> {

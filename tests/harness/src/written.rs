@@ -138,7 +138,7 @@ pub fn check_alike(four: &[Step]) -> Result<(), String> {
 #[cfg(test)]
 mod tests {
     use super::*;
-    use crate::followed::{change_found, check_fours, check_lines, steps};
+    use crate::followed::{changes_found, check_fours, check_lines, steps};
     use crate::make::charts::Chart;
     use crate::make::graph::{Edge, Graph};
     use crate::make::ops::{MOVE, SET_COUNT, SET_N};
@@ -207,7 +207,7 @@ mod tests {
         assert_eq!(check_lines(&list, &lines, check_line), Ok(()));
         let due = "export 0 2 buffer 67 81 7 n 4 order 1 0 2 3";
         assert!(lines.contains(due));
-        for (line, from, to, due) in [
+        let changes = [
             (
                 3,
                 "export 19 0 buffer 6",
@@ -227,10 +227,8 @@ mod tests {
             (4, "export 0 2", "export 0 4", "not what"),
             (4, "7 n 4 order 1 0 2 3", "7 n 4 order 0 1 2 3", "not what"),
             (6, "export 11 0", "export 19 0", "not what"),
-        ] {
-            let text = change_found(&list, &lines, check_line, (line, from, to));
-            assert!(text.contains(due), "{to}: {text}");
-        }
+        ];
+        changes_found(&list, &lines, check_line, &changes);
     }
 
     /// Four vertices with the edges 0-1, 0-2 and 1-3 and another count than the
@@ -256,7 +254,7 @@ mod tests {
         let most = u64::MAX;
         let (exact, longer) = ("3 table 0 1 1 n", &format!("3 table 0 1 1 {most} n"));
         assert!(lines.contains(exact) && lines.contains(longer));
-        for (line, from, to, due) in [
+        let changes = [
             (2, "perlink 23 0", "perlink 23 2", "not what"),
             (2, "perlink 23 0", "perlink 19 0", "not what"),
             (2, "perlink 23 0", "perlink 0 2", "3 edges with 1 crossings"),
@@ -292,17 +290,15 @@ mod tests {
             ),
             (5, "perlink 11 0", "perlink 23 0", "not what"),
             (5, "table 5 5 5 n", "table 0 1 1 n", "not what"),
-        ] {
-            let text = change_found(&list, &lines, check_line, (line, from, to));
-            assert!(text.contains(due), "{to}: {text}");
-        }
+        ];
+        changes_found(&list, &lines, check_line, &changes);
     }
 
     #[test]
     fn a_wrong_chart_buffer_or_layout_is_found() {
         let (list, lines) = (list(), play(&list()));
         assert_eq!(check_lines(&list, &lines, check_line), Ok(()));
-        for (line, from, to, due) in [
+        let changes = [
             (2, "write 19 0 buffer 6", "write 19 0 buffer 5", "not what"),
             (2, "write 19 0", "write 19 1", "not what"),
             (2, "write 19 0", "write 18 0", "not what"),
@@ -322,10 +318,8 @@ mod tests {
                 "not what",
             ),
             (5, "write 11 0", "write 19 0", "not what"),
-        ] {
-            let text = change_found(&list, &lines, check_line, (line, from, to));
-            assert!(text.contains(due), "{to}: {text}");
-        }
+        ];
+        changes_found(&list, &lines, check_line, &changes);
     }
 
     /// Document 01's first ring with the weights 2 and 3, listed in two ways and
@@ -354,7 +348,7 @@ mod tests {
         assert_eq!(check_lines(&list, &lines, check_line), Ok(()));
         let (weights, table) = ("87 0 2 2 3 n", "2 table 6 6 8 n");
         assert!(lines.contains(weights) && lines.contains(table));
-        for (line, from, to, due) in [
+        let changes = [
             (2, weights, "87 0 2 3 2 n", "another layout"),
             (2, weights, "87 0 2 2 2 n", "another layout"),
             (2, weights, "87 0 2 2 0 n", "gets refusal 25"),
@@ -371,10 +365,8 @@ mod tests {
                 "export 19 0 buffer 7 n",
                 "not what",
             ),
-        ] {
-            let text = change_found(&list, &lines, check_line, (line, from, to));
-            assert!(text.contains(due), "{to}: {text}");
-        }
+        ];
+        changes_found(&list, &lines, check_line, &changes);
     }
 
     #[test]

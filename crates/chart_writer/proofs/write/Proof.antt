@@ -4,10 +4,10 @@ use mathlib.Core.Path.{_≡_, refl, sym, _∙_}
 use lib.ListN.{length as len}
 use lib.Seq.{length-take-le}
 use Rattle.model.specs.Checks.{refusal}
-use Rattle.laws.specs.Layouts.Validity.{sound}
+use Rattle.laws.specs.Layouts.Units.{unit-asked}
 use Rattle.laws.specs.Buffers.Formats.{chart-coded}
 use Rattle.buffer_checks.specs.Answers.{refused}
-use Rattle.chart_writer.specs.Answers.{ChartAsked, unit-is, counted-is, inside, fits, chart-written}
+use Rattle.chart_writer.specs.Answers.{ChartAsked, counted-is, inside, fits, chart-written}
 use Rattle.chart_writer.proofs.write.Statement.{statement}
 use Rattle.chart_writer.proofs.write.Tie as tie
 
@@ -20,7 +20,7 @@ weighed c = c .before .before
 
 abbrev start : tie.After-all-unit → tie.Start
 start c =
-    let lent = c .before .before in
+    let lent = c .before in
     let words = lent .before .before in
     words .before .before
 
@@ -38,10 +38,10 @@ asked c =
           record {
             coded = chart-coded;
             own-is = λ t. refl;
-            measured = λ t. length .ensures ∙ counted-is l t (unit-is l (unit .all-unit .ensures (sound l t .small)));
+            measured = λ t. length .ensures ∙ counted-is l t (unit .all-unit .ensures ∙ unit-asked l t);
             told = rw (c .before .is-valid .ensures) at (c .write-refusal .ensures);
           };
-      units = λ t. unit-is l (unit .all-unit .ensures (sound l t .small));
+      units = λ t. unit .all-unit .ensures ∙ unit-asked l t;
       measured = length .ensures;
     }
 
@@ -53,7 +53,7 @@ places : (c : tie.Start) → len (c .args .l .order) ≡ 64
 places c = search needs
 
 -- from where the order is lent to where the checks have passed
-abbrev passed : tie.After-adjacency4 → tie.Else1
+abbrev passed : tie.After-adjacency3 → tie.Else1
 passed c = c .before .before .before
 
 -- the vertices have places in the order

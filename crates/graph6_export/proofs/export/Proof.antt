@@ -19,7 +19,7 @@ abbrev weighed : tie.After-write-refusal → tie.After-weight-refusal
 weighed c = c .before .before
 
 abbrev known : tie.After-write-refusal → tie.After-data-length
-known c = weighed c .before .before .before
+known c = weighed c .before .before
 
 abbrev start : tie.After-data-length → tie.Start
 start c = let copied = c .before .before in copied .before .before .before

@@ -5,7 +5,7 @@ use mathlib.Core.Bool.{Bool}
 use mathlib.Core.List.{List}
 use lib.Dec.{eqb}
 use lib.ListN.{getD}
-use Rattle.weights_valid.specs.Pairs.{AlikeUpTo, alike-start, alike-next, alike-end}
+use Rattle.laws.specs.Sums.Below.{ToldBelow, told-start, told-next, told-end}
 use Rattle.weights_valid.specs.Bytes.{byteOf, bitsFit, joined-byte}
 use Rattle.weights_valid.proofs.bits_fit.Statement.{statement}
 use Rattle.weights_valid.proofs.bits_fit.Tie as tie
@@ -14,7 +14,7 @@ abbrev passes : List ℕ → List ℕ → ℕ → ℕ → Bool
 passes adj bits k v = eqb (byteOf (getD adj v 0) k) (getD bits v 0)
 
 abbrev Inv-loop : tie.InvT-loop
-Inv-loop adjacency bits k differences₀ v₀ differences v = AlikeUpTo (passes adjacency bits k) 64 differences v
+Inv-loop adjacency bits k differences₀ v₀ differences v = ToldBelow (passes adjacency bits k) 64 (eqb differences 0) v
 
 abbrev μ-loop : tie.MeasureT-loop
 μ-loop adjacency bits k differences₀ v₀ differences v = 64 - v
@@ -24,12 +24,12 @@ loop-again c =
     let turn = c .before .before .before .before in
     let loop = turn .before .loop in
     let other = getD (turn .before .before .args .bits .now) (loop .v) 0 in
-    alike-next (loop .inv) (omega (arith, turn .loop-test .taken))
+    told-next (loop .inv) (omega (arith, turn .loop-test .taken))
     (joined-byte _ _ (loop .differences) other (c .joined .result) (c .before .before .byte-of .ensures) (c .joined .ensures))
 
 returns : tie.Need-returns Inv-loop μ-loop
 unfolding bitsFit
-returns c = alike-end (c .before .loop .inv) (omega (arith, c .loop-test .left))
+returns c = told-end (c .before .loop .inv) (omega (arith, c .loop-test .left))
 
 pub bits-fit-spec : {M : Type 1} → statement M
 bits-fit-spec =
@@ -37,7 +37,7 @@ bits-fit-spec =
     (tie.spec
     Inv-loop
     μ-loop
-    (λ c. alike-start)
+    (λ c. told-start)
     (λ c. omega arith)
     (λ c. omega arith)
     (λ c κs. c .before .before .before .pre)

@@ -264,18 +264,12 @@ fn six_bits(rng: &mut Rng, length: usize) -> Vec<u8> {
 #[cfg(test)]
 mod tests {
     use super::*;
+    use crate::make::special::numbers_are_due;
     use crate::naive::graph6::import;
 
     #[test]
     fn each_special_one_gets_its_refusal_number() {
-        for special in &SPECIALS {
-            for index in 0..60 {
-                let graph6 = (special.make)(&mut Rng::new(1, special.kind, index));
-                let (refusal, _) = import(&graph6);
-                let due = special.refusal.unwrap_or(refusal);
-                assert_eq!(refusal, due, "{}", special.kind);
-            }
-        }
+        numbers_are_due(&SPECIALS, |graph6| import(graph6).0);
     }
 
     /// What is made at random gets every number.

@@ -393,6 +393,19 @@ fn crowded(rng: &mut Rng) -> Vec<u8> {
     Chart::of(&Graph::of(edges, vertices(64))).bytes()
 }
 
+/// Sees that what is made gets the refusal number that it is made for, if it is
+/// made for one.
+#[cfg(test)]
+pub fn numbers_are_due(specials: &[Special], refusal_of: impl Fn(&[u8]) -> u8) {
+    for special in specials {
+        for index in 0..60 {
+            let refusal = refusal_of(&(special.make)(&mut Rng::new(1, special.kind, index)));
+            let due = special.refusal.unwrap_or(refusal);
+            assert_eq!(refusal, due, "{}", special.kind);
+        }
+    }
+}
+
 #[cfg(test)]
 mod tests {
     use super::*;
@@ -402,14 +415,7 @@ mod tests {
 
     #[test]
     fn each_special_one_gets_its_refusal_number() {
-        for special in &SPECIALS {
-            for index in 0..60 {
-                let chart = (special.make)(&mut Rng::new(1, special.kind, index));
-                let (refusal, _) = read(&chart);
-                let due = special.refusal.unwrap_or(refusal);
-                assert_eq!(refusal, due, "{}", special.kind);
-            }
-        }
+        numbers_are_due(&SPECIALS, |chart| read(chart).0);
     }
 
     /// So that a run of a hundred charts, of which 33 are special, meets them.

@@ -4,7 +4,7 @@ use native.Mathlib.Omega.{arith}
 use mathlib.Core.Path.{ap}
 use mathlib.Core.Bool.{Bool, not}
 use mathlib.Core.List.{List}
-use Rattle.graphs.specs.Rows.{PassedUpTo, passed-none, passed-next, passed-all, failed-at}
+use Rattle.laws.specs.Sums.Below.{PassedBelow, below-start, below-next, below-all, below-fails}
 use Rattle.model.specs.Layouts.{loopless}
 use Rattle.model.specs.Crossings.{linked}
 use Rattle.graphs.proofs.rows.loopless.Statement.{statement}
@@ -14,29 +14,29 @@ abbrev passes : List ℕ → ℕ → Bool
 passes adj v = not (linked adj v v)
 
 abbrev Inv-loop : tie.InvT-loop
-Inv-loop n adjacency v₀ v = PassedUpTo (passes adjacency) n v
+Inv-loop n adjacency v₀ v = PassedBelow (passes adjacency) n v
 
 abbrev μ-loop : tie.MeasureT-loop
 μ-loop n adjacency v₀ v = n - v
 
 loop-holds : tie.Need-loop-holds Inv-loop μ-loop
-loop-holds c = passed-none
+loop-holds c = below-start
 
 returns : tie.Need-returns Inv-loop μ-loop
 unfolding loopless linked
 returns c =
     let turn = c .before .before .before in
-    failed-at (turn .before .loop .inv) (turn .loop-test .taken) (ap not (c .before .is-set .ensures)) (ap not (c .if1 .taken))
+    below-fails (turn .before .loop .inv) (turn .loop-test .taken) (ap not (c .before .is-set .ensures)) (ap not (c .if1 .taken))
 
 loop-again : tie.Need-loop-again Inv-loop μ-loop
 unfolding linked
 loop-again c =
     let turn = c .before .before .before in
-    passed-next (turn .before .loop .inv) (turn .loop-test .taken) (ap not (c .before .is-set .ensures)) (ap not (c .if1 .left))
+    below-next (turn .before .loop .inv) (turn .loop-test .taken) (ap not (c .before .is-set .ensures)) (ap not (c .if1 .left))
 
 returns-2 : tie.Need-returns-2 Inv-loop μ-loop
 unfolding loopless
-returns-2 c = passed-all (c .before .loop .inv) (c .loop-test .left)
+returns-2 c = below-all (c .before .loop .inv) (c .loop-test .left)
 
 pub loopless-spec : {M : Type 1} → statement M
 loopless-spec =
