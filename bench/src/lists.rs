@@ -94,7 +94,8 @@ impl Maker {
         }
     }
 
-    /// Two vertices that are linked hereafter, if they can be.
+    /// Two vertices that are held to be linked hereafter, if they can be; with the
+    /// weight 0 they aren't.
     fn link(&mut self) -> (u64, u64) {
         let (a, b) = (self.vertex(), self.vertex());
         let edge = (a.min(b), a.max(b));

@@ -11,7 +11,7 @@
 #define AT(type, field) printf(#type "." #field " %zu\n", offsetof(type, field))
 #define REFUSAL(name) printf("%u " #name " %s\n", RL_##name, rl_refusal_text(RL_##name))
 
-int main(void)
+static void layouts(void)
 {
     SIZE(rl_layout);
     AT(rl_layout, n);
@@ -22,6 +22,11 @@ int main(void)
     SIZE(rl_edge);
     AT(rl_edge, low);
     AT(rl_edge, high);
+}
+
+/* What calls answer that change the layout. */
+static void changes(void)
+{
     SIZE(rl_vertex);
     AT(rl_vertex, refusal);
     AT(rl_vertex, vertex);
@@ -43,6 +48,11 @@ int main(void)
     AT(rl_convergence, rounds);
     AT(rl_convergence, converged);
     AT(rl_convergence, optima);
+}
+
+/* What calls answer that only read it, and what a list of calls does. */
+static void reads(void)
+{
     SIZE(rl_counted);
     AT(rl_counted, refusal);
     AT(rl_counted, count);
@@ -61,6 +71,10 @@ int main(void)
     AT(rl_played, refusal);
     AT(rl_played, layout);
     AT(rl_played, calls);
+}
+
+static void refusals(void)
+{
     REFUSAL(CHART_TOO_LONG);
     REFUSAL(CHART_FIELDS);
     REFUSAL(CHART_TAGS);
@@ -85,5 +99,13 @@ int main(void)
     REFUSAL(CHART_WEIGHTS);
     REFUSAL(WEIGHT_OUT_OF_RANGE);
     REFUSAL(GRAPH6_WEIGHTS);
+}
+
+int main(void)
+{
+    layouts();
+    changes();
+    reads();
+    refusals();
     return 0;
 }

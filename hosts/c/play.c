@@ -131,6 +131,12 @@ static bool play_start(rl_layout *l, list *rest, uint64_t length, const char *na
     return true;
 }
 
+static void play_round(rl_layout *l)
+{
+    rl_round round = rl_sifting_round(l);
+    printf("round %u %" PRIu64 " %u %u", round.refusal, round.reduction, round.moved, round.optima);
+}
+
 static void play_converge(rl_layout *l, uint64_t limit)
 {
     rl_convergence run = rl_converge(l, limit < UINT32_MAX ? (uint32_t)limit : UINT32_MAX);
@@ -199,17 +205,10 @@ static void play_first_crossing(const rl_layout *l)
         printf(" %s", crossing.refusal == RL_ACCEPTED ? "none" : "refused");
 }
 
-/* Makes one call and prints its name, refusal code and answers; false if the
- * op is none. */
-static bool play_call(rl_layout *l, list *rest, record r)
+/* A call that changes the layout; false if the op is none. */
+static bool play_change(rl_layout *l, record r)
 {
     switch (r.op) {
-    case 0:
-        *l = rl_empty();
-        printf("empty 0");
-        return true;
-    case 1:
-        return play_start(l, rest, r.a, "chart", rl_read_chart);
     case 16: {
         rl_vertex added = rl_add_vertex(l);
         printf("add %u %zu", added.refusal, added.vertex);
@@ -234,15 +233,21 @@ static bool play_call(rl_layout *l, list *rest, record r)
         printf("sift %u %" PRIu64 " %u", sifted.refusal, sifted.reduction, sifted.optima);
         return true;
     }
-    case 22: {
-        rl_round round = rl_sifting_round(l);
-        printf("round %u %" PRIu64 " %u %u", round.refusal, round.reduction, round.moved,
-               round.optima);
+    case 22:
+        play_round(l);
         return true;
-    }
     case 23:
         play_converge(l, r.a);
         return true;
+    default:
+        return false;
+    }
+}
+
+/* A call that only reads the layout; false if the op is none. */
+static bool play_read(const rl_layout *l, record r)
+{
+    switch (r.op) {
     case 24: {
         rl_counted counted = rl_count(l);
         printf("count %u %" PRIu64, counted.refusal, counted.count);
@@ -257,8 +262,6 @@ static bool play_call(rl_layout *l, list *rest, record r)
     case 27:
         play_write(l, r, "write", rl_write_chart);
         return true;
-    case 28:
-        return play_start(l, rest, r.a, "import", rl_import_graph6);
     case 29:
         play_write(l, r, "export", rl_export_graph6);
         return true;
@@ -267,6 +270,24 @@ static bool play_call(rl_layout *l, list *rest, record r)
         return true;
     default:
         return false;
+    }
+}
+
+/* Makes one call and prints its name, refusal code and answers; false if the
+ * op is none, or its bytes are not all there. */
+static bool play_call(rl_layout *l, list *rest, record r)
+{
+    switch (r.op) {
+    case 0:
+        *l = rl_empty();
+        printf("empty 0");
+        return true;
+    case 1:
+        return play_start(l, rest, r.a, "chart", rl_read_chart);
+    case 28:
+        return play_start(l, rest, r.a, "import", rl_import_graph6);
+    default:
+        return play_change(l, r) || play_read(l, r);
     }
 }
 

@@ -133,7 +133,8 @@ static void refused_imports(void)
     }
 }
 
-static void changes(void)
+/* Vertices, edges and moves. */
+static void edits(void)
 {
     rl_layout l = first();
     rl_vertex added = rl_add_vertex(&l);
@@ -147,7 +148,16 @@ static void changes(void)
     HOLDS(rl_move_after(&l, 4, 0) == RL_ACCEPTED && l.order[1] == 4 && l.order[2] == 1);
     HOLDS(rl_move_after(&l, 5, 0) == RL_NO_SUCH_VERTEX);
 
-    l = first();
+    l = rl_empty();
+    for (size_t v = 0; v < RL_PLACES; v++)
+        HOLDS(rl_add_vertex(&l).vertex == v);
+    HOLDS(rl_add_vertex(&l).refusal == RL_NO_ROOM && l.n == RL_PLACES);
+}
+
+/* New orders. */
+static void orders(void)
+{
+    rl_layout l = first();
     rl_sifted sifted = rl_sift(&l, 0);
     HOLDS(sifted.refusal == RL_ACCEPTED && sifted.reduction == 1 && l.order[0] == 1);
     HOLDS(sifted.optima == 2);
@@ -172,11 +182,6 @@ static void changes(void)
     rl_tally laid = rl_greedy_append(&l, 3);
     HOLDS(laid.refusal == RL_ACCEPTED && laid.tally == l.count);
     HOLDS(rl_greedy_append(&l, 4).refusal == RL_NO_SUCH_VERTEX);
-
-    l = rl_empty();
-    for (size_t v = 0; v < RL_PLACES; v++)
-        HOLDS(rl_add_vertex(&l).vertex == v);
-    HOLDS(rl_add_vertex(&l).refusal == RL_NO_ROOM && l.n == RL_PLACES);
 }
 
 /* Complete graphs of up to four vertices: every candidate place has the least
@@ -580,16 +585,12 @@ static void invalid_weights(void)
     HOLDS(rl_is_valid(&l));
 }
 
-/* Fields of any content: refused, and left. */
-static void invalid(void)
+/* Fields of any content: refused by calls that would change them, and left. */
+static void invalid_changes(void)
 {
     rl_layout l;
     memset(&l, 0xFF, sizeof l);
     rl_layout before = l;
-    uint8_t buffer[RL_PLACES];
-    uint64_t table[RL_PLACES];
-    memset(buffer, 77, sizeof buffer);
-    memset(table, 77, sizeof table);
     HOLDS(!rl_is_valid(&l));
     rl_vertex added = rl_add_vertex(&l);
     HOLDS(added.refusal == RL_INVALID_LAYOUT && added.vertex == 0);
@@ -607,6 +608,19 @@ static void invalid(void)
     rl_convergence run = rl_converge(&l, 50);
     HOLDS(run.refusal == RL_INVALID_LAYOUT && run.reduction == 0 && run.rounds == 0 && !run.converged);
     HOLDS(run.optima == 0);
+    HOLDS(same(&l, &before));
+}
+
+/* Refused by calls that only read them, and what is lent left too. */
+static void invalid_reads(void)
+{
+    rl_layout l;
+    memset(&l, 0xFF, sizeof l);
+    rl_layout before = l;
+    uint8_t buffer[RL_PLACES];
+    uint64_t table[RL_PLACES];
+    memset(buffer, 77, sizeof buffer);
+    memset(table, 77, sizeof table);
     rl_counted counted = rl_count(&l);
     HOLDS(counted.refusal == RL_INVALID_LAYOUT && counted.count == 0);
     HOLDS(rl_order(&l, buffer, sizeof buffer) == RL_INVALID_LAYOUT);
@@ -640,27 +654,13 @@ static void listing(void)
     HOLDS(rl_list_chart(chart, 0, out, sizeof out) == 10 && memcmp(out, "refused 3\n", 10) == 0);
 }
 
-/* A list from a chart or graph6 of the first layout. */
-static void list_from(uint8_t origin, const uint8_t *start, size_t start_length)
-{
-    /* A weight goes modulo 256. */
-    static const uint64_t calls[][RL_CALL_NUMBERS] = {
-        {RL_CALL_ADD_VERTEX}, {RL_CALL_ADD_EDGE, 4, 1, 256 + 9}, {RL_CALL_ADD_EDGE, 4, 4, 1},
-        {RL_CALL_ADD_EDGE, 4, 2, 256}, {RL_CALL_SIFT, 2}, {RL_CALL_SIFTING_ROUND},
-        {RL_CALL_CONVERGE, 50, 0, 7}, {99}, {RL_CALL_ADD_VERTEX},
-    };
-    static const size_t length = sizeof calls / sizeof **calls;
-    /* The table for seven calls, and one number more. */
-    enum { CALLS = 7, TABLE = CALLS * RL_ANSWER_NUMBERS };
-    uint64_t answers[TABLE + 1];
-    for (size_t i = 0; i <= TABLE; i++)
-        answers[i] = 77;
-    rl_played played = rl_play(origin, start, start_length, *calls, length, answers, TABLE - 1);
-    HOLDS(played.refusal == RL_BUFFER_TOO_SHORT && played.calls == 0 && played.layout.n == 4);
-    HOLDS(answers[0] == 77);
-    played = rl_play(origin, start, start_length, *calls, length, answers, TABLE + 1);
-    HOLDS(played.refusal == RL_ACCEPTED && played.calls == CALLS && answers[TABLE] == 77);
+/* The calls that list_from plays, and the numbers that they answer. */
+enum { CALLS = 7, TABLE = CALLS * RL_ANSWER_NUMBERS };
 
+/* The same calls one after another, on the first layout: what they lead to, and
+ * their answers as a list writes them. */
+static rl_layout called(uint64_t answers[CALLS][RL_ANSWER_NUMBERS])
+{
     rl_layout l = first();
     rl_vertex added = rl_add_vertex(&l);
     uint8_t joined = rl_add_edge(&l, 4, 1, 9);
@@ -669,6 +669,7 @@ static void list_from(uint8_t origin, const uint8_t *start, size_t start_length)
     rl_sifted sifted = rl_sift(&l, 2);
     rl_round round = rl_sifting_round(&l);
     rl_convergence run = rl_converge(&l, 50);
+    HOLDS(joined == RL_ACCEPTED && refused == RL_SAME_VERTEX && weightless == RL_WEIGHT_OUT_OF_RANGE);
     const uint64_t due[CALLS][RL_ANSWER_NUMBERS] = {
         {added.refusal, added.vertex},
         {joined},
@@ -678,9 +679,33 @@ static void list_from(uint8_t origin, const uint8_t *start, size_t start_length)
         {round.refusal, round.reduction, round.moved, round.optima},
         {run.refusal, run.reduction, run.rounds, run.converged, run.optima},
     };
-    HOLDS(memcmp(answers, due, sizeof due) == 0);
-    HOLDS(joined == RL_ACCEPTED && refused == RL_SAME_VERTEX);
-    HOLDS(weightless == RL_WEIGHT_OUT_OF_RANGE && same(&l, &played.layout));
+    memcpy(answers, due, sizeof due);
+    return l;
+}
+
+/* A list from a chart or graph6 of the first layout. */
+static void list_from(uint8_t origin, const uint8_t *start, size_t start_length)
+{
+    /* A weight goes modulo 256, and the list ends at a call that is none. */
+    static const uint64_t calls[][RL_CALL_NUMBERS] = {
+        {RL_CALL_ADD_VERTEX}, {RL_CALL_ADD_EDGE, 4, 1, 256 + 9}, {RL_CALL_ADD_EDGE, 4, 4, 1},
+        {RL_CALL_ADD_EDGE, 4, 2, 256}, {RL_CALL_SIFT, 2}, {RL_CALL_SIFTING_ROUND},
+        {RL_CALL_CONVERGE, 50, 0, 7}, {99}, {RL_CALL_ADD_VERTEX},
+    };
+    static const size_t length = sizeof calls / sizeof **calls;
+    /* The table, and one number more. */
+    uint64_t answers[TABLE + 1];
+    for (size_t i = 0; i <= TABLE; i++)
+        answers[i] = 77;
+    rl_played played = rl_play(origin, start, start_length, *calls, length, answers, TABLE - 1);
+    HOLDS(played.refusal == RL_BUFFER_TOO_SHORT && played.calls == 0 && played.layout.n == 4);
+    HOLDS(answers[0] == 77);
+    played = rl_play(origin, start, start_length, *calls, length, answers, TABLE + 1);
+    HOLDS(played.refusal == RL_ACCEPTED && played.calls == CALLS && answers[TABLE] == 77);
+
+    uint64_t due[CALLS][RL_ANSWER_NUMBERS];
+    rl_layout l = called(due);
+    HOLDS(memcmp(answers, due, sizeof due) == 0 && same(&l, &played.layout));
 }
 
 static void lists(void)
@@ -719,7 +744,8 @@ int main(void)
     starts();
     imports();
     refused_imports();
-    changes();
+    edits();
+    orders();
     optima();
     reads();
     writes();
@@ -736,7 +762,8 @@ int main(void)
     refused_weights();
     exports_no_weights();
     invalid_weights();
-    invalid();
+    invalid_changes();
+    invalid_reads();
     listing();
     lists();
     texts();

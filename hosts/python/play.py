@@ -32,7 +32,9 @@ def numbers(values: List[int]) -> str:
 
 def changed(now: Sequence[int], before: Sequence[int]) -> Iterator[Tuple[int, int]]:
     """The number and the value of each entry that differs from the one before."""
-    return ((i, entry) for i, (entry, former) in enumerate(zip(now, before)) if entry != former)
+    # Most lines change nothing: that is quicker to tell of all entries at once.
+    entries = enumerate(zip(now, before)) if now != before else ()
+    return ((i, entry) for i, (entry, former) in entries if entry != former)
 
 
 def layout_text(now: Fields, before: Fields) -> str:

@@ -26,6 +26,7 @@ import enum
 import operator
 import os
 from array import array
+from collections.abc import Mapping, Set
 from ctypes import c_bool, c_char_p, c_size_t, c_uint8, c_uint32, c_uint64
 from pathlib import Path
 from typing import (
@@ -67,6 +68,9 @@ ANSWER_NUMBERS = 5
 
 #: The limit of sifting rounds where none is given.
 LIMIT = 50
+
+#: The most characters that a message shows of something that was given.
+_SHOWN = 80
 
 Edge = Tuple[int, int]
 
@@ -268,7 +272,21 @@ def _load() -> ctypes.CDLL:
         function = getattr(library, name)
         function.restype = answer
         function.argtypes = arguments
+    if not _fits(library):
+        raise ImportError(f"{path} has layouts of another size: it is of another version than this module")
     return library
+
+
+def _fits(library: Any) -> bool:
+    """Whether the library's layouts have the size of Fields.
+
+    A refused chart leaves the empty layout, whose bytes are all 0: in what is
+    lent here, which has room for two, that is to be the first one and no more.
+    """
+    size = ctypes.sizeof(Fields)
+    lent = (Fields * 2).from_buffer_copy(b"\xff" * (2 * size))
+    library.rl_read_chart(lent[0], b"", 0)
+    return bytes(lent) == bytes(size) + b"\xff" * size
 
 
 _library = _load()
@@ -279,9 +297,19 @@ def _accept(code: int) -> None:
         raise Refused(code)
 
 
+def _shown(given: Any) -> str:
+    """What a message shows of what was given: one line, cut where it is long."""
+    try:
+        text = " ".join(repr(given).split())
+    except Exception:
+        # As an integer of more than 4,300 digits.
+        text = f"<{type(given).__name__} that cannot be shown>"
+    return text if len(text) <= _SHOWN else f"{text[:_SHOWN]}..."
+
+
 def _wrong_weight(edge: str, weight: Any) -> Refused:
     """The refusal of an edge's weight, which says what it is."""
-    return Refused(Refusal.WEIGHT_OUT_OF_RANGE, f"(edge {edge} weighs {weight!r})")
+    return Refused(Refusal.WEIGHT_OUT_OF_RANGE, f"(edge {edge} weighs {_shown(weight)})")
 
 
 def _number(value: int, most: int) -> int:
@@ -300,7 +328,12 @@ def _vertex(value: int) -> int:
 
 def _weight(value: Any) -> int:
     """A weight as the library takes it; what is no whole number from 1 to 255 becomes 0, which no call accepts."""
-    return int(value) if value in range(1, 256) else 0
+    try:
+        weight = int(value)
+        return weight if weight == value and 1 <= weight <= 255 else 0
+    except Exception:
+        # What cannot be made a number, or not be compared with one.
+        return 0
 
 
 def _bytes(held: bytes) -> bytes:
@@ -384,20 +417,19 @@ class Row(NamedTuple):
 class Layout:
     """A circular layout (document 01: ring), lent to each call.
 
-    Layout() is the one without vertices. Vertices are the numbers 0 to n − 1.
-    Threads do not share a layout: a call runs without the interpreter's lock.
+    Layout() is the one without vertices, Layout(fields) holds these fields, valid
+    or not. Vertices are the numbers 0 to n − 1. Threads do not share a layout: a
+    call runs without the interpreter's lock.
     """
 
-    def __init__(self) -> None:
+    def __init__(self, fields: Optional[Fields] = None) -> None:
         #: The fields, to be read, or set to anything.
-        self.fields: Fields = _library.rl_empty()
+        self.fields: Fields = _library.rl_empty() if fields is None else fields
 
     @classmethod
     def from_chart(cls, chart: bytes) -> "Layout":
         """The layout of a chart, with its true crossings."""
-        layout = cls()
-        layout.read_chart(chart)
-        return layout
+        return cls(_read(_library.rl_read_chart, chart))
 
     @classmethod
     def from_graph6(cls, graph6: bytes) -> "Layout":
@@ -408,9 +440,7 @@ class Layout:
         order is 0, 1, 2 and so on, every edge weighs 1, and the count is the true
         crossings.
         """
-        layout = cls()
-        layout.import_graph6(_bare_graph6(_bytes(graph6)))
-        return layout
+        return cls(_read(_library.rl_import_graph6, _bare_graph6(_bytes(graph6))))
 
     @classmethod
     def from_edges(
@@ -425,45 +455,33 @@ class Layout:
         a set: a pair that comes again, either way round, is the same edge, and is
         to have the same weight. Without an order it is rising number; without n,
         that is the order's length, or the least that the edges allow.
-        """
-        return cls._from_weights(_weights(map(_given, edges), str), n, order)
 
-    @classmethod
-    def _from_weights(cls, weights: Dict[Edge, int], n: Optional[int], order: Optional[Sequence[int]]) -> "Layout":
-        """The same from each edge's weight, the lower end first."""
+        Raises Refused for more than 64 vertices (16), an end that is not there (12),
+        a vertex joined to itself (13) and last a weight that is no whole number from
+        1 to 255 (25); ValueError where the order does not hold each vertex once, and
+        last for an edge of two weights.
+        """
+        given = _listed(edges)
         if n is None:
-            n = len(order) if order is not None else 1 + max((high for _, high in weights), default=-1)
-        if n < 0:
-            raise ValueError(f"there are not {n} vertices")
-        if n > PLACES:
-            raise Refused(Refusal.NO_ROOM, f"({n} vertices)")
-        for low, high in weights:
-            if not 0 <= low <= high < n:
-                raise Refused(Refusal.NO_SUCH_VERTEX, f"(edge {low}-{high}, n {n})")
-            if low == high:
-                raise Refused(Refusal.SAME_VERTEX, f"(edge {low}-{high})")
+            n = len(order) if order is not None else 1 + max(_ends(given), default=-1)
+        _ask_room(n)
+        _ask_ends(range(n), given)
         places = list(range(n)) if order is None else list(order)
         if sorted(places) != list(range(n)):
             raise ValueError(f"the order does not hold each of the {n} vertices once")
-        return cls.from_chart(_chart(n, weights, places))
+        return cls.from_chart(_chart(n, _weights(range(n), given), places))
 
     def copy(self) -> "Layout":
         """Another layout with the same fields."""
-        twin = Layout()
-        twin.fields = Fields.from_buffer_copy(self.fields)
-        return twin
+        return Layout(Fields.from_buffer_copy(self.fields))
 
     def __eq__(self, other: object) -> bool:
         """Whether all fields are the same."""
         if not isinstance(other, Layout):
             return NotImplemented
-        return self._key() == other._key()
+        return bytes(self.fields) == bytes(other.fields)
 
     __hash__ = None  # type: ignore[assignment]
-
-    def _key(self) -> Tuple[int, List[int], List[int], bytes, int]:
-        fields = self.fields
-        return fields.n, fields.order[:], fields.adjacency[:], bytes(fields.weights), fields.count
 
     def __repr__(self) -> str:
         return f"<Layout of {self.fields.n} vertices, carried count {self.fields.count}>"
@@ -472,18 +490,15 @@ class Layout:
 
     def read_chart(self, chart: bytes) -> None:
         """Reads a chart and takes its layout over; a refused one leaves this layout as it was."""
-        self._read(_library.rl_read_chart, chart)
+        self._take(_read(_library.rl_read_chart, chart))
 
     def import_graph6(self, graph6: bytes) -> None:
         """Imports a graph6, one without header or line end, and takes its layout over; a refused one leaves this layout as it was."""
-        self._read(_library.rl_import_graph6, graph6)
+        self._take(_read(_library.rl_import_graph6, graph6))
 
-    def _read(self, call: Callable[..., int], given: bytes) -> None:
-        """Makes a call that reads a layout from bytes, lent a new one: a refused call leaves the empty layout there."""
-        held = _bytes(given)
-        read = Fields()
-        _accept(call(read, held, len(held)))
-        ctypes.pointer(self.fields)[0] = read
+    def _take(self, fields: Fields) -> None:
+        """Takes over what other fields hold."""
+        ctypes.pointer(self.fields)[0] = fields
 
     def add_vertex(self) -> int:
         """Adds a vertex without edges at the end of the order (document 01: add).
@@ -495,7 +510,7 @@ class Layout:
         return answer.vertex
 
     def add_edge(self, a: int, b: int, weight: int = 1) -> None:
-        """Joins two vertices by an edge (document 01: link) of a weight from 1 to 255."""
+        """Joins two vertices by an edge (document 01: link) of a weight from 1 to 255, which is asked last."""
         refusal = _library.rl_add_edge(self.fields, _vertex(a), _vertex(b), _weight(weight))
         if refusal == Refusal.WEIGHT_OUT_OF_RANGE:
             raise _wrong_weight(f"{a}-{b}", weight)
@@ -686,6 +701,14 @@ class Layout:
         return Row(len(order), edges, before, self.count(), run.rounds, run.converged, order)
 
 
+def _read(call: Callable[..., int], given: bytes) -> Fields:
+    """What a call reads from bytes, lent new fields: a refused call leaves the empty layout there."""
+    held = _bytes(given)
+    read = Fields()
+    _accept(call(read, held, len(held)))
+    return read
+
+
 def _written(write: Callable[[_Lent], int], room: _Lent) -> _Lent:
     """What is written to the start of a buffer or table that has room for it."""
     length = write(room)
@@ -712,21 +735,59 @@ def _given(edge: Any) -> Tuple[Any, Any, Any]:
     parts = tuple(edge)
     if len(parts) == 2:
         return parts[0], parts[1], 1
-    if len(parts) == 3:
+    # A set has no last one.
+    if len(parts) == 3 and not isinstance(edge, (Set, Mapping)):
         return parts[0], parts[1], parts[2]
-    raise ValueError(f"an edge is a pair of vertices, or a triple with a weight, not {edge!r}")
+    raise ValueError(f"an edge is two vertices, or a tuple of two vertices and a weight, not {_shown(edge)}")
 
 
-def _weights(edges: Iterable[Tuple[int, int, Any]], named: Callable[[int], str]) -> Dict[Edge, int]:
-    """The weight of each edge, its lower end first; what is raised names the vertices in some way."""
+def _listed(edges: Iterable[Any]) -> List[Tuple[Any, Any, Any]]:
+    """Edges with their weights.
+
+    A networkx edge view is a set, and maps each edge to its attributes. A third
+    part of an edge is then its key in a multigraph, and no weight.
+    """
+    if not isinstance(edges, Mapping):
+        return [_given(edge) for edge in edges]
+    if not isinstance(edges, Set):
+        raise ValueError("edges with weights are tuples (a, b, weight), not a mapping")
+    return [(a, b, 1) for a, b, *_ in edges]
+
+
+def _ends(edges: Iterable[Tuple[Any, Any, Any]]) -> List[Any]:
+    """The two ends of each edge."""
+    return [end for a, b, _ in edges for end in (a, b)]
+
+
+def _ask_room(n: int) -> None:
+    """Asks whether there can be so many vertices."""
+    if n < 0:
+        raise ValueError(f"there are not {_shown(n)} vertices")
+    if n > PLACES:
+        raise Refused(Refusal.NO_ROOM, f"({_shown(n)} vertices)")
+
+
+def _ask_ends(labels: Sequence[Any], edges: Iterable[Tuple[int, int, Any]]) -> None:
+    """Asks whether the ends of each edge are there, and differ; messages name vertices by their labels."""
+    n = len(labels)
+    for a, b, _ in edges:
+        if not (0 <= a < n and 0 <= b < n):
+            raise Refused(Refusal.NO_SUCH_VERTEX, f"(edge {_shown(a)}-{_shown(b)}, n {n})")
+        if a == b:
+            raise Refused(Refusal.SAME_VERTEX, f"({_shown(labels[a])} is joined to itself)")
+
+
+def _weights(labels: Sequence[Any], edges: Iterable[Tuple[int, int, Any]]) -> Dict[Edge, int]:
+    """The weight of each edge, its lower end first; nothing but the weights is left to ask."""
     weights: Dict[Edge, int] = {}
+    named = lambda a, b: f"{_shown(labels[a])}-{_shown(labels[b])}"
     for a, b, given in edges:
         weight = _weight(given)
         if weight == 0:
-            raise _wrong_weight(f"{named(a)}-{named(b)}", given)
+            raise _wrong_weight(named(a, b), given)
         first = weights.setdefault((min(a, b), max(a, b)), weight)
         if first != weight:
-            raise ValueError(f"edge {named(a)}-{named(b)} comes with two weights, {first} and {weight}")
+            raise ValueError(f"edge {named(a, b)} comes with two weights, {first} and {weight}")
     return weights
 
 
@@ -746,7 +807,8 @@ def _chart(n: int, weights: Dict[Edge, int], order: Iterable[int]) -> bytes:
 class Graph(Protocol):
     """A graph as networkx has it: nodes() are its vertices, edges() its pairs.
 
-    edges(data=NAME, default=1) are triples with the value of an attribute.
+    edges(data=NAME, default=OTHER) are triples with the value of an attribute,
+    or OTHER where an edge lacks it.
     """
 
     @property
@@ -764,25 +826,45 @@ def _parts(
     graph: GraphOrEdges, weight: Optional[str]
 ) -> Tuple[List[Hashable], List[Tuple[Hashable, Hashable, Any]]]:
     """The vertices that a graph names itself, in its own sequence, and its edges with their weights."""
-    nodes: List[Hashable] = []
-    edges: Any = graph
-    if hasattr(graph, "nodes"):
-        nodes = list(graph.nodes())
-        edges = graph.edges() if weight is None else graph.edges(data=weight, default=1)
-    elif weight is not None:
+    given: Any = graph
+    if hasattr(given, "nodes"):
+        edges = _listed(given.edges()) if weight is None else _attributed(given, weight)
+        return list(given.nodes()), edges
+    if weight is not None:
         raise ValueError(f"only a graph has an attribute {weight!r}: edges by themselves are triples with a weight")
-    return nodes, [_given(edge) for edge in edges]
+    return [], _listed(given)
 
 
-def _numbered(labels: Sequence[Hashable], edges: Sequence[Tuple[Hashable, Hashable, Any]]) -> Layout:
-    """The layout of the vertices in this order, each numbered by its place, with these edges."""
+def _attributed(graph: Graph, name: str) -> List[Tuple[Hashable, Hashable, Any]]:
+    """A graph's edges with the weights that an attribute has, 1 where an edge lacks it."""
+    lacking = object()
+    edges = _listed(graph.edges(data=name, default=lacking))
+    if edges and all(weight is lacking for _, _, weight in edges):
+        raise ValueError(f"no edge of the graph has an attribute {name!r}")
+    return [(a, b, 1 if weight is lacking else weight) for a, b, weight in edges]
+
+
+def _numbered(
+    labels: Sequence[Hashable], edges: Iterable[Tuple[Hashable, Hashable, Any]]
+) -> List[Tuple[int, int, Any]]:
+    """The edges between the numbers of their ends, which are the labels' places; asks whether the ends differ."""
     number = {label: v for v, label in enumerate(labels)}
-    for a, b, _ in edges:
-        if number[a] == number[b]:
-            raise Refused(Refusal.SAME_VERTEX, f"({a!r} is joined to itself)")
-    numbers = ((number[a], number[b], weight) for a, b, weight in edges)
-    weights = _weights(numbers, lambda v: repr(labels[v]))
-    return Layout._from_weights(weights, len(labels), None)
+    numbers = [(number[a], number[b], weight) for a, b, weight in edges]
+    _ask_ends(labels, numbers)
+    return numbers
+
+
+def _ask_run(labels: Sequence[Hashable], start: Optional[Hashable], limit: int) -> None:
+    """Asks whether the start is there, if there is one, and whether the limit is in its range."""
+    if start is not None and start not in labels:
+        raise Refused(Refusal.NO_SUCH_VERTEX, f"({_shown(start)} is not there)")
+    Layout().converge(limit)
+
+
+def _held(labels: Sequence[Hashable], edges: Iterable[Tuple[int, int, Any]]) -> Layout:
+    """The layout of the labelled vertices in rising number; nothing but the weights is left to ask."""
+    n = len(labels)
+    return Layout.from_chart(_chart(n, _weights(labels, edges), range(n)))
 
 
 def layout(
@@ -798,8 +880,8 @@ def layout(
     hashable kind, or triples with a weight. Edges are taken as a set of
     undirected ones: a pair that comes again, either way round, is the same edge,
     and is to have the same weight. Of a networkx graph, `weight` names the
-    attribute that has the weights; an edge without it weighs 1, and without a
-    name every edge does.
+    attribute that has the weights; an edge that lacks it weighs 1, and without a
+    name every edge does, as those of an edge view, G.edges, do.
 
     Vertices are numbered from 0, and the order to begin with, of which `before`
     counts the crossings, is that of their numbers: a networkx graph's own
@@ -809,16 +891,18 @@ def layout(
     from that vertex makes the order to begin with. Then sifting rounds run up to
     the limit. The row's order holds the vertices as they were given.
 
-    Raises Refused for a vertex joined to itself (13), for more than 64 vertices
-    (16), for a start that is not there (12), and for a weight that is no whole
-    number from 1 to 255 (25).
+    Raises Refused for more than 64 vertices (16), a vertex joined to itself (13), a
+    start that is not there (12), a limit out of range (17) and last a weight that is
+    no whole number from 1 to 255 (25); ValueError for a `weight` that no edge of the
+    graph has, or beside edges by themselves, and last for an edge of two weights.
     """
     nodes, edges = _parts(graph, weight)
-    labels = list(dict.fromkeys([*vertices, *nodes, *(end for a, b, _ in edges for end in (a, b))]))
-    held = _numbered(labels, edges)
+    labels = list(dict.fromkeys([*vertices, *nodes, *_ends(edges)]))
+    _ask_room(len(labels))
+    numbers = _numbered(labels, edges)
+    _ask_run(labels, start, limit)
+    held = _held(labels, numbers)
     if start is not None:
-        if start not in labels:
-            raise Refused(Refusal.NO_SUCH_VERTEX, f"({start!r} is not there)")
         held.greedy_append(labels.index(start))
     row = held.row(limit)
     return row._replace(order=[labels[v] for v in row.order])
@@ -859,18 +943,21 @@ def check_row(
     vertices once, the isolated ones too. Each vertex is sifted, in the order's own
     sequence, and the first one that moves gives the move, to its best place.
 
-    Raises ValueError where the order is none of the graph's, and Refused as
-    `layout` does.
+    Raises Refused as `layout` does (16, 13, 25); ValueError where the order lacks a
+    vertex of the graph or holds one twice, for a `weight` that no edge of the graph
+    has, or beside edges by themselves, and last for an edge of two weights.
     """
     nodes, edges = _parts(graph, weight)
     labels = list(order)
+    _ask_room(len(labels))
     places = set(labels)
+    for vertex in [*nodes, *_ends(edges)]:
+        if vertex not in places:
+            raise ValueError(f"the order does not hold {_shown(vertex)}")
+    numbers = _numbered(labels, edges)
     if len(places) < len(labels):
         raise ValueError("the order holds a vertex twice")
-    for vertex in [*nodes, *(end for a, b, _ in edges for end in (a, b))]:
-        if vertex not in places:
-            raise ValueError(f"the order does not hold {vertex!r}")
-    held = _numbered(labels, edges)
+    held = _held(labels, numbers)
     counted = held.count()
     return Checked(counted, counted == crossings, _better(held, labels))
 
@@ -894,16 +981,16 @@ def list_chart(chart: bytes) -> str:
     return bytes(out[:length]).decode("ascii")
 
 
-#: What each call of a list names.
-_NAMED: Dict[str, Tuple[str, ...]] = {
-    "add_vertex": (),
-    "add_edge": ("a", "b", "weight=1"),
-    "remove_edge": ("a", "b"),
-    "move_after": ("a", "b"),
-    "greedy_append": ("start",),
-    "sift": ("u",),
-    "sifting_round": (),
-    "converge": ("limit",),
+#: What each call of a list names; an edge that is added names its weight or not.
+_NAMED: Dict[str, Sequence[Tuple[str, ...]]] = {
+    "add_vertex": [()],
+    "add_edge": [("a", "b"), ("a", "b", "weight")],
+    "remove_edge": [("a", "b")],
+    "move_after": [("a", "b")],
+    "greedy_append": [("start",)],
+    "sift": [("u",)],
+    "sifting_round": [()],
+    "converge": [("limit",)],
 }
 
 #: The number of each call in a list.
@@ -947,19 +1034,24 @@ def _start(chart: Optional[bytes], graph6: Optional[bytes]) -> Tuple[int, bytes]
     return 0, b""
 
 
+def _form(name: str, named: Sequence[str]) -> str:
+    """How a call of a list is written."""
+    return f"({name!r},)" if not named else f"({', '.join([repr(name), *named])})"
+
+
 def _call_numbers(call: Sequence[Any]) -> List[int]:
     """The numbers of a call: which it is, and what it names."""
     if isinstance(call, str) or not call:
-        raise ValueError(f"a call is a name and what it names, as ('sift', 0), not {call!r}")
+        raise ValueError(f"a call is a name and what it names, as ('sift', 0), not {_shown(call)}")
     name, *named = call
     if name not in CALLS:
-        raise ValueError(f"there is no call {name!r}: the calls are {', '.join(CALLS)}")
-    if name == "add_edge" and len(named) == 2:
-        named.append(1)
-    if len(named) != len(_NAMED[name]):
-        due = ", ".join([repr(name), *_NAMED[name]]) + ("" if _NAMED[name] else ",")
-        raise ValueError(f"{tuple(call)!r} names {len(named)} numbers: the call is ({due})")
-    weight = _weight(named.pop()) if name == "add_edge" else 0
+        raise ValueError(f"there is no call {_shown(name)}: the calls are {', '.join(CALLS)}")
+    if len(named) not in map(len, _NAMED[name]):
+        due = " or ".join(_form(name, form) for form in _NAMED[name])
+        raise ValueError(f"{_shown(tuple(call))} names {len(named)} numbers: the call is {due}")
+    weight = 0
+    if name == "add_edge":
+        weight = _weight(named.pop()) if len(named) == 3 else 1
     return [*[CALLS[name], *map(_vertex, named), 0, 0][:3], weight]
 
 
@@ -970,9 +1062,10 @@ def play(
 
     A call is its name and what it names: ("add_vertex",), ("add_edge", 0, 1),
     ("add_edge", 0, 2, 255) with a weight, ("converge", 50). Refused calls may
-    stand anywhere among them; only a refused chart or graph6 raises Refused. The
-    graph6 is one without header or line end. Raises ValueError, and plays
-    nothing, where a call is none of CALLS or names too few or too many numbers.
+    stand anywhere among them, and answer their refusal code, as 25 for what is no
+    weight; only a refused chart or graph6 raises Refused. The graph6 is one
+    without header or line end. Raises ValueError, and plays nothing, where a call
+    is none of CALLS or names too few or too many numbers.
     """
     numbers = [number for call in calls for number in _call_numbers(call)]
     origin, held = _start(chart, graph6)
@@ -980,8 +1073,6 @@ def play(
     table = (c_uint64 * (len(numbers) // CALL_NUMBERS * ANSWER_NUMBERS))()
     played = _library.rl_play(origin, held, len(held), listed, len(listed), table, len(table))
     _accept(played.refusal)
-    result = Layout()
-    result.fields = played.layout
     starts = range(0, played.calls * ANSWER_NUMBERS, ANSWER_NUMBERS)
     rows = (table[start : start + ANSWER_NUMBERS] for start in starts)
-    return Played(result, [Answer(refusal, (a, b, c, d)) for refusal, a, b, c, d in rows])
+    return Played(Layout(played.layout), [Answer(refusal, (a, b, c, d)) for refusal, a, b, c, d in rows])

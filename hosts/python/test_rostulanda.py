@@ -1,5 +1,6 @@
 """Tests of the module rostulanda. That all answers are right is what the comparisons of play.py look at."""
 
+import ctypes
 import itertools
 import pathlib
 import random
@@ -7,7 +8,7 @@ import tempfile
 import unittest
 import zipfile
 from array import array
-from collections import Counter
+from collections import Counter, abc
 
 import rostulanda
 import wheel_of_library
@@ -338,6 +339,16 @@ class FromEdgesTest(unittest.TestCase):
             ([(0, 1, 256)], None, None, Refusal.WEIGHT_OUT_OF_RANGE),
             ([(0, 1, 2), (1, 0, 3)], None, None, None),
             ([(0, 1, 2), (0, 1)], None, None, None),
+            ({(0, 1): 5}, None, None, None),
+            ([{0, 1, 5}], None, None, None),
+            # Weights are asked last.
+            ([(1, 1, 0)], None, None, Refusal.SAME_VERTEX),
+            ([(0, 5, 0)], 5, None, Refusal.NO_SUCH_VERTEX),
+            ([(0, 64, 0)], None, None, Refusal.NO_ROOM),
+            ([(0, 1, 0)], 2, [0, 0], None),
+            ([(0, 1, 2), (0, 1, 3), (2, 2)], None, None, Refusal.SAME_VERTEX),
+            ([(0, 1, 2), (0, 1, 3), (0, 5)], 5, None, Refusal.NO_SUCH_VERTEX),
+            ([(0, 1, 2), (0, 1, 3), (0, 64)], None, None, Refusal.NO_ROOM),
         ):
             with self.assertRaises(ValueError) as caught:
                 Layout.from_edges(edges, n=n, order=order)
@@ -427,6 +438,71 @@ class WeightTest(RefusedCalls):
         layout.add_edge(0, 1, 2.0)
         self.assertEqual(layout.weight(1, 0), 2)
 
+    def test_what_cannot_be_compared_is_no_weight(self):
+        class Odd:
+            def __init__(self, equal=None, shown=None):
+                self.equal, self.shown = equal, shown
+
+            def __int__(self):
+                return 300
+
+            def __eq__(self, other):
+                if self.equal is None:
+                    raise ArithmeticError("not to be compared")
+                return self.equal
+
+            def __repr__(self):
+                return self.shown or object.__repr__(self)
+
+        long = "a long one, " * 9
+        for weight, shown in (
+            (2 + 0j, "(2+0j)"),
+            ([2], "[2]"),
+            (Odd(shown="odd"), "odd"),
+            (Odd(equal=True, shown="every number"), "every number"),
+            (Odd(shown="array([[1, 2],\n       [3, 4]])"), "array([[1, 2], [3, 4]])"),
+            (Odd(shown=long), long[:80] + "..."),
+            # Python itself does not show it, or all its digits.
+            (10**5000, rostulanda._shown(10**5000)),
+        ):
+            for call, arguments, edge in (
+                (self.heavy().add_edge, (0, 1, weight), "0-1"),
+                (Layout.from_edges, ([(0, 1, weight)],), "0-1"),
+                (rostulanda.layout, ([("a", "b", weight)],), "'a'-'b'"),
+                (rostulanda.check_row, ([("a", "b", weight)], "ab", 0), "'a'-'b'"),
+            ):
+                words = f"(edge {edge} weighs {shown})"
+                self.refuses(Refusal.WEIGHT_OUT_OF_RANGE, call, *arguments, words=words)
+            answers = rostulanda.play([("add_edge", 0, 1, weight)], CHART).answers
+            self.assertEqual(answers, [(Refusal.WEIGHT_OUT_OF_RANGE, (0, 0, 0, 0))])
+
+    def test_true_weighs_1_and_false_is_no_weight(self):
+        layout = Layout.from_edges([(0, 1, True)])
+        self.assertEqual(layout.weighted_edges(), [(0, 1, 1)])
+        words = "(edge 0-1 weighs False)"
+        self.refuses(Refusal.WEIGHT_OUT_OF_RANGE, Layout.from_edges, [(0, 1, False)], words=words)
+        layout.remove_edge(0, 1)
+        self.refuses(Refusal.WEIGHT_OUT_OF_RANGE, layout.add_edge, 0, 1, False, words=words)
+        layout.add_edge(0, 1, True)
+        self.assertEqual(layout.weight(0, 1), 1)
+
+    def test_weights_are_asked_last(self):
+        many = [(i, i + 1) for i in range(64)]
+        for wrong in ([("a", "b", 0)], [("a", "b", 2), ("b", "a", 3)]):
+            loop = [*wrong, ("c", "c")]
+            words = "'c' is joined to itself"
+            self.refuses(Refusal.SAME_VERTEX, rostulanda.layout, loop, words=words)
+            self.refuses(Refusal.SAME_VERTEX, rostulanda.check_row, loop, "abc", 0, words=words)
+            self.refuses(Refusal.NO_ROOM, rostulanda.layout, [*wrong, *many, (0, 0)], words="67 vertices")
+            order = ["a", "b", *range(65)]
+            self.refuses(Refusal.NO_ROOM, rostulanda.check_row, [*wrong, (0, 0)], order, 0, words="67 vertices")
+            self.refuses(Refusal.NO_SUCH_VERTEX, rostulanda.layout, wrong, (), 50, "c", words="'c' is not there")
+            self.refuses(Refusal.LIMIT_OUT_OF_RANGE, rostulanda.layout, wrong, (), 0)
+            for order, words in (("abb", "a vertex twice"), ("a", "does not hold 'b'")):
+                with self.assertRaises(ValueError) as caught:
+                    rostulanda.check_row(wrong, order, 0)
+                self.assertIn(words, str(caught.exception))
+
     def test_weights_in_charts(self):
         layout = self.heavy()
         chart = CHART + bytes([0x57, 0, 2, 200, 100])
@@ -491,19 +567,127 @@ class WeightTest(RefusedCalls):
         for n in (4, 7, 10):
             weights = random_weights(chance, n, 0.6)
             order = chance.sample(range(n), n)
-            counted = crossings(order, weights)
-            checked = rostulanda.check_row(triples(weights), order, counted)
-            self.assertEqual(checked[:2], (counted, True))
-            if checked.better:
-                u, after, reduction = checked.better
-                moved = [v for v in order if v != u]
-                moved.insert(moved.index(after) + 1, u)
-                self.assertEqual(crossings(moved, weights), counted - reduction)
+            self.checks(weights, order)
+            row = rostulanda.layout(triples(weights), vertices=order)
+            self.assertIsNone(self.checks(weights, row.order).better)
+
+    def checks(self, weights, order):
+        """What check_row says of an order, beside what each move of one vertex gives."""
+        counted = crossings(order, weights)
+        checked = rostulanda.check_row(triples(weights), order, counted)
+        self.assertEqual(checked[:2], (counted, True))
+
+        def reached(u, after):
+            moved = [v for v in order if v != u]
+            moved.insert(moved.index(after) + 1, u)
+            return crossings(moved, weights)
+
+        fewest = {u: min(reached(u, v) for v in order if v != u) for u in order}
+        first = next((u for u in order if fewest[u] < counted), None)
+        if first is None:
+            self.assertIsNone(checked.better)
+        else:
+            u, after, reduction = checked.better
+            self.assertEqual((u, counted - reduction), (first, fewest[first]))
+            self.assertEqual(reached(u, after), fewest[first])
+        return checked
 
     def test_edges_by_themselves_have_no_attribute(self):
         with self.assertRaises(ValueError) as caught:
             rostulanda.layout([("a", "b")], weight="weight")
         self.assertIn("triples with a weight", str(caught.exception))
+
+    def test_what_has_no_last_one_has_no_weight(self):
+        for edge in ({"a", "b", 5}, frozenset(["a", "b", 5]), {"a": 0, "b": 0, 5: 0}):
+            with self.assertRaises(ValueError) as caught:
+                rostulanda.layout([edge])
+            words = "^an edge is two vertices, or a tuple of two vertices and a weight, not .*$"
+            self.assertRegex(str(caught.exception), words)
+        row = rostulanda.layout([{"a", "b"}, frozenset("bc")])
+        self.assertEqual((row.vertices, row.edges), (3, 2))
+
+    def test_a_mapping_of_edges_is_no_list_of_them(self):
+        for given in ({("a", "b"): 5}, Counter([("a", "b")]), {"a": ["b"]}, {}):
+            for call in (lambda: rostulanda.layout(given), lambda: rostulanda.check_row(given, "ab", 0)):
+                with self.assertRaises(ValueError) as caught:
+                    call()
+                words = "edges with weights are tuples (a, b, weight), not a mapping"
+                self.assertEqual(str(caught.exception), words)
+
+    def test_a_key_of_a_multigraph_is_no_weight(self):
+        class Edges(abc.Set, abc.Mapping):
+            """An edge view as networkx has it of a multigraph: its edges with their keys, each with its attributes."""
+
+            held = {("a", "b", 7): {}, ("a", "b", 9): {}, ("b", "c", "key"): {}}
+
+            def __iter__(self):
+                return iter(self.held)
+
+            def __len__(self):
+                return len(self.held)
+
+            def __getitem__(self, edge):
+                return self.held[edge]
+
+        self.assertEqual(rostulanda.layout(Edges()), rostulanda.layout(["ab", "bc"]))
+        self.assertEqual(rostulanda.check_row(Edges(), "abc", 0), (0, True, None))
+
+    @unittest.skipIf(networkx is None, "networkx is not installed")
+    def test_edges_of_a_networkx_multigraph(self):
+        for kind in (networkx.MultiGraph, networkx.MultiDiGraph):
+            graph = kind()
+            for edge, key in ((("a", "c"), 5), (("b", "d"), 4), (("a", "c"), 6), (("b", "d"), "key")):
+                graph.add_edge(*edge, key=key, weight=3)
+            for given in (graph, graph.edges, graph.edges()):
+                self.assertEqual(rostulanda.layout(given, vertices="abcd").before, 1)
+            triples = graph.edges(data="weight", default=1)
+            self.assertEqual(rostulanda.layout(triples, vertices="abcd").before, 9)
+
+    @unittest.skipIf(networkx is None, "networkx is not installed")
+    def test_an_edge_of_a_networkx_graph_with_two_weights(self):
+        parallel = networkx.MultiGraph()
+        parallel.add_edge("a", "b", weight=2)
+        parallel.add_edge("a", "b", weight=3)
+        directed = networkx.DiGraph()
+        directed.add_edge("a", "b", weight=2)
+        directed.add_edge("b", "a", weight=3)
+        lacking = networkx.DiGraph()
+        lacking.add_edge("a", "b", weight=2)
+        lacking.add_edge("b", "a")
+        for graph, two in ((parallel, "2 and 3"), (directed, "2 and 3"), (lacking, "2 and 1")):
+            for call in (
+                lambda: rostulanda.layout(graph, weight="weight"),
+                lambda: rostulanda.check_row(graph, "ab", 0, weight="weight"),
+            ):
+                with self.assertRaises(ValueError) as caught:
+                    call()
+                self.assertRegex(str(caught.exception), f"^edge '[ab]'-'[ab]' comes with two weights, {two}$")
+            self.assertEqual(rostulanda.layout(graph).edges, 1)
+
+    def test_an_attribute_that_no_edge_has(self):
+        class Path:
+            """As networkx has a graph, of which some edges have an attribute."""
+
+            costs = {("a", "c"): 5, ("b", "d"): None}
+
+            def nodes(self):
+                return "abcd"
+
+            def edges(self, data=None, default=None):
+                if data is None:
+                    return list(self.costs)
+                return [(*edge, cost if data == "cost" and cost else default) for edge, cost in self.costs.items()]
+
+        self.assertEqual(rostulanda.layout(Path(), weight="cost").before, 5)
+        for call in (
+            lambda: rostulanda.layout(Path(), weight="coat"),
+            lambda: rostulanda.check_row(Path(), "abcd", 1, weight="coat"),
+        ):
+            with self.assertRaises(ValueError) as caught:
+                call()
+            self.assertEqual(str(caught.exception), "no edge of the graph has an attribute 'coat'")
+        Path.costs = {}
+        self.assertEqual(rostulanda.layout(Path(), weight="coat").before, 0)
 
     @unittest.skipIf(networkx is None, "networkx is not installed")
     def test_the_weights_of_a_networkx_graph(self):
@@ -526,6 +710,13 @@ class WeightTest(RefusedCalls):
         words = "(edge 'a'-'c' weighs 0.5)"
         call = lambda: rostulanda.layout(graph, weight="weight")
         self.refuses(Refusal.WEIGHT_OUT_OF_RANGE, call, words=words)
+        graph.add_edge("a", "c", weight=None)
+        self.refuses(Refusal.WEIGHT_OUT_OF_RANGE, call, words="weighs None")
+        with self.assertRaises(ValueError) as caught:
+            rostulanda.layout(graph, weight="wieght")
+        self.assertIn("no edge of the graph has an attribute 'wieght'", str(caught.exception))
+        graph.remove_edges_from(list(graph.edges))
+        self.assertEqual(rostulanda.layout(graph, weight="wieght").edges, 0)
 
 
 class GraphTest(unittest.TestCase):
@@ -725,7 +916,7 @@ class ChartAndListTest(unittest.TestCase):
             (("sift",), "('sift',) names 0 numbers: the call is ('sift', u)"),
             (("sift", 0, 1), "names 2 numbers"),
             (("add_vertex", 0), "the call is ('add_vertex',)"),
-            (("add_edge", 0), "the call is ('add_edge', a, b, weight=1)"),
+            (("add_edge", 0), "the call is ('add_edge', a, b) or ('add_edge', a, b, weight)"),
             (("add_edge", 0, 1, 2, 3), "names 4 numbers"),
             (["converge"], "the call is ('converge', limit)"),
             (("shift", 0), "there is no call 'shift': the calls are add_vertex, add_edge,"),
@@ -749,6 +940,21 @@ class ChartAndListTest(unittest.TestCase):
             self.assertEqual(caught.exception.code, refusal)
         with self.assertRaises(ValueError):
             rostulanda.play([], CHART, GRAPH6)
+
+
+class LibraryTest(unittest.TestCase):
+    def test_a_library_with_layouts_of_another_size_is_noticed(self):
+        size = ctypes.sizeof(rostulanda.Fields)
+        for held, fits in ((size - 4096, False), (size, True), (size + 8, False)):
+
+            class Library:
+                """Its layouts have so many bytes; the chart is refused."""
+
+                def rl_read_chart(self, fields, chart, length):
+                    ctypes.memset(ctypes.addressof(fields), 0, held)
+                    return Refusal.CHART_TAGS
+
+            self.assertEqual(rostulanda._fits(Library()), fits)
 
 
 class WheelTest(unittest.TestCase):

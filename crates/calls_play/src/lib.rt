@@ -1,4 +1,5 @@
-// Lists of calls played. A single call stands in steps, calls and answers as numbers in encoding.
+// Lists of calls played. A single call stands in calls_step, calls and answers as numbers in
+// calls_encoding.
 mod playing;
 
 pub use playing::play;

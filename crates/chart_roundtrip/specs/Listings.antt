@@ -107,7 +107,7 @@ module _ (n : ℕ) (es : List Edge) (ws o : List ℕ) (last : List Field) (p : P
       places : (i : ℕ) → i < length o → getD o i 0 < 256
       places i l = omega (arith, p .few, at-lt (p .permutation) i (rw (p .permutation .size) at l))
 
-  -- "The longest chart has 6,125 bytes"
+  -- the longest has 6,125 bytes
   pub chart-short : length (chartWith n es o (allBytes last)) ≤ 6125
   chart-short =
       omega (arith, chart-length n es o (allBytes last), last-length c, p .many, p .fewEdges, p .few, p .permutation .size)

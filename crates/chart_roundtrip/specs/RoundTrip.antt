@@ -123,7 +123,7 @@ module _ (l : Layout) (t : T (valid l)) where
   chart-is : chartOf l ≡ chartWith (l .n) (edges (l .n) (l .adjacency)) (vertexOrder l) (allBytes (last-field l .fields))
   chart-is = chart-edges l ∙ ap (chartWith (l .n) (edges (l .n) (l .adjacency)) (vertexOrder l)) (last-field l .bytes)
 
-  -- "The longest chart has 6,125 bytes"; 4,106 where each edge weighs 1
+  -- the longest has 6,125 bytes, and 4,106 where each edge weighs 1
   pub written-length : length (chartOf l) ≤ 6125
   written-length =
       rw chart-is (chart-short (l .n) (edges (l .n) (l .adjacency)) (weightsOf l) (vertexOrder l) (last-field l .fields) proper (last-field l .closes))

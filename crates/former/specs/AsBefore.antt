@@ -36,7 +36,7 @@ use Rattle.laws.specs.Layouts.Refusals.{when-accepted, changed-accepted, behind
 use Rattle.laws.specs.Append.Agreeing.{all-same}
 use Rattle.laws.specs.Sifting.Images.{shownRound, sift-shown, sift-good, best-shown, all-shown, all-good, moved-shown, saved-shown, bests-shown, sifts-reach}
 use Rattle.laws.specs.Sifting.Images.{rounds-shown, rounds-good, rounds-reach, last-shown, swept-shown, swept-good, steps-shown, played-shown}
-use Rattle.history.specs.StepLaws.{Right, start-right, call-keeps}
+use Rattle.history.specs.StepLaws.{Whole, start-right, call-whole}
 use Rattle.laws.specs.Layouts.Units.{Unit, Agreeing, unit-agrees, agrees-unit, unit-weighted}
 use Rattle.former.specs.Units.{UnitCall, adding, linking, unlinking, moving, laying, sifting, sifting-round, converging, call-unit}
 use Rattle.former.specs.Forgetting.{forget, forgetOutcome, forgotten-crossings, forgotten-changed, forgotten-reordered, shows}
@@ -60,7 +60,7 @@ was-valid l t = and-left (formerValid (forget l)) (weightsFit (l .n) (l .adjacen
 
 -- ---- call by call, on a layout whose weights are 1
 
-module _ (l : Layout) (r : Right l) (i : Unit (l .weights)) where
+module _ (l : Layout) (r : Whole l) (i : Unit (l .weights)) where
   here : Agreeing l
   here = unit-agrees l (r .is-valid) i
 
@@ -72,7 +72,7 @@ module _ (l : Layout) (r : Right l) (i : Unit (l .weights)) where
 
   -- what a call leaves, which is m where it is accepted
   left-by : {c : Call} → UnitCall c → {m : Layout} → answerOf l c .layout ≡ m → Agreeing m
-  left-by {c} k e = subst (λ (x : Layout). Agreeing x) e (unit-agrees (answerOf l c .layout) (call-keeps l c r .is-valid) (call-unit l r i k))
+  left-by {c} k e = subst (λ (x : Layout). Agreeing x) e (unit-agrees (answerOf l c .layout) (call-whole l c r .is-valid) (call-unit l r i k))
 
   -- the first check passes now as then, so the others tell
   first-passes : (cs : List Check) → refusal (isValid l ∷ cs) ≡ refusal (wasValid (forget l) ∷ cs)
@@ -201,24 +201,24 @@ module _ (l : Layout) (r : Right l) (i : Unit (l .weights)) where
 
 -- ---- the claim
 
--- a layout of a list whose weights are 1
+-- a valid layout whose weights are 1
 pub record OfWeightOne (l : Layout) : Type 0 where
-  pub right : Right l
+  pub whole : Whole l
   pub unit : Unit (l .weights)
 
-call-alike : (l : Layout) (c : Call) → OfWeightOne l → UnitCall c → formerAnswer (forget l) c ≡ forgetOutcome (answerOf l c)
+pub call-alike : (l : Layout) (c : Call) → OfWeightOne l → UnitCall c → formerAnswer (forget l) c ≡ forgetOutcome (answerOf l c)
 unfolding formerAnswer
-call-alike l c o adding = sym (add-alike l (o .right) (o .unit))
-call-alike l c o (linking {a} {b}) = sym (link-alike l (o .right) (o .unit) a b)
-call-alike l c o (unlinking {a} {b}) = sym (unlink-alike l (o .right) (o .unit) a b)
-call-alike l c o (moving {a} {b}) = sym (move-alike l (o .right) (o .unit) a b)
-call-alike l c o (laying {s}) = sym (lay-alike l (o .right) (o .unit) s)
-call-alike l c o (sifting {u}) = sym (sift-alike l (o .right) (o .unit) u)
-call-alike l c o sifting-round = sym (round-alike l (o .right) (o .unit))
-call-alike l c o (converging {limit}) = sym (settle-alike l (o .right) (o .unit) limit)
+call-alike l c o adding = sym (add-alike l (o .whole) (o .unit))
+call-alike l c o (linking {a} {b}) = sym (link-alike l (o .whole) (o .unit) a b)
+call-alike l c o (unlinking {a} {b}) = sym (unlink-alike l (o .whole) (o .unit) a b)
+call-alike l c o (moving {a} {b}) = sym (move-alike l (o .whole) (o .unit) a b)
+call-alike l c o (laying {s}) = sym (lay-alike l (o .whole) (o .unit) s)
+call-alike l c o (sifting {u}) = sym (sift-alike l (o .whole) (o .unit) u)
+call-alike l c o sifting-round = sym (round-alike l (o .whole) (o .unit))
+call-alike l c o (converging {limit}) = sym (settle-alike l (o .whole) (o .unit) limit)
 
-keeps-one : (l : Layout) (c : Call) → OfWeightOne l → UnitCall c → OfWeightOne (answerOf l c .layout)
-keeps-one l c o k = record { right = call-keeps l c (o .right); unit = call-unit l (o .right) (o .unit) k }
+pub keeps-one : (l : Layout) (c : Call) → OfWeightOne l → UnitCall c → OfWeightOne (answerOf l c .layout)
+keeps-one l c o k = record { whole = call-whole l c (o .whole); unit = call-unit l (o .whole) (o .unit) k }
 
 -- a step with its weights forgotten
 abbrev pub forgetStep : Step → StepOf FormerLayout Call FormerOutcome
@@ -233,19 +233,18 @@ pub record AsBefore (start : Layout) (calls : List Call) : Type 0 where
   pub end-one : OfWeightOne (played start calls)
   pub still-one : T (unitWeighted (played start calls))
 
--- from every start whose weights are 1, and for every list of calls in which each link has weight 1
-pub as-before : {start : Layout} → Start start → T (unitWeighted start) → {calls : List Call} → All UnitCall calls → AsBefore start calls
+-- from every valid layout whose weights are 1, whatever count it carries, and for every list of calls in which each link has weight 1
+pub as-before : {start : Layout} → Whole start → T (unitWeighted start) → {calls : List Call} → All UnitCall calls → AsBefore start calls
 unfolding playedFrom stepsFrom
-as-before {start} s w {calls} ks =
-    let r = start-right s in
-    let o : OfWeightOne start = record { right = r; unit = unit-weighted start (r .is-valid) w } in
+as-before {start} r w {calls} ks =
+    let o : OfWeightOne start = record { whole = r; unit = unit-weighted start (r .is-valid) w } in
     let end = kept-one start o ks in
     record {
       same-steps = steps-shown ringCalls formerCalls forget forgetOutcome OfWeightOne UnitCall keeps-one call-alike (λ a. refl) start o ks;
       same-end = played-shown ringCalls formerCalls forget forgetOutcome OfWeightOne UnitCall keeps-one call-alike (λ a. refl) start o ks;
       each-one = all-one start o ks;
       end-one = end;
-      still-one = agrees-unit (played start calls) (unit-agrees (played start calls) (end .right .is-valid) (end .unit));
+      still-one = agrees-unit (played start calls) (unit-agrees (played start calls) (end .whole .is-valid) (end .unit));
     }
   where
     kept-one : (l : Layout) → OfWeightOne l → {cs : List Call} → All UnitCall cs → OfWeightOne (played l cs)
@@ -255,3 +254,7 @@ as-before {start} s w {calls} ks =
     all-one : (l : Layout) → OfWeightOne l → {cs : List Call} → All UnitCall cs → All (λ (x : Step). OfWeightOne (x .before)) (steps l cs)
     all-one l o none = none
     all-one l o (also {x = c} {xs = cs} k more) = also {x = stepAt ringCalls l c} o (all-one (answerOf l c .layout) (keeps-one l c o k) more)
+
+-- so from the empty layout, a chart that was read and a graph that was imported
+pub start-as-before : {start : Layout} → Start start → T (unitWeighted start) → {calls : List Call} → All UnitCall calls → AsBefore start calls
+start-as-before s = as-before (start-right s .whole)

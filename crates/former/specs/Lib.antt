@@ -4,7 +4,8 @@
 -- Runs: so the rule's list is the former one with the isolated vertices, but for the start, at the back. AsFormerly: the call, by either rule.
 -- Weights that are and stay 1, and the definitions from before there were weights: open AsBefore first.
 -- Units: layouts in which every edge weighs 1, and that the calls keep it. Forgetting: such a layout without its weights. AsBefore: every list of calls.
--- Reads: the calls that only read, the writer and the exporter. Starts: which starts weigh 1, and that reading gives what it gave.
+-- Reads: the calls that only read, the writer and the exporter. Starts: which starts weigh 1, and that reading gives what it gave. Listed: what ringlist
+-- prints.
 pub mod Kept
 pub mod Choices
 pub mod Unseen
@@ -15,3 +16,4 @@ pub mod Forgetting
 pub mod AsBefore
 pub mod Reads
 pub mod Starts
+pub mod Listed

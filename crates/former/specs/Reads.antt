@@ -53,7 +53,7 @@ pub record ReadsAsBefore (l : Layout) : Type 0 where
 
 module _ (l : Layout) (o : OfWeightOne l) where
   here : Agreeing l
-  here = unit-agrees l (o .right .is-valid) (o .unit)
+  here = unit-agrees l (o .whole .is-valid) (o .unit)
 
   all-one : unitWeighted l ≡ true
   all-one = T-true (unitWeighted l) (agrees-unit l here)
@@ -61,7 +61,7 @@ module _ (l : Layout) (o : OfWeightOne l) where
   first-passes : (cs : List Check) → refusal (isValid l ∷ cs) ≡ refusal (wasValid (forget l) ∷ cs)
   unfolding refusal isValid wasValid
   first-passes cs =
-      rw (T-true (valid l) (o .right .is-valid), T-true (formerValid (forget l)) (was-valid l (o .right .is-valid)))
+      rw (T-true (valid l) (o .whole .is-valid), T-true (formerValid (forget l)) (was-valid l (o .whole .is-valid)))
 
   -- what is written
   same-chart : chartOf l ≡ formerChart (forget l)

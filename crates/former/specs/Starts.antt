@@ -4,7 +4,7 @@ use Prim.Native.Nat.{ℕ, zero, suc, _≤_, _<_, min, max}
 use native.Mathlib.Nat.{le-of-eq, lt-of-lt-of-le, mod-eq-of-lt}
 use native.Mathlib.Omega.{arith}
 use mathlib.Core.Path.{_≡_, refl, sym, ap, _∙_, subst}
-use mathlib.Core.Bool.{Bool, true, false, cond, _||_, or-false, false≢true}
+use mathlib.Core.Bool.{Bool, true, false, cond, _||_, or-false}
 use mathlib.Core.List.{List, [], _∷_, map, flatMap}
 use lib.ListN.{length, replicate, length-map, length-replicate}
 use lib.Dec.{T, eqb}
@@ -21,7 +21,6 @@ use Rattle.model.specs.Charts.{sizeChecks, endChecks, repeatChecks, placeChecks
 use Rattle.model.specs.WrittenCharts.{weightsOf, unitWeighted}
 use Rattle.model.specs.Graph6.{graph6Size, graph6Data, graph6Edges, graph6Checks, graph6Layout, importOf}
 use Rattle.model.specs.Former.{FormerLayout, FormerRead, formerModulus, formerEmpty, formerLayoutWith, formerChartChecks, formerReadOf, formerImportOf}
-use Rattle.laws.specs.Sums.Indicators.{both-right}
 use Rattle.laws.specs.Sums.Lists.{All, none, also}
 use Rattle.laws.specs.Crossings.Bound.{crossingSum-bound}
 use Rattle.laws.specs.Orders.Permutations.{at, at-lt}
@@ -30,6 +29,7 @@ use Rattle.laws.specs.Layouts.Refusals.{all-pass}
 use Rattle.laws.specs.Charts.Ends.{within-mono}
 use Rattle.laws.specs.Charts.Weights.{WeighedBy, table-weighed, joined-has}
 use Rattle.laws.specs.Charts.Layouts.{Accepted, valid-read, count-true}
+use Rattle.laws.specs.Charts.Lengths.{same-length}
 use Rattle.laws.specs.Charts.Reading.{read-is, read-number, chart-numbered, accepted, accepted-weights, chartWeight, layout-listed}
 use Rattle.laws.specs.Graph6.Imports.{import-number, import-is, imported-graph6, edges-accepted, unit, unit-listed}
 use Rattle.laws.specs.Layouts.Units.{Unit, Agreeing, unit-agrees, agrees-unit, ones-all}
@@ -41,6 +41,11 @@ use Rattle.former.specs.AsBefore.{checked-shown}
 pub empty-unit : T (unitWeighted emptyLayout)
 unfolding unitWeighted weightsOf edges emptyLayout upto every flatMap
 empty-unit = tt
+
+-- and the empty layout is what it was
+pub empty-formerly : forget emptyLayout ≡ formerEmpty
+unfolding emptyLayout formerEmpty
+empty-formerly = refl
 
 weighed-unit : {W : ℕ → ℕ → ℕ} {es : List Edge} {table : List ℕ} → WeighedBy W es table → All (λ e. edgeWeight W e ≡ 1) es → Unit table
 weighed-unit {W} {es} {table} w ones =
@@ -115,13 +120,6 @@ without-ones s e = rw e (ones (length (chartEdges s)))
 abbrev pub forgetRead : LayoutRead → FormerRead
 forgetRead r = record { refusal = r .refusal; layout = forget (r .layout) }
 
-same-length : (xs ys : List ℕ) → sameList xs ys ≡ true → length xs ≡ length ys
-unfolding sameList
-same-length [] [] t = refl
-same-length [] (y ∷ ys) t = absurd (false≢true t)
-same-length (x ∷ xs) [] t = absurd (false≢true t)
-same-length (x ∷ xs) (y ∷ ys) t = ap suc (same-length xs ys (both-right (eqb x y) (sameList xs ys) t))
-
 -- three fields: no weights
 no-fourth : (s : List ℕ) → sameList (tagsOf s) chartTags ≡ true → hasWeights s ≡ false
 unfolding hasWeights
@@ -159,7 +157,11 @@ module _ (s : List ℕ) (plain : sameList (tagsOf s) weightedTags ≡ false) whe
       from (also _ (also _ (also tags _))) =
           sym (or-false (sameList (tagsOf s) chartTags)) ∙ ap (λ (b : Bool). sameList (tagsOf s) chartTags || b) (sym plain) ∙ tags
 
-  -- a chart whose fourth field is no 57
+  -- an accepted one has no field 57
+  pub plain-unit : readOf s .refusal ≡ 0 → T (unitWeighted (readOf s .layout))
+  plain-unit e = chart-unit s e (without-ones s (no-fourth s (tags-plain (sym (read-number s) ∙ e))))
+
+  -- a chart whose fields are not 44, 4C, 52 and 57
   pub read-formerly : forgetRead (readOf s) ≡ formerReadOf s
   unfolding readOf formerReadOf emptyLayout formerEmpty
   read-formerly =

@@ -25,7 +25,7 @@ use Rattle.laws.specs.Append.Calls.{laidOut}
 use Rattle.laws.specs.Sifting.Candidates.{sifted-rearranged}
 use Rattle.laws.specs.Sifting.Rounds.{round-reduced, settled-rearranged}
 use Rattle.laws.specs.Sifting.Calls.{sift-either, round-either, settle-either}
-use Rattle.history.specs.StepLaws.{Right}
+use Rattle.history.specs.StepLaws.{Whole}
 
 -- a call that names no weight but 1
 pub data UnitCall : Call → Type 0 where
@@ -51,7 +51,7 @@ set-unit ws a b w size first second different few i =
       ];
     }
 
-module _ (l : Layout) (r : Right l) (i : Unit (l .weights)) where
+module _ (l : Layout) (r : Whole l) (i : Unit (l .weights)) where
   abbrev UnitAfter : Layout → Type 0
   UnitAfter m = Unit (m .weights)
 
@@ -96,7 +96,7 @@ module _ (l : Layout) (r : Right l) (i : Unit (l .weights)) where
   settle-unit : (limit : ℕ) → UnitAfter (settleOf l limit .layout)
   settle-unit limit = settle-either l limit UnitAfter (λ t. same-unit (settled-rearranged limit l t .same-weights)) i
 
-pub call-unit : (l : Layout) {c : Call} → Right l → Unit (l .weights) → UnitCall c → Unit (answerOf l c .layout .weights)
+pub call-unit : (l : Layout) {c : Call} → Whole l → Unit (l .weights) → UnitCall c → Unit (answerOf l c .layout .weights)
 unfolding answerOf
 call-unit l r i adding = add-unit l r i
 call-unit l r i (linking {a} {b}) = link-unit l r i a b

@@ -137,30 +137,44 @@ call-facts l (call.GreedyAppend s) e = no-sifts l (call.GreedyAppend s) refl ref
 
 -- ---- every call, refused or accepted, keeps what the layouts of a list have
 
--- a valid layout with all its places and its true count
-pub record Right (l : Layout) : Type 0 where
+-- a valid layout with all its places, whatever count it carries
+pub record Whole (l : Layout) : Type 0 where
   pub is-valid : T (valid l)
   pub sized : Sized l
+
+-- and with its true count
+pub record Right (l : Layout) : Type 0 where
+  pub whole : Whole l
   pub counted : l .count ≡ crossingsOf l
 
-right-kept : {l m : Layout} → Right l → Keeps l m → Sized m → Right m
-right-kept r k s = let v = k (r .is-valid) in record { is-valid = v .0; sized = s; counted = v .1 (r .counted) }
+record Kept (l m : Layout) : Type 0 where
+  whole-kept : Whole m
+  count-kept : l .count ≡ crossingsOf l → m .count ≡ crossingsOf m
+
+kept : {l m : Layout} → Whole l → Keeps l m → Sized m → Kept l m
+kept r k s = let v = k (r .is-valid) in record { whole-kept = record { is-valid = v .0; sized = s }; count-kept = v .1 }
+
+call-kept : (l : Layout) (c : Call) → Whole l → Kept l (answerOf l c .layout)
+unfolding answerOf
+call-kept l call.AddVertex r = kept r (add-keeps l (r .sized)) (add-sized l (r .sized))
+call-kept l (call.AddEdge a b w) r = kept r (link-keeps l a b w (r .sized)) (link-sized l a b (r .sized) w)
+call-kept l (call.RemoveEdge a b) r = kept r (unlink-keeps l a b (r .sized)) (unlink-sized l a b (r .sized))
+call-kept l (call.MoveAfter a b) r = kept r (move-keeps l a b) (move-sized l (r .sized) a b)
+call-kept l (call.GreedyAppend s) r = kept r (lay-keeps l s) (lay-sized l (r .sized) s)
+call-kept l (call.Sift u) r = kept r (sift-keeps l u) (sift-sized l (r .sized) u)
+call-kept l call.SiftingRound r = kept r (round-keeps l) (round-sized l (r .sized))
+call-kept l (call.Converge limit) r = kept r (settle-keeps l limit) (settle-sized l (r .sized) limit)
+
+pub call-whole : (l : Layout) (c : Call) → Whole l → Whole (answerOf l c .layout)
+call-whole l c w = call-kept l c w .whole-kept
 
 pub call-keeps : (l : Layout) (c : Call) → Right l → Right (answerOf l c .layout)
-unfolding answerOf
-call-keeps l call.AddVertex r = right-kept r (add-keeps l (r .sized)) (add-sized l (r .sized))
-call-keeps l (call.AddEdge a b w) r = right-kept r (link-keeps l a b w (r .sized)) (link-sized l a b (r .sized) w)
-call-keeps l (call.RemoveEdge a b) r = right-kept r (unlink-keeps l a b (r .sized)) (unlink-sized l a b (r .sized))
-call-keeps l (call.MoveAfter a b) r = right-kept r (move-keeps l a b) (move-sized l (r .sized) a b)
-call-keeps l (call.GreedyAppend s) r = right-kept r (lay-keeps l s) (lay-sized l (r .sized) s)
-call-keeps l (call.Sift u) r = right-kept r (sift-keeps l u) (sift-sized l (r .sized) u)
-call-keeps l call.SiftingRound r = right-kept r (round-keeps l) (round-sized l (r .sized))
-call-keeps l (call.Converge limit) r = right-kept r (settle-keeps l limit) (settle-sized l (r .sized) limit)
+call-keeps l c r = let k = call-kept l c (r .whole) in record { whole = k .whole-kept; counted = k .count-kept (r .counted) }
 
 pub start-right : {l : Layout} → Start l → Right l
-start-right empty = record { is-valid = empty-valid; sized = empty-sized; counted = empty-count }
-start-right (read s e) = record { is-valid = read-valid s e .0; sized = read-sized s; counted = read-valid s e .1 }
-start-right (imported s e) = record { is-valid = imported-valid s e .0; sized = imported-sized s; counted = imported-valid s e .1 }
+start-right empty = record { whole = record { is-valid = empty-valid; sized = empty-sized }; counted = empty-count }
+start-right (read s e) = record { whole = record { is-valid = read-valid s e .0; sized = read-sized s }; counted = read-valid s e .1 }
+start-right (imported s e) = record { whole = record { is-valid = imported-valid s e .0; sized = imported-sized s }; counted = imported-valid s e .1 }
 
 -- ---- a refused call answers its refusal code and gives the layout back
 

@@ -1,5 +1,5 @@
 // Circular layouts: the empty one, a vertex added, and a vertex moved. The edges stand in edges, the
-// calls that only read in reads.
+// calls that only read in queries.
 mod moves;
 mod start;
 mod vertices;

@@ -2,7 +2,7 @@
 -- behaves as before but for the wider numbers and modulus" (Note 8), and for nothing else; no code runs these. What does not speak of a layout (orders,
 -- moves, the choices of lay, sweeps, fields) is shared with the present definitions.
 use Prim.Native.Nat.{ℕ, suc, _+_, _-_, _%_, _^_}
-use mathlib.Core.Bool.{Bool, false, not, _&&_}
+use mathlib.Core.Bool.{Bool, false, cond, not, _&&_}
 use mathlib.Core.List.{List, [], _∷_, _++_, map, flatMap}
 use lib.ListN.{length, take, drop, set, replicate}
 use lib.Dec.{eqb, leb, ltb}
@@ -12,7 +12,7 @@ use Rattle.model.specs.declared.Call.the-variants as call
 use Rattle.model.specs.Lists.{one, upto, sumOver}
 use Rattle.model.specs.Crossings.{linked, edges, crosses, crossingPairs, unitWeight}
 use Rattle.model.specs.Layouts.{capacity, eachOnce, zeroFrom, symmetric, loopless, bitsBelow}
-use Rattle.model.specs.Checks.{Check, refusal, checked, differ, limitFits, roomFor}
+use Rattle.model.specs.Checks.{Check, refusal, byRefusal, checked, differ, limitFits, roomFor}
 use Rattle.model.specs.Edits.{withBit, withoutBit, atBothEnds, movedAfter}
 use Rattle.model.specs.Reading.{Shown, firstPair}
 use Rattle.model.specs.GreedyAppend.{placeAll}
@@ -24,6 +24,7 @@ use Rattle.model.specs.Charts.{sizeChecks, endChecks, repeatChecks, plac
 use Rattle.model.specs.WrittenCharts.{fieldBytes, edgeBytes}
 use Rattle.model.specs.Graph6.{sizePart, packed, pairBits, graph6Size, graph6Data, graph6Edges, graph6Checks}
 use Rattle.model.specs.Histories.{sweepOf}
+use Rattle.model.specs.Listing.{text, line, spaced}
 
 -- ---- the ring
 
@@ -248,3 +249,21 @@ unfoldable pub formerImportOf : List ℕ → FormerRead
 formerImportOf s =
     formerReadAs (graph6Checks s)
     (formerLayoutWith (graph6Size s) (graph6Edges (graph6Size s) (graph6Data s)) (upto (graph6Size s)))
+
+-- ---- "It settles the chart's order with limit 50 and prints": the third number of a settling says whether it converged
+
+unfoldable pub formerListing : FormerLayout → List ℕ
+formerListing l =
+    let r = formerSettle l 50 in
+    line "devices" (spaced (l .n))
+    ++ line "links" (spaced (length (edges (l .n) (l .adjacency))))
+    ++ line "before" (spaced (formerCrossings l))
+    ++ line "after" (spaced (formerCrossings (r .layout)))
+    ++ line "rounds" (spaced (r .second))
+    ++ line "settled" (text (cond (eqb (r .third) 1) " yes" " no"))
+    ++ line "order" (flatMap spaced (formerOrder (r .layout)))
+
+unfoldable pub formerListingOf : List ℕ → List ℕ
+formerListingOf chart =
+    let r = formerReadOf chart in
+    byRefusal (r .refusal) (formerListing (r .layout)) (λ refused. line "refused" (spaced refused))

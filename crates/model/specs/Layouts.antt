@@ -36,7 +36,7 @@ isWeight w = leb 1 w && leb w 255
 unfoldable pub tableWeight : List ℕ → ℕ → ℕ → ℕ
 tableWeight ws u v = getD ws (capacity * u + v) 0
 
--- that of a layout: nothing else, but validity, knows where it holds its weights
+-- that of a layout; besides it only validity, an edge that is set (bothWays) and the table of what is read know where a layout holds its weights
 unfoldable pub weight : Layout → ℕ → ℕ → ℕ
 weight l = tableWeight (l .weights)
 

@@ -17,9 +17,9 @@ pub mod Graph6
 pub mod EdgeCrossings
 pub mod Reports
 pub mod Histories
-pub mod Former
 pub mod Playing
 pub mod Listing
+pub mod Former
 pub mod Starred
 pub mod WorkedCharts
 pub mod WorkedWeights

@@ -184,6 +184,11 @@ withLinkWeights =
       claims = crossing 1 ∷ tallying 2 (2 ∷ 0 ∷ 1 ∷ 3 ∷ []) 1 ∷ [];
     }
     ∷ record {
+      ring = record { vertices = 4; links = 0 to 1 ∷ 0 to 2 ∷ 0 to 3 ∷ 1 to 2 ∷ 1 to 3 ∷ []; order = 0 ∷ 1 ∷ 2 ∷ 3 ∷ [] };
+      weights = 2 ∷ 1 ∷ 1 ∷ 7 ∷ 7 ∷ [];
+      claims = crossing 7 ∷ tallying 0 (0 ∷ 2 ∷ 1 ∷ 3 ∷ []) 0 ∷ [];
+    }
+    ∷ record {
       ring = record { vertices = 5; links = 0 to 2 ∷ 0 to 3 ∷ 0 to 4 ∷ 1 to 3 ∷ 1 to 4 ∷ 2 to 3 ∷ []; order = 0 ∷ 1 ∷ 2 ∷ 3 ∷ 4 ∷ [] };
       weights = 1 ∷ 1 ∷ 255 ∷ 1 ∷ 5 ∷ 1 ∷ [];
       claims = crossing 11 ∷ sifting 0 (1 ∷ 2 ∷ 3 ∷ 0 ∷ 4 ∷ []) 10 ∷ settling 50 2 true 0 (1 ∷ 3 ∷ 2 ∷ 0 ∷ 4 ∷ []) ∷ settleOptima 50 10 ∷ [];

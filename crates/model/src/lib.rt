@@ -110,7 +110,7 @@ pub struct EdgesCounted {
 // What the passes of the chart reader and of the graph6 reader answer. specs/Charts.antt says for each
 // case which number and values of document 01 it stands for.
 
-// A pass that only asks: questions 1 and 2, 3, 5 and 6, 7, 8, and 24 and 25; of graph6 21, and 22.
+// A pass that only asks: questions 1 and 2, 3, 5 and 6, 7, 8, and 24 and 25; of graph6 21 and 22.
 pub enum Asked {
     Passed,
     Refused(u8),

@@ -1,5 +1,5 @@
-// A table of weights (document 02, Note 8): the weight of u towards v stands at 64 * u + v. Only here, and
-// where it is asked whether it fits (weights_valid), is the table read. Calls of other crates are total: a
+// A table of weights (document 02, Note 8): the weight of u towards v stands at 64 * u + v. Of the library
+// only this crate reads it, and weights_valid, which asks whether it fits. Calls of other crates are total: a
 // vertex is taken modulo 64.
 mod light;
 mod units;

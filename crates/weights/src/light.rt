@@ -4,7 +4,8 @@ ghost use mathlib.Core.Bool.{_&&_};
 ghost use lib.Dec.{leb};
 ghost use Rattle.laws.specs.Layouts.Units.{noneAboveOne};
 
-// Of a valid layout: does every edge weigh 1? No branch on what is read: sixteen weights at a time.
+// Of a valid layout: does every edge weigh 1? It is not left early, so that a machine can compare many
+// weights at a time.
 pub fn all_unit(weights: &[u8; 4096]) -> bool
     ensures { λ r. ⌜ r ≡ noneAboveOne (now (weights .entry)) ⌝ }
 {

@@ -224,7 +224,8 @@ bits-group adj {ws} {k} {bits} {j} b z {r} told =
     told
     ∙ bool-ext (bitsFit adj bits k) (groupFits adj ws k)
     (λ t. upto-every (λ v. every (column v) (upto 8)) 64
-    (λ v l. upto-every (column v) 8 (λ i m. same-there v i l m (eqb-true (byteOf (getD adj v 0) k) (getD bits v 0) (T-true (byte v) (every-upto byte 64 t v l))))))
+    (λ v l. let same = eqb-true (byteOf (getD adj v 0) k) (getD bits v 0) (T-true (byte v) (every-upto byte 64 t v l)) in
+    upto-every (column v) 8 (λ i m. same-there v i l m same)))
     (λ t. upto-every byte 64
     (λ v l. subst T
     (sym

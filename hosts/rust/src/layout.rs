@@ -138,26 +138,21 @@ impl Layout {
 
     /// The vertices in this order, which holds each once, with these edges, each
     /// given once and with its weight. What is refused is refused as by
-    /// [`Layout::from_order`], and 25 for a weight of 0.
+    /// [`Layout::from_order`], and last 25 for a weight of 0.
     pub fn from_weighted_order(
         edges: &[(usize, usize, u8)],
         order: &[usize],
     ) -> Result<Layout, Refusal> {
         let ends: Vec<usize> = edges.iter().flat_map(|&(a, b, _)| [a, b]).collect();
-        let weights: Vec<usize> = edges.iter().map(|&(.., weight)| weight.into()).collect();
-        let bodies = [
-            (0x44, &[order.len()][..]),
-            (0x4C, &ends),
-            (0x52, order),
-            (0x57, &weights),
-        ];
-        let mut chart = Vec::new();
-        for (tag, body) in bodies {
-            // A body whose length needs more than two bytes makes the chart too long.
-            let [.., high, low] = body.len().to_be_bytes();
-            chart.extend([tag, high, low]);
-            // No vertex has the number 255.
-            chart.extend(body.iter().map(|&v| u8::try_from(v).unwrap_or(u8::MAX)));
+        let weights: Vec<u8> = edges.iter().map(|&(.., weight)| weight).collect();
+        let mut chart = [
+            field(0x44, &bytes(&[order.len()])),
+            field(0x4C, &bytes(&ends)),
+            field(0x52, &bytes(order)),
+        ]
+        .concat();
+        if weights.iter().any(|&weight| weight != 1) {
+            chart.extend(field(0x57, &weights));
         }
         Layout::from_chart(&chart)
     }
@@ -393,6 +388,20 @@ pub(crate) fn with_unit_weights(edges: &[(usize, usize)]) -> Vec<(usize, usize, 
     edges.iter().map(|&(a, b)| (a, b, 1)).collect()
 }
 
+/// A number of vertices, or vertices, as bytes: 255, which neither can be, for
+/// one that is no byte.
+fn bytes(numbers: &[usize]) -> Vec<u8> {
+    let byte = |&number| u8::try_from(number).unwrap_or(u8::MAX);
+    numbers.iter().map(byte).collect()
+}
+
+/// A field of a chart. A body whose length needs more than two bytes makes the
+/// chart too long.
+fn field(tag: u8, body: &[u8]) -> Vec<u8> {
+    let [.., high, low] = body.len().to_be_bytes();
+    [&[tag, high, low], body].concat()
+}
+
 /// A graph6 without the header and the line end that a file has.
 fn bare_graph6(graph6: &[u8]) -> &[u8] {
     let bare = graph6.strip_prefix(b">>graph6<<").unwrap_or(graph6);
@@ -609,8 +618,16 @@ mod tests {
             assert_eq!(layout.add_weighted_edge(a, b, 0), Err(refusal));
         }
         assert_eq!(layout, heavy());
-        let refused = Layout::from_weighted_order(&[(0, 1, 0)], &[0, 1]);
-        assert_eq!(refused, Err(Refusal::WeightOutOfRange));
+        for (edge, order, refusal) in [
+            ((0, 1, 0), &[0; 65][..], Refusal::ChartVertices),
+            ((1, 1, 0), &[0, 1], Refusal::ChartEdgeEnds),
+            ((0, 5, 0), &[0, 1], Refusal::ChartEdgeEnds),
+            ((0, 1, 0), &[0, 0], Refusal::ChartOrder),
+            ((0, 1, 0), &[0, 1], Refusal::WeightOutOfRange),
+        ] {
+            let refused = Layout::from_weighted_order(&[edge], order);
+            assert_eq!(refused, Err(refusal));
+        }
     }
 
     #[test]
@@ -812,6 +829,25 @@ mod tests {
         }
         let long = Layout::from_order(&[(0, 1); 1 << 15], &[0, 1]);
         assert_eq!(long, Err(Refusal::ChartTooLong));
+    }
+
+    #[test]
+    fn weights_of_1_take_no_room_in_a_chart() {
+        let twice = Layout::from_order(&[(0, 1); 3000], &[0, 1]);
+        assert_eq!(twice, Err(Refusal::ChartEdgeTwice));
+        let twice = Layout::from_weighted_order(&[(0, 1, 1); 3000], &[0, 1]);
+        assert_eq!(twice, Err(Refusal::ChartEdgeTwice));
+        let long = Layout::from_weighted_order(&[(0, 1, 2); 3000], &[0, 1]);
+        assert_eq!(long, Err(Refusal::ChartTooLong));
+    }
+
+    #[test]
+    fn a_weighted_layout_of_edges_and_an_order() {
+        let mut layout = Layout::from_weighted_edges(4, &[(2, 0, 255), (1, 3, 1)]).unwrap();
+        layout.move_after(3, 0).unwrap();
+        let edges = [(0, 2, 255), (3, 1, 1)];
+        let ordered = Layout::from_weighted_order(&edges, &[0, 3, 1, 2]);
+        assert_eq!(ordered, Ok(layout));
     }
 
     #[test]

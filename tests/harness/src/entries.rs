@@ -1,6 +1,7 @@
 //! What stands in a list of calls, read back record by record.
 
 use crate::make::ops::*;
+use crate::make::records;
 
 /// Bytes in a record; a chart or a graph6 is padded to a multiple of it.
 const RECORD: usize = 32;
@@ -72,6 +73,16 @@ impl Entry<'_> {
     /// Whether a line is printed for it.
     pub fn says(&self) -> bool {
         !matches!(self, Entry::Record([SET_N..=SET_WEIGHT, ..]))
+    }
+
+    /// A list of it alone. What ends a list is played as a record cut short.
+    pub fn list(&self) -> Vec<u8> {
+        match self {
+            Entry::Chart(chart) => records::chart(chart),
+            Entry::Import(graph6) => records::import(graph6),
+            Entry::Record(record) => records::bytes(*record),
+            _ => vec![0],
+        }
     }
 
     /// The record in words.

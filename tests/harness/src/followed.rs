@@ -3,7 +3,7 @@
 
 use crate::entries::{entries, Entry};
 use crate::make::ops::{SET_COUNT, SET_N, SET_ORDER, SET_WEIGHT, SET_WORD};
-use crate::naive::layout::{empty, Layout};
+use crate::naive::layout::{empty, is_weighted, Layout};
 
 /// An answer line, its record, and the layout before and behind it.
 pub struct Step<'a> {
@@ -124,11 +124,9 @@ impl Step<'_> {
         edge_count(&self.after)
     }
 
-    /// Whether some edge has another weight than 1 behind the line, in a valid
-    /// layout.
+    /// Whether the layout behind the line, a valid one, is weighted.
     pub fn is_weighted(&self) -> bool {
-        let mut weights = self.after.weights.iter().flatten();
-        weights.any(|&weight| weight > 1)
+        is_weighted(&self.after)
     }
 }
 

@@ -78,8 +78,8 @@ mod tests {
     fn a_tally_by_number_is_found() {
         let mut edges = all_pairs(8);
         edges.retain(|(a, b)| (a < &4) == (b < &4));
-        let mut graph = Graph::of(edges, vertices(9));
-        graph.weights = Some([[1, 2, 1, 2, 3, 1], [3; 6]].concat());
+        let weights = [[1, 2, 1, 2, 3, 1], [3; 6]].concat();
+        let graph = Graph::of(edges, vertices(9)).with_weights(weights);
         let start = records::chart(&Chart::of(&graph).bytes());
         let list = [start, records::bytes([LAY, 2, 0, 0])].concat();
         let lines = play(&list);

@@ -82,7 +82,7 @@ fn always(options: &Options) -> String {
 }
 
 /// How much the naive model left to the programs, but for counting crossings
-/// and for single sifts.
+/// and for single calls.
 fn without_naive(options: &Options, tally: &Tally) -> String {
     let (charts, lists) = tally.without_naive();
     let told = |name: &str, times: usize, sides: usize| match sides {
@@ -91,5 +91,5 @@ fn without_naive(options: &Options, tally: &Tally) -> String {
     };
     let charts = told("charts", charts, options.list.len());
     let lists = told("lists", lists, options.play.len());
-    format!("without the naive model, but for its counts and sifts: {charts}, {lists}")
+    format!("without the naive model, but for its counts and single calls: {charts}, {lists}")
 }

@@ -100,7 +100,6 @@ fn compare_list(
         imported::check_line(step)?;
         if !naive {
             counted::check_line(step)?;
-            sifted::check_sift(step)?;
         }
         laid::check_tally(step)?;
         laid::check_line(step)?;

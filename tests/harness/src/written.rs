@@ -251,9 +251,7 @@ mod tests {
     fn a_wrong_table_or_number_of_edges_is_found() {
         let (list, lines) = (list_of_tables(), play(&list_of_tables()));
         assert_eq!(check_lines(&list, &lines, check_line), Ok(()));
-        let most = u64::MAX;
-        let (exact, longer) = ("3 table 0 1 1 n", &format!("3 table 0 1 1 {most} n"));
-        assert!(lines.contains(exact) && lines.contains(longer));
+        let exact = "3 table 0 1 1 n";
         let changes = [
             (2, "perlink 23 0", "perlink 23 2", "not what"),
             (2, "perlink 23 0", "perlink 19 0", "not what"),
@@ -267,6 +265,16 @@ mod tests {
             (3, exact, "2 table 0 1 1 n", "but 2 entries with the sum 1"),
             (3, exact, "4 table 0 1 1 n", "not what"),
             (3, "perlink 0 3", "perlink 23 3", "not what"),
+        ];
+        changes_found(&list, &lines, check_line, &changes);
+    }
+
+    #[test]
+    fn a_wrong_longer_table_or_layout_is_found() {
+        let (list, lines) = (list_of_tables(), play(&list_of_tables()));
+        let longer = "3 table 0 1 1 18446744073709551615 n";
+        assert!(lines.contains(longer));
+        let changes = [
             (4, longer, "3 table 0 1 1 0 n", "not what"),
             (4, longer, "3 table 0 1 1 n", "not what"),
             (
@@ -326,8 +334,7 @@ mod tests {
     /// written each time; the crossings of its edges counted; and exported.
     fn list_of_weights() -> Vec<u8> {
         let listed = |edges: [Edge; 2], weights: [u8; 2]| {
-            let mut graph = Graph::of(edges.to_vec(), vec![0, 1, 2, 3]);
-            graph.weights = Some(weights.to_vec());
+            let graph = Graph::of(edges.to_vec(), vec![0, 1, 2, 3]).with_weights(weights);
             records::chart(&Chart::of(&graph).bytes())
         };
         let write = records::bytes([WRITE, 23, 7, 0]);

@@ -115,7 +115,7 @@ fn graphs_with_weights() {
     });
 }
 
-/// An edge alone counts its own weight and that of each edge that it crosses.
+/// An edge counts, for each edge that it crosses, the product of the two weights.
 #[test]
 fn weights_of_three_edges() {
     let edges = [(0, 3, 2), (1, 5, 3), (2, 4, 5)];

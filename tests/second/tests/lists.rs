@@ -110,22 +110,32 @@ fn the_worked_example_of_weights() {
     assert_eq!(play(&list), due);
 }
 
-#[test]
-fn each_call_has_its_answers() {
+/// The line of a call that leaves the first ring as it is.
+fn unchanged(answers: &str) -> String {
     let order = places("0 1 2 3");
-    let rest = format!("n 4 order {order} count 1 words weights");
-    let line = |name: &str| format!("{name} {rest}");
+    format!("{answers} n 4 order {order} count 1 words weights")
+}
+
+#[test]
+fn a_refused_call_has_its_number() {
+    let line = unchanged;
     assert_eq!(last_line(&[&[18, 1, 2]]), line("unlink 15"));
     assert_eq!(last_line(&[&[17, 1, 1]]), line("link 13"));
     assert_eq!(last_line(&[&[17, 1, 2]]), line("link 25"));
     assert_eq!(last_line(&[&[17, 1, 2, 256]]), line("link 25"));
     assert_eq!(last_line(&[&[19, 1, 64]]), line("move 12"));
-    assert_eq!(last_line(&[&[24]]), line("count 0 1"));
-    assert_eq!(last_line(&[&[26]]), line("pair 0 pair 0 2 1 3"));
     assert_eq!(last_line(&[&[23, 0]]), line("settle 17 0 0 no 0"));
     assert_eq!(last_line(&[&[21, 4]]), line("sift 12 0 0"));
     let limit = last_line(&[&[23, (1 << 32) + 1]]);
     assert_eq!(limit, line("settle 17 0 0 no 0"));
+    assert!(last_line(&[&[2, 5], &[22]]).starts_with("round 11 0 0 0 n 5 "));
+}
+
+#[test]
+fn a_call_that_reads_has_its_answers() {
+    let line = unchanged;
+    assert_eq!(last_line(&[&[24]]), line("count 0 1"));
+    assert_eq!(last_line(&[&[26]]), line("pair 0 pair 0 2 1 3"));
     let buffer = last_line(&[&[25, 6, 0x1FF]]);
     assert_eq!(buffer, line("order 0 buffer 0 1 2 3 255 255"));
     assert_eq!(last_line(&[&[25, 3, 7]]), line("order 18 buffer 7 7 7"));
@@ -143,13 +153,17 @@ fn each_call_has_its_answers() {
     let refused = last_line(&[&[30, 1, u64::MAX]]);
     assert_eq!(refused, line("perlink 23 0 table 18446744073709551615"));
     assert_eq!(last_line(&[&[30, 0, 7]]), line("perlink 23 0 table"));
-    assert!(last_line(&[&[2, 5], &[22]]).starts_with("round 11 0 0 0 n 5 "));
+}
+
+#[test]
+fn a_call_that_changes_the_ring_has_its_answers() {
     let turned = places("1 0 2 3");
     let rest = format!("n 4 order {turned} count 0 words weights");
     assert_eq!(last_line(&[&[22]]), format!("round 0 1 1 8 {rest}"));
     let settled = [1, 2].map(|limit| last_line(&[&[23, limit]]));
     let due = ["1 1 no 8", "1 2 yes 16"].map(|due| format!("settle 0 {due} {rest}"));
     assert_eq!(settled, due);
+    let order = places("0 1 2 3");
     let words = "1 0 3 0 weights 1 3 0 3 1 0";
     let unlinked = format!("unlink 0 n 4 order {order} count 0 words {words}");
     assert_eq!(last_line(&[&[18, 3, 1]]), unlinked);

@@ -14,6 +14,10 @@ Inv-loop chords₀ n order weights rows i first passed₀ outgoing₀ k₀ chord
 abbrev μ-loop : tie.MeasureT-loop
 μ-loop chords₀ n order weights rows i first passed₀ outgoing₀ k₀ chords passed outgoing k = n - k
 
+-- from the loop to the start
+abbrev start : tie.At-loop Inv-loop μ-loop → tie.Start Inv-loop μ-loop
+start c = c .before .before .before
+
 loop-holds : tie.Need-loop-holds Inv-loop μ-loop
 loop-holds c =
     let given = c .before .before .pre in
@@ -29,15 +33,14 @@ loop-again c =
     let weighed = numbered .before .before in
     let turn = weighed .before .before in
     let so-far = turn .before .loop .inv in
-    let given = turn .before .before .before .before .pre in
-    row-next so-far (turn .loop-test .taken) refl refl (given .3) (weighed .weight-at .ensures .is) (numbered .next-chord .ensures)
+    row-next so-far (turn .loop-test .taken) refl refl (start (turn .before) .pre .3) (weighed .weight-at .ensures .is) (numbered .next-chord .ensures)
     (c .add-row .ensures (so-far .passed-size))
 
 same-length : tie.Need-same-length Inv-loop μ-loop
-same-length c = let given = c .before .before .before .before .pre in c .before .loop .inv .size ∙ sym (given .2)
+same-length c = c .before .loop .inv .size ∙ sym (start (c .before) .pre .2)
 
 returns : tie.Need-returns Inv-loop μ-loop
-returns c = let given = c .before .before .before .before .pre in row-end (c .before .loop .inv) (c .loop-test .left) (given .2)
+returns c = row-end (c .before .loop .inv) (c .loop-test .left) (start (c .before) .pre .2)
 
 pub chord-row-spec : {M : Type 1} → statement M
 chord-row-spec =

@@ -5,8 +5,10 @@ use mathlib.Core.Path.{_≡_, refl, sym, ap, _∙_}
 use mathlib.Core.Bool.{Bool, true, false}
 use mathlib.Core.List.{List, [], _∷_}
 use lib.ListN.{length, drop, length-drop}
+use lib.Seq.{length-take-le}
 use lib.Dec.{eqb, leb}
-use borrow.Author.Tests.{leb-true}
+use borrow.Author.Tests.{eqb-true, leb-true}
+use Rattle.model.specs.Lists.{sumOver}
 use Rattle.model.specs.Charts.{Field, Fields, bodyLength, startsWithField, firstField, fieldsIn, fieldsOf}
 use Rattle.laws.specs.Sums.Indicators.{both-right}
 
@@ -71,3 +73,37 @@ fields-there s e =
 pub fields-none : (s : List ℕ) → startsWithField s ≡ false → fieldsOf s ≡ noField s
 unfolding fieldsOf
 fields-none s e = step-none (length s) s e
+
+-- ---- how long they are
+
+-- a field with its header
+abbrev pub fieldLength : Field → ℕ
+fieldLength f = 3 + length (f .body)
+
+first-length : (s : List ℕ) → startsWithField s ≡ true → length s ≡ fieldLength (firstField s) + length (behindField s)
+unfolding firstField behindField
+first-length s e =
+    let inside : bodyLength s ≤ length (drop 3 s) = omega (arith, field-fits s e, length-drop 3 s) in
+    omega (arith, field-fits s e, length-take-le (bodyLength s) (drop 3 s) inside, length-drop (3 + bodyLength s) s)
+
+-- input that divides into fields has their bytes and no others
+pub fields-length : (s : List ℕ) → fieldsOf s .complete ≡ true → length s ≡ sumOver fieldLength (fieldsOf s .fields)
+unfolding fieldsOf fieldsIn sumOver noField inFront
+fields-length s t = in-steps (length s) s t
+  where
+    in-steps : (k : ℕ) (s : List ℕ) → fieldsIn k s .complete ≡ true → length s ≡ sumOver fieldLength (fieldsIn k s .fields)
+    in-steps zero s t = eqb-true (length s) 0 t
+    in-steps (suc k) s t = by-test (startsWithField s) refl (in-steps k (behindField s))
+      where
+        by-test : (b : Bool) → startsWithField s ≡ b
+            → (fieldsIn k (behindField s) .complete ≡ true → length (behindField s) ≡ sumOver fieldLength (fieldsIn k (behindField s) .fields))
+            → length s ≡ sumOver fieldLength (fieldsIn (suc k) s .fields)
+        by-test true e r =
+            let step = step-there k s e in
+            first-length s e
+            ∙ ap (λ (x : ℕ). fieldLength (firstField s) + x) (r (ap (λ (f : Fields). f .complete) (sym step) ∙ t))
+            ∙ ap (λ (f : Fields). sumOver fieldLength (f .fields)) (sym step)
+        by-test false e r =
+            let step = step-none (suc k) s e in
+            eqb-true (length s) 0 (ap (λ (f : Fields). f .complete) (sym step) ∙ t)
+            ∙ ap (λ (f : Fields). sumOver fieldLength (f .fields)) (sym step)

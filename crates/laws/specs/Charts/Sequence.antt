@@ -81,7 +81,7 @@ unwritten : (e : Edge) (es : List Edge) (b : Bool) → b ≡ ltb 0 (written e es
 unwritten e es true z t = absurd (false≢true t)
 unwritten e es false z t = omega (arith, ltb-false 0 (written e es) (sym z))
 
-few : (es : List Edge) → noRepeats sameEdge es ≡ true → (e : Edge) → written e es ≤ 1
+pub few : (es : List Edge) → noRepeats sameEdge es ≡ true → (e : Edge) → written e es ≤ 1
 unfolding noRepeats written sumOver one
 few [] n e = zero-le
 few (x ∷ xs) n e = by-test (sameEdge e x) refl (few xs (both-right (not (any (sameEdge x) xs)) (noRepeats sameEdge xs) n) e)

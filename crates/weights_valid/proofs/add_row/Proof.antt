@@ -24,13 +24,15 @@ mul-bits c =
 add-bits : tie.Need-add-bits Inv-loop μ-loop
 unfolding tableWeight
 add-bits c =
-    let turn = c .before .before .before .before in
-    let few = added-fits (turn .loop .inv) (c .before .before .before .loop-test .taken) (c .not-zero .ensures) (start turn .pre .2) in
+    let turn = c .before .before .before in
+    let few = added-fits (turn .before .loop .inv) (turn .loop-test .taken) (c .not-zero .ensures) (start (turn .before) .pre .2) in
     record { fits = omega (arith, few) }
 
 loop-again : tie.Need-loop-again Inv-loop μ-loop
 unfolding tableWeight
-loop-again c = added-next (c .before .before .before .before .loop .inv) (c .before .before .before .loop-test .taken) (c .not-zero .ensures)
+loop-again c =
+    let turn = c .before .before .before in
+    added-next (turn .before .loop .inv) (turn .loop-test .taken) (c .not-zero .ensures)
 
 same-length : tie.Need-same-length Inv-loop μ-loop
 same-length c = c .before .loop .inv .size ∙ sym (start (c .before) .pre .1)

@@ -88,43 +88,54 @@ fn set_field(layout: &mut Layout, [op, a, b, c]: Record) -> bool {
 /// Plays one record that answers: its name, refusal code and answers. None if
 /// it ends the list.
 fn play_record(layout: &mut Layout, record: Record, list: &mut &[u8]) -> Option<String> {
-    let [op, a, b, c] = record;
-    let (v, w) = (a as usize, b as usize);
-    let none = |()| String::new();
-    Some(match op {
+    let [op, a, ..] = record;
+    match op {
         0 => {
             *layout = Layout::empty();
-            told("empty", "", Ok(String::new()))
+            Some(told("empty", "", Ok(String::new())))
         }
-        1 => start(layout, "chart", Layout::read_chart, list, a)?,
+        1 => start(layout, "chart", Layout::read_chart, list, a),
+        28 => start(layout, "import", Layout::import_graph6, list, a),
+        _ => change(layout, record).or_else(|| read(layout, record)),
+    }
+}
+
+/// A call that changes the layout. None if the record is no such call.
+fn change(layout: &mut Layout, [op, a, b, c]: Record) -> Option<String> {
+    let (v, w) = (a as usize, b as usize);
+    let none = |()| String::new();
+    let number = |number: u64| format!(" {number}");
+    Some(match op {
         16 => told("add", " 0", layout.add_vertex().map(|v| format!(" {v}"))),
-        17 => told(
-            "link",
-            "",
-            layout.add_weighted_edge(v, w, c as u8).map(none),
-        ),
+        17 => {
+            let added = layout.add_weighted_edge(v, w, c as u8);
+            told("link", "", added.map(none))
+        }
         18 => told("unlink", "", layout.remove_edge(v, w).map(none)),
         19 => told("move", "", layout.move_after(v, w).map(none)),
-        20 => told(
-            "lay",
-            " 0",
-            layout.greedy_append(v).map(|t| format!(" {t}")),
-        ),
+        20 => told("lay", " 0", layout.greedy_append(v).map(number)),
         21 => told("sift", " 0 0", sift_text(layout, v)),
         22 => told("round", " 0 0 0", round_text(layout)),
         23 => {
             let limit = u32::try_from(a).unwrap_or(u32::MAX);
             told("settle", " 0 0 no 0", converge_text(layout, limit))
         }
+        _ => return None,
+    })
+}
+
+/// A call that only reads the layout. None if the record is no such call.
+fn read(layout: &Layout, record: Record) -> Option<String> {
+    let [op, a, b, _] = record;
+    Some(match op {
         24 => told("count", " 0", layout.count().map(|c| format!(" {c}"))),
         25 => {
             let mut buffer = filled(a, LONGEST_ORDER, b as u8);
-            let written = layout.write_order(&mut buffer).map(none);
-            told("order", "", written) + &buffer_text(&buffer)
+            let written = layout.write_order(&mut buffer);
+            told("order", "", written.map(|()| String::new())) + &buffer_text(&buffer)
         }
         26 => told("pair", " refused", crossing_text(layout)),
         27 => write(layout, "write", Layout::write_chart, record),
-        28 => start(layout, "import", Layout::import_graph6, list, a)?,
         29 => write(layout, "export", Layout::export_graph6, record),
         30 => edge_crossings(layout, record),
         _ => return None,

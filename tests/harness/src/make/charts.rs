@@ -126,7 +126,7 @@ impl Shape {
 
 fn accepted_chart(rng: &mut Rng, shape: Shape) -> Made {
     let (mut graph, family) = shape.graph(rng);
-    let weights = weights::in_turn(rng, &mut graph, shape.number);
+    weights::in_turn(rng, &mut graph, shape.number);
     let settled = shape.settled.then(|| settled(&graph)).flatten();
     let kind = match (&settled, family) {
         (Some(_), _) => SETTLED,
@@ -138,7 +138,7 @@ fn accepted_chart(rng: &mut Rng, shape: Shape) -> Made {
         bytes: Chart::of(&graph).bytes(),
         kind,
         family,
-        weights: Some(weights),
+        weights: graph.kind,
         refusal: Some(0),
         naive: cost::settle(graph.n(), graph.edges.len()) <= cost::NAIVE,
     }
@@ -199,9 +199,9 @@ mod tests {
     #[test]
     fn charts_have_their_length() {
         for (n, m) in [(0, 0), (17, 127), (17, 128), (64, 2016)] {
-            let mut graph = Graph::with_edges(&mut Rng::new(1, "length", m), n, m);
+            let graph = Graph::with_edges(&mut Rng::new(1, "length", m), n, m);
             assert_eq!(Chart::of(&graph).bytes().len() as u64, length(n, m, false));
-            graph.weights = Some(vec![2; m]);
+            let graph = graph.with_weights(vec![2; m]);
             assert_eq!(Chart::of(&graph).bytes().len() as u64, length(n, m, true));
         }
         let longest = [false, true].map(|weighted| length(64, 2016, weighted));

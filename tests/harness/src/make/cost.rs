@@ -47,9 +47,9 @@ pub fn most_edges(n: usize, budget: u64) -> usize {
     (0..=2016).find(dear).map_or(2016, |m| m.saturating_sub(1))
 }
 
-/// The proved program, in nanoseconds: so many sifts, each of which looks at
-/// all vertices once for each place. Its other calls take next to nothing.
-pub fn proved_sifts(n: usize, sifts: u64) -> u64 {
+/// The second program, which is slower than the proved one, in nanoseconds: so
+/// many sifts with all edges, roughly. Its other calls aren't reckoned.
+pub fn second_sifts(n: usize, sifts: u64) -> u64 {
     2 * (n as u64).pow(3) * sifts
 }
 

@@ -60,10 +60,10 @@ const WEIGHTS: [u8; 7] = [1, 2, 3, 1, 255, 5, 2];
 
 /// The same graph with weights.
 pub fn weighed(number: usize) -> Graph {
-    let mut graph = graph(number);
+    let graph = graph(number);
     let weight = |place: usize| WEIGHTS[(number + 3 * place) % WEIGHTS.len()];
-    graph.weights = Some((0..graph.edges.len()).map(weight).collect());
-    graph
+    let weights: Vec<u8> = (0..graph.edges.len()).map(weight).collect();
+    graph.with_weights(weights)
 }
 
 #[cfg(test)]

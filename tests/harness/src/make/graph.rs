@@ -1,6 +1,7 @@
 //! Graphs with an order and weights, of which charts and layouts are made.
 
 use super::density;
+use super::weights::WITHOUT;
 use crate::rng::Rng;
 
 /// An edge, its ends either way round.
@@ -12,6 +13,8 @@ pub struct Graph {
     pub edges: Vec<Edge>,
     /// One for each edge; where there are none, all weigh 1.
     pub weights: Option<Vec<u8>>,
+    /// The name of the weights' kind, if they are of one.
+    pub kind: Option<&'static str>,
     pub order: Vec<u8>,
 }
 
@@ -21,7 +24,17 @@ impl Graph {
         Graph {
             edges,
             weights: None,
+            kind: Some(WITHOUT),
             order,
+        }
+    }
+
+    /// The same graph with these weights.
+    pub fn with_weights(self, weights: impl Into<Vec<u8>>) -> Graph {
+        Graph {
+            weights: Some(weights.into()),
+            kind: None,
+            ..self
         }
     }
 
@@ -82,19 +95,21 @@ impl Graph {
         let mut edges = self.weighted_edges();
         rng.shuffle(&mut edges);
         let (ends, weights): (Vec<Edge>, Vec<u8>) = edges.into_iter().unzip();
-        let mut other = Graph::new(rng, self.n(), ends);
         let ones = weights.iter().all(|&weight| weight == 1);
-        other.weights = (!ones || self.weights.is_none()).then_some(weights);
-        other.order = self.order.clone();
-        other
+        let other = Graph {
+            order: self.order.clone(),
+            ..Graph::new(rng, self.n(), ends)
+        };
+        if ones && self.weights.is_some() {
+            other
+        } else {
+            other.with_weights(weights)
+        }
     }
 
     /// The same graph without weights.
     pub fn unweighted(&self) -> Graph {
-        Graph {
-            weights: None,
-            ..self.clone()
-        }
+        Graph::of(self.edges.clone(), self.order.clone())
     }
 
     /// The adjacency words.

@@ -160,9 +160,11 @@ impl Maker {
     fn heavy_cliques(&mut self) {
         let mut edges = all_pairs(64);
         edges.retain(|(a, b)| a % 2 == b % 2);
-        let mut graph = Graph::of(edges, vertices(64));
-        graph.weights = Some(vec![255; graph.edges.len()]);
-        self.weights.push(HEAVIEST);
+        let weights = vec![255; edges.len()];
+        let graph = Graph {
+            kind: Some(HEAVIEST),
+            ..Graph::of(edges, vertices(64)).with_weights(weights)
+        };
         self.write_graph(&graph);
         self.emit(SETTLE, 1000, 0);
         self.emit(LAY, 0, 0);

@@ -7,7 +7,7 @@ use super::graph6::Graph6;
 use super::held::Held;
 use super::ops::*;
 use super::records;
-use super::weights::{self, WITHOUT};
+use super::weights;
 use crate::rng::Rng;
 
 /// The calls, those oftener that are to come oftener.
@@ -20,9 +20,9 @@ const CALLS: [u64; 31] = [
 /// What the naive model may do for the calls of one list that are chosen by it.
 const NAIVE: u64 = 1 << 28;
 
-/// What the proved program may do, in nanoseconds, for one large graph's calls
+/// What the second program may do, in nanoseconds, for one large graph's calls
 /// that are chosen by it.
-const PROVED: u64 = 150_000_000;
+const SECOND: u64 = 150_000_000;
 
 /// More edges than these are many.
 const MANY: usize = 300;
@@ -37,7 +37,7 @@ pub struct Maker {
     pub starts: Vec<&'static str>,
     /// The names of the families that graphs are of.
     pub graphs: Vec<&'static str>,
-    /// The names of the kinds of weights that graphs have.
+    /// The names of the kinds of weights that graphs are written with.
     pub weights: Vec<&'static str>,
     /// Whether graphs have weights, and links others than 1.
     pub weighs: bool,
@@ -58,7 +58,7 @@ pub struct Maker {
 #[derive(Clone, Copy)]
 enum Budget {
     Naive(u64),
-    Proved(u64),
+    Second(u64),
 }
 
 impl Maker {
@@ -83,9 +83,9 @@ impl Maker {
     }
 
     /// From here on calls may be too dear for the naive model, up to what the
-    /// proved program may do for one graph.
+    /// second program may do for one graph.
     pub fn without_naive(&mut self) {
-        self.budget = Budget::Proved(PROVED);
+        self.budget = Budget::Second(SECOND);
     }
 
     /// Whether the naive model can play the list in bearable time.
@@ -137,6 +137,7 @@ impl Maker {
     }
 
     fn hold(&mut self, graph: &Graph) {
+        self.weights.extend(graph.kind);
         (self.n, self.edges) = (graph.n(), graph.edges.clone());
         let heavy = graph.weighted_edges().into_iter();
         let heavy = heavy.filter(|&(_, weight)| weight != 1);
@@ -150,12 +151,9 @@ impl Maker {
 
     /// Gives a graph weights of some kind, if the list has weights.
     pub fn weigh(&mut self, graph: &mut Graph) {
-        let kind = if self.weighs {
-            weights::any(&mut self.rng, graph)
-        } else {
-            WITHOUT
-        };
-        self.weights.push(kind);
+        if self.weighs {
+            weights::any(&mut self.rng, graph);
+        }
     }
 
     /// Starts from a graph in its order, in one way or the other. One with many
@@ -187,7 +185,7 @@ impl Maker {
     pub fn most_edges(&self, n: usize) -> usize {
         match self.budget {
             Budget::Naive(left) => cost::most_edges(n, left / 4),
-            Budget::Proved(_) => usize::MAX,
+            Budget::Second(_) => usize::MAX,
         }
     }
 
@@ -260,16 +258,16 @@ impl Maker {
     pub fn allows(&self, op: u64) -> bool {
         match self.budget {
             Budget::Naive(left) => self.naive_cost(op, 1000) <= left,
-            Budget::Proved(left) => self.proved_cost(op, 1000) <= left,
+            Budget::Second(left) => self.second_cost(op, 1000) <= left,
         }
     }
 
     fn spend(&mut self, op: u64, a: u64) {
-        let (naive, proved) = (self.naive_cost(op, a), self.proved_cost(op, a));
+        let (naive, second) = (self.naive_cost(op, a), self.second_cost(op, a));
         self.naive = self.naive.saturating_add(naive);
         self.budget = match self.budget {
             Budget::Naive(left) => Budget::Naive(left.saturating_sub(naive)),
-            Budget::Proved(left) => Budget::Proved(left.saturating_sub(proved)),
+            Budget::Second(left) => Budget::Second(left.saturating_sub(second)),
         };
     }
 
@@ -287,14 +285,14 @@ impl Maker {
         }
     }
 
-    fn proved_cost(&self, op: u64, a: u64) -> u64 {
+    fn second_cost(&self, op: u64, a: u64) -> u64 {
         let sifts = match op {
             SIFT => 1,
             ROUND => cost::sifts(self.n, 1),
             SETTLE if a <= 1000 => cost::sifts(self.n, a),
             _ => 0,
         };
-        cost::proved_sifts(self.n, sifts)
+        cost::second_sifts(self.n, sifts)
     }
 
     /// What a call does to the vertices and the edges.

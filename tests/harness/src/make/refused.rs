@@ -40,7 +40,7 @@ impl Maker {
             (EXPORT, 26) => {
                 let mut weights = vec![1; m];
                 weights[self.rng.below(m)] = self.rng.within(2, 255) as u8;
-                graph.weights = Some(weights);
+                graph = graph.with_weights(weights);
             }
             _ => self.weigh(&mut graph),
         }

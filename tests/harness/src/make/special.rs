@@ -41,9 +41,8 @@ pub const SPECIALS: [Special; 55] = [
         Chart::of(&Graph::of(all_pairs(64), vertices(64))).bytes()
     }),
     accepted("64 vertices, all edges of weight 255", |_| {
-        let mut graph = Graph::of(all_pairs(64), vertices(64));
-        graph.weights = Some(vec![255; 2016]);
-        Chart::of(&graph).bytes()
+        let graph = Graph::of(all_pairs(64), vertices(64));
+        Chart::of(&graph.with_weights([255; 2016])).bytes()
     }),
     refused(24, "a weight too few", |rng| {
         weighted(rng, |_, weights| weights.truncate(weights.len() - 1))
@@ -335,9 +334,7 @@ fn spoilt(rng: &mut Rng, more: &[isize], change: fn(&mut Chart)) -> Vec<u8> {
 /// A chart without edges, with a field of weights.
 fn without_edges(rng: &mut Rng, weights: Vec<u8>) -> Vec<u8> {
     let n = rng.within(1, 14);
-    let mut graph = Graph::random(rng, n, 0);
-    graph.weights = Some(weights);
-    Chart::of(&graph).bytes()
+    Chart::of(&Graph::random(rng, n, 0).with_weights(weights)).bytes()
 }
 
 /// A chart without vertices.

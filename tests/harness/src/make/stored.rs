@@ -41,6 +41,7 @@ pub fn list(known: &Known) -> Vec<u8> {
     };
     list.empty_layout();
     list.six_vertices();
+    list.six_vertices_changed();
     list.far_vertices();
     list.lays();
     list.sifts();
@@ -132,6 +133,7 @@ impl List<'_> {
         ]);
     }
 
+    /// Six vertices, linked, and shown in every way.
     fn six_vertices(&mut self) {
         self.play(&[[ADD, 0, 0, 0]; 6]);
         self.play(&[
@@ -155,6 +157,12 @@ impl List<'_> {
             [PERLINK, 3, u64::MAX, 0],
             [PERLINK, 4, 9, 0],
             [PERLINK, 5, u64::MAX, 0],
+        ]);
+    }
+
+    /// The same, changed and sifted.
+    fn six_vertices_changed(&mut self) {
+        self.play(&[
             [UNLINK, 0, 1, 0],
             [UNLINK, 4, 4, 0],
             [UNLINK, 0, 6, 0],
@@ -252,10 +260,15 @@ impl List<'_> {
         }
     }
 
+    /// Starts from the chart of a graph.
+    fn read(&mut self, graph: &Graph) {
+        self.bytes.extend(chart(&Chart::of(graph).bytes()));
+    }
+
     /// Starts from a graph, by a chart, which is shorter, or by its fields.
     fn start(&mut self, graph: &Graph) {
         if self.known.has(CHART) {
-            self.bytes.extend(chart(&Chart::of(graph).bytes()));
+            self.read(graph);
         } else {
             self.play(&fields(graph));
         }
@@ -289,9 +302,8 @@ impl List<'_> {
 
     /// 64 vertices, all 2,016 edges of the largest weight.
     fn heaviest_layout(&mut self) {
-        let mut graph = Graph::of(all_pairs(64), vertices(64));
-        graph.weights = Some(vec![255; 2016]);
-        self.start(&graph);
+        let graph = Graph::of(all_pairs(64), vertices(64));
+        self.start(&graph.with_weights([255; 2016]));
         self.play(&[
             [SET_COUNT, 41_315_324_400, 0, 0],
             [COUNT, 0, 0, 0],
@@ -312,8 +324,7 @@ impl List<'_> {
     /// All edges of four vertices with weights: laid from every vertex, and with
     /// every other call; and the first ring with one weight and with two.
     fn weighted_layouts(&mut self) {
-        let mut four = Graph::of(all_pairs(4), vertices(4));
-        four.weights = Some(WEIGHTS.to_vec());
+        let four = Graph::of(all_pairs(4), vertices(4)).with_weights(WEIGHTS);
         for v in 0..4 {
             self.play(&fields(&four));
             self.play(&[[LAY, v, 0, 0]]);
@@ -344,9 +355,7 @@ impl List<'_> {
             [UNLINK, 3, 1, 0],
         ]);
         for weights in [[1, 2], [255, 255]] {
-            let mut square = square();
-            square.weights = Some(weights.to_vec());
-            self.play(&fields(&square));
+            self.play(&fields(&square().with_weights(weights)));
             self.every_call();
         }
     }
@@ -495,8 +504,7 @@ impl List<'_> {
         self.play(&fields(&square()));
         self.play(&[[SET_COUNT, 7, 0, 0], [WRITE, 17, 0, 0], [WRITE, 18, 0, 0]]);
         if self.known.has(CHART) {
-            self.bytes
-                .extend(chart(&Chart::of(&sorted_square()).bytes()));
+            self.read(&sorted_square());
         }
         self.play(&[[WRITE, 19, 255, 0], [MOVE, 0, 1, 0]]);
         self.play(&[[SET_COUNT, 7, 0, 0], [EXPORT, 1, 0, 0], [EXPORT, 2, 0, 0]]);
@@ -518,7 +526,7 @@ impl List<'_> {
             self.bytes.extend(chart(&refused));
             self.play(&[[COUNT, 0, 0, 0]]);
         }
-        self.bytes.extend(chart(&Chart::of(&square()).bytes()));
+        self.read(&square());
         self.every_call();
     }
 
@@ -529,20 +537,31 @@ impl List<'_> {
             return;
         }
         for weights in [[1, 1], [1, 2], [2, 1], [255, 255]] {
-            let mut square = square();
-            square.weights = Some(weights.to_vec());
-            self.bytes.extend(chart(&Chart::of(&square).bytes()));
+            self.read(&square().with_weights(weights));
             self.play(&[[WRITE, 23, 7, 0]]);
-            let mut sorted = sorted_square();
-            sorted.weights = Some(weights.to_vec()).filter(|weights| *weights != [1, 1]);
-            self.bytes.extend(chart(&Chart::of(&sorted).bytes()));
+            match weights {
+                [1, 1] => self.read(&sorted_square()),
+                _ => self.read(&sorted_square().with_weights(weights)),
+            }
             self.play(&[[WRITE, 23, 7, 0], [EXPORT, 2, 7, 0]]);
         }
-        let mut none = Graph::of(vec![], vertices(2));
-        none.weights = Some(vec![]);
-        self.bytes.extend(chart(&Chart::of(&none).bytes()));
-        none.weights = Some(vec![1]);
-        self.bytes.extend(chart(&Chart::of(&none).bytes()));
+        for weights in [&[][..], &[1]] {
+            self.read(&Graph::of(vec![], vertices(2)).with_weights(weights));
+        }
+        self.refused_weights();
+        let weights = field(0x57, &[1, 1]);
+        for place in 0..=3 {
+            let mut fields = Chart::of(&square()).fields();
+            fields.insert(place, weights.clone());
+            self.bytes.extend(chart(&fields.concat()));
+            fields.push(weights.clone());
+            self.bytes.extend(chart(&fields.concat()));
+        }
+    }
+
+    /// The first ring with each field of weights that is refused, and with an
+    /// order that is refused before it.
+    fn refused_weights(&mut self) {
         for weights in [
             &[][..],
             &[1],
@@ -553,18 +572,9 @@ impl List<'_> {
             &[9, 0],
         ] {
             for order in [vertices(4), vec![0, 1, 2, 2]] {
-                let mut square = Graph { order, ..square() };
-                square.weights = Some(weights.to_vec());
-                self.bytes.extend(chart(&Chart::of(&square).bytes()));
+                let square = Graph { order, ..square() };
+                self.read(&square.with_weights(weights));
             }
-        }
-        let weights = field(0x57, &[1, 1]);
-        for place in 0..=3 {
-            let mut fields = Chart::of(&square()).fields();
-            fields.insert(place, weights.clone());
-            self.bytes.extend(chart(&fields.concat()));
-            fields.push(weights.clone());
-            self.bytes.extend(chart(&fields.concat()));
         }
     }
 

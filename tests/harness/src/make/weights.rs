@@ -35,29 +35,28 @@ pub fn names() -> impl Iterator<Item = &'static str> {
     std::iter::once(WITHOUT).chain(weighed)
 }
 
-/// Gives a graph weights of the kind whose turn it is, and tells its name.
-pub fn in_turn(rng: &mut Rng, graph: &mut Graph, turn: usize) -> &'static str {
-    match (turn % TURN).checked_sub(UNWEIGHTED) {
-        None => WITHOUT,
-        Some(kind) => weigh(rng, graph, KINDS[kind]),
+/// Gives a graph weights of the kind whose turn it is.
+pub fn in_turn(rng: &mut Rng, graph: &mut Graph, turn: usize) {
+    if let Some(kind) = (turn % TURN).checked_sub(UNWEIGHTED) {
+        weigh(rng, graph, KINDS[kind]);
     }
 }
 
-/// Gives a graph weights of any kind, now and then none, and tells its name.
-pub fn any(rng: &mut Rng, graph: &mut Graph) -> &'static str {
-    if rng.once_in(4) {
-        return WITHOUT;
+/// Gives a graph weights of any kind, now and then none.
+pub fn any(rng: &mut Rng, graph: &mut Graph) {
+    if !rng.once_in(4) {
+        let kind = rng.pick(&KINDS);
+        weigh(rng, graph, kind);
     }
-    let kind = rng.pick(&KINDS);
-    weigh(rng, graph, kind)
 }
 
-fn weigh(rng: &mut Rng, graph: &mut Graph, (name, weight): Kind) -> &'static str {
+/// Without edges there are no weights of any kind.
+fn weigh(rng: &mut Rng, graph: &mut Graph, (name, weight): Kind) {
     let edges = 0..graph.edges.len();
     let mut weights: Vec<u8> = edges.map(|edge| weight(rng, edge == 0)).collect();
     rng.shuffle(&mut weights);
+    graph.kind = Some(name).filter(|_| !weights.is_empty());
     graph.weights = Some(weights);
-    name
 }
 
 #[cfg(test)]
@@ -79,7 +78,7 @@ mod tests {
             "1 and 2" => all(&[1, 2]),
             "1, 2 and 255" => all(&[1, 2, 255]),
             "any" => true,
-            "one other than 1" => ones + 1 == weights.len() || weights.is_empty(),
+            "one other than 1" => ones + 1 == weights.len(),
             _ => false,
         }
     }
@@ -90,13 +89,14 @@ mod tests {
         let mut weights = BTreeSet::new();
         for index in 0..10 * TURN {
             let mut rng = Rng::new(1, "weights", index);
-            let mut graph = Graph::random(&mut rng, index % 20, usize::MAX);
+            let unweighted = Graph::with_edges(&mut rng, 12, 1 + index % 60);
             for any in [false, true] {
-                graph.weights = None;
-                let name = match any {
+                let mut graph = unweighted.clone();
+                match any {
                     true => super::any(&mut rng, &mut graph),
                     false => in_turn(&mut rng, &mut graph, index),
-                };
+                }
+                let name = graph.kind.expect("a kind");
                 *met.entry(name).or_default() += usize::from(!any);
                 assert!(belong(name, graph.weights.as_deref()), "{name}");
                 let given = graph.weights.iter().flatten();
@@ -107,5 +107,16 @@ mod tests {
         assert!(names().all(|name| met[name] == 10 || name == WITHOUT));
         assert_eq!(met[WITHOUT], 10 * UNWEIGHTED);
         assert!(weights.len() > 200, "{}", weights.len());
+    }
+
+    #[test]
+    fn a_graph_without_edges_has_weights_of_no_kind() {
+        let mut rng = Rng::new(1, "weights", 0);
+        for turn in 0..TURN {
+            let mut graph = Graph::random(&mut rng, 3, 0);
+            in_turn(&mut rng, &mut graph, turn);
+            let due = [(None, Some(WITHOUT)), (Some(vec![]), None)];
+            assert!(due.contains(&(graph.weights, graph.kind)));
+        }
     }
 }

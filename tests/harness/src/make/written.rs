@@ -139,8 +139,7 @@ impl Maker {
         let fewest = (0..64).find(|&n| possible(n) >= m).unwrap_or(64);
         let n = self.rng.within(fewest, 64);
         let mut graph = Graph::with_edges(&mut self.rng, n, m);
-        let kind = weights::in_turn(&mut self.rng, &mut graph, index / EDGES.len());
-        self.weights.push(kind);
+        weights::in_turn(&mut self.rng, &mut graph, index / EDGES.len());
         graph
     }
 
@@ -160,6 +159,7 @@ mod tests {
     use crate::entries::{entries, Entry};
     use crate::followed::{lent, steps, Step};
     use crate::make::lists;
+    use crate::make::weights::WITHOUT;
     use crate::naive::play::play;
     use crate::rng::Rng;
     use crate::written::is_read_back;
@@ -221,6 +221,39 @@ mod tests {
         }
         assert!(rooms.iter().any(|&(_, room)| room == -2));
         fills
+    }
+
+    /// The turn of the kind "all 2".
+    const TWOS: usize = 7;
+
+    /// The kinds of weights that are told of a graph of this kind, written in some
+    /// way.
+    fn kinds(names: &str, write: fn(&mut Maker, &Graph)) -> Vec<&'static str> {
+        let known = Known::parse(names).expect("known names");
+        let mut maker = Maker::new(Rng::new(1, "kinds", 0), &known);
+        let mut graph = Graph::in_quarter(&mut maker.rng, 9, 1);
+        weights::in_turn(&mut maker.rng, &mut graph, TWOS);
+        write(&mut maker, &graph);
+        maker.weights
+    }
+
+    /// In its turn the graph stands beside one with each number of edges; that
+    /// without any has no kind.
+    #[test]
+    fn a_kind_of_weights_is_told_where_it_is_written() {
+        let kind = ["all 2"];
+        assert_eq!(kinds("all", Maker::write_chart), kind);
+        assert_eq!(kinds("all", Maker::write_fields), kind);
+        assert_eq!(kinds("all", Maker::write_graph6), [WITHOUT]);
+        let lent: fn(&mut Maker, &Graph) = |maker, graph| {
+            for place in 0..EDGES.len() {
+                maker.call_lent_in_turn(graph, TWOS * EDGES.len() + place);
+            }
+        };
+        assert_eq!(kinds("write", lent), ["all 2"; 7]);
+        assert_eq!(kinds("export", lent), [WITHOUT; 8]);
+        let alike = kinds("chart,write", |maker, graph| maker.write_alike(graph));
+        assert_eq!(alike, kind);
     }
 
     /// How often something was written in a list, and how often it was read

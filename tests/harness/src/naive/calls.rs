@@ -3,8 +3,8 @@
 use super::chart::written;
 use super::graph6::exported;
 use super::layout::{
-    crossings, crossings_of_each, first_pair, is_weighted, isolated, joined, list, valid, weighted,
-    Edge, Layout, Weighted,
+    crossings, crossings_of_each, first_pair, is_weighted, isolated, join, joined, list, valid,
+    weighted, Edge, Layout, Weighted,
 };
 
 /// The refusal number and the answers. Only an accepted call changes the
@@ -74,12 +74,7 @@ pub fn link(layout: &mut Layout, a: u64, b: u64, weight: u8) -> u8 {
     if weight == 0 {
         return 25;
     }
-    counting(layout, |layout| {
-        layout.words[a] |= 1 << b;
-        layout.words[b] |= 1 << a;
-        layout.weights[a][b] = weight;
-        layout.weights[b][a] = weight;
-    });
+    counting(layout, |layout| join(layout, a, b, weight));
     0
 }
 

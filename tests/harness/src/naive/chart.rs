@@ -1,7 +1,7 @@
 //! The chart reader: the eight questions of document 01, one after the other,
 //! and the two of Note 8 of document 02. The chart writer: Notes 1 and 8.
 
-use super::layout::{crossings, edges, empty, is_weighted, list, weighted, Layout};
+use super::layout::{crossings, edges, empty, is_weighted, join, list, weighted, Layout};
 
 /// A field: its tag and its body.
 type Field = (u8, Vec<u8>);
@@ -103,10 +103,7 @@ fn build(fields: &[Field]) -> Layout {
     }
     let weights = weights(fields);
     for (i, [a, b]) in links(fields).into_iter().enumerate() {
-        layout.words[a as usize] |= 1 << b;
-        layout.words[b as usize] |= 1 << a;
-        layout.weights[a as usize][b as usize] = weights[i];
-        layout.weights[b as usize][a as usize] = weights[i];
+        join(&mut layout, a as usize, b as usize, weights[i]);
     }
     layout.count = crossings(&list(&layout), &weighted(&layout));
     layout

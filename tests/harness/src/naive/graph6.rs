@@ -1,7 +1,7 @@
 //! graph6: Note 4 of document 02. Both ways the graph is a row of bits, each 0
 //! or 1, six to a byte.
 
-use super::layout::{crossings, empty, joined, list, weighted, Edge, Layout};
+use super::layout::{crossings, empty, join, joined, list, weighted, Edge, Layout};
 
 /// The refusal number, and the layout: the empty one where it isn't 0.
 pub fn import(input: &[u8]) -> (u8, Layout) {
@@ -23,10 +23,7 @@ pub fn import(input: &[u8]) -> (u8, Layout) {
     }
     for (i, &(v, w)) in pairs.iter().enumerate() {
         if row[i] == 1 {
-            layout.words[v] |= 1 << w;
-            layout.words[w] |= 1 << v;
-            layout.weights[v][w] = 1;
-            layout.weights[w][v] = 1;
+            join(&mut layout, v, w, 1);
         }
     }
     layout.count = crossings(&list(&layout), &weighted(&layout));

@@ -34,6 +34,14 @@ pub fn joined(words: &[u64; 64], v: usize, w: usize) -> bool {
     (words[v] >> w) & 1 == 1
 }
 
+/// Joins two vertices by an edge of some weight.
+pub fn join(layout: &mut Layout, v: usize, w: usize, weight: u8) {
+    layout.words[v] |= 1 << w;
+    layout.words[w] |= 1 << v;
+    layout.weights[v][w] = weight;
+    layout.weights[w][v] = weight;
+}
+
 /// Whether the layout is valid (whole).
 pub fn valid(layout: &Layout) -> bool {
     if layout.n > 64 {

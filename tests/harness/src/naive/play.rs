@@ -9,10 +9,15 @@ use super::layout::{empty, Layout};
 
 /// Plays the list from the empty layout and gives every line.
 pub fn play(list: &[u8]) -> String {
+    play_from(empty(), list)
+}
+
+/// The same from any layout.
+pub fn play_from(layout: Layout, list: &[u8]) -> String {
     let mut player = Player {
         list,
         at: 0,
-        layout: empty(),
+        layout,
     };
     let mut lines = Vec::new();
     while player.at < list.len() {

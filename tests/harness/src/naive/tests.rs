@@ -35,10 +35,9 @@ fn layout_of(graph: &Graph) -> Layout {
 
 /// A layout of edges with weights.
 fn heavy(order: &[u8], edges: &[(u8, u8, u8)]) -> Layout {
-    let mut graph = Graph::of(vec![], order.to_vec());
-    graph.edges = edges.iter().map(|&(v, w, _)| (v, w)).collect();
-    graph.weights = Some(edges.iter().map(|&(.., weight)| weight).collect());
-    layout_of(&graph)
+    let ends = edges.iter().map(|&(v, w, _)| (v, w)).collect();
+    let weights: Vec<u8> = edges.iter().map(|&(.., weight)| weight).collect();
+    layout_of(&Graph::of(ends, order.to_vec()).with_weights(weights))
 }
 
 /// A random graph of n vertices, without weights or with some.
@@ -732,9 +731,8 @@ fn each_weight_counts_for_validity() {
 
 /// A chart of three vertices and two edges with some field 57.
 fn with_weights(weights: &[u8]) -> Vec<u8> {
-    let mut graph = rising(3, &[(2, 1), (0, 1)]);
-    graph.weights = Some(weights.to_vec());
-    Chart::of(&graph).bytes()
+    let graph = rising(3, &[(2, 1), (0, 1)]);
+    Chart::of(&graph.with_weights(weights)).bytes()
 }
 
 #[test]
@@ -756,14 +754,9 @@ fn weights_of_charts() {
     assert_eq!(read(&with_weights(&[1, 1])), (0, without.clone()));
     assert_eq!(written(&without), [&sorted[..], &behind[..6]].concat());
     assert_eq!(written(&heaviest(64)).len(), 6125);
-    let mut none = rising(3, &[]);
-    none.weights = Some(vec![]);
-    assert_eq!(
-        read(&Chart::of(&none).bytes()),
-        (0, layout(&[0, 1, 2], &[]))
-    );
-    none.weights = Some(vec![1]);
-    assert_eq!(read(&Chart::of(&none).bytes()).0, 24);
+    let none = |weights: &[u8]| read(&Chart::of(&rising(3, &[]).with_weights(weights)).bytes());
+    assert_eq!(none(&[]), (0, layout(&[0, 1, 2], &[])));
+    assert_eq!(none(&[1]).0, 24);
 }
 
 /// Two charts of the same ring give the same bytes, however their edges are
@@ -826,8 +819,8 @@ fn weights_and_wide_counts_are_played() {
 
 #[test]
 fn a_listing_has_the_sums() {
-    let mut graph = rising(4, &FOUR.map(|(v, w, _)| (v, w)));
-    graph.weights = Some(FOUR.map(|(.., weight)| weight).to_vec());
+    let graph = rising(4, &FOUR.map(|(v, w, _)| (v, w)));
+    let graph = graph.with_weights(FOUR.map(|(.., weight)| weight));
     let due = "devices 4\nlinks 6\nbefore 6\nafter 1\nrounds 2\nsettled yes\norder 1 2 0 3\n";
     assert_eq!(listing(&Chart::of(&graph).bytes()), due);
 }

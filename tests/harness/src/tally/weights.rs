@@ -229,9 +229,7 @@ mod tests {
 
     /// Vertices in rising order with edges of some weights.
     fn graph(n: usize, edges: &[Edge], weights: &[u8]) -> Graph {
-        let mut graph = Graph::of(edges.to_vec(), vertices(n));
-        graph.weights = Some(weights.to_vec());
-        graph
+        Graph::of(edges.to_vec(), vertices(n)).with_weights(weights)
     }
 
     /// What occurs in the last line of a list that starts from a graph.
