@@ -6,7 +6,7 @@ use native.Mathlib.Omega.{arith}
 use mathlib.Core.Path.{_≡_, refl, sym, ap, _∙_, subst}
 use mathlib.Core.Bool.{Bool, true, false, cond, _||_, or-false}
 use mathlib.Core.List.{List, [], _∷_, map, flatMap}
-use lib.ListN.{length, replicate, length-map, length-replicate}
+use lib.ListN.{length, replicate, length-replicate}
 use lib.Dec.{T, eqb}
 use borrow.Author.Tests.{eq-eqb, lt-leb}
 use Rattle.model.specs.declared.Layout.{Layout}
@@ -29,7 +29,7 @@ use Rattle.laws.specs.Layouts.Refusals.{all-pass}
 use Rattle.laws.specs.Charts.Ends.{within-mono}
 use Rattle.laws.specs.Charts.Weights.{WeighedBy, table-weighed, joined-has}
 use Rattle.laws.specs.Charts.Layouts.{Accepted, valid-read, count-true}
-use Rattle.laws.specs.Charts.Lengths.{same-length}
+use Rattle.laws.specs.Charts.Lengths.{fields-number}
 use Rattle.laws.specs.Charts.Reading.{read-is, read-number, chart-numbered, accepted, accepted-weights, chartWeight, layout-listed}
 use Rattle.laws.specs.Graph6.Imports.{import-number, import-is, imported-graph6, edges-accepted, unit, unit-listed}
 use Rattle.laws.specs.Layouts.Units.{Unit, Agreeing, unit-agrees, agrees-unit, ones-all}
@@ -123,8 +123,7 @@ forgetRead r = record { refusal = r .refusal; layout = forget (r .layout) }
 -- three fields: no weights
 no-fourth : (s : List ℕ) → sameList (tagsOf s) chartTags ≡ true → hasWeights s ≡ false
 unfolding hasWeights
-no-fourth s t =
-    lt-leb 4 (length (fieldsOf s .fields)) (omega (arith, length-map (fieldsOf s .fields) (λ f. f .tag), same-length (tagsOf s) chartTags t))
+no-fourth s t = lt-leb 4 (length (fieldsOf s .fields)) (omega (arith, fields-number s chartTags t))
 
 all-weigh : (k : ℕ) → every isWeight (replicate k 1) ≡ true
 unfolding every isWeight

@@ -24,7 +24,7 @@ use Rattle.laws.specs.Layouts.Refusals.{all-pass}
 use Rattle.laws.specs.Charts.Fields.{fieldLength, fields-length}
 use Rattle.laws.specs.Charts.Wrapped.{edges-number}
 use Rattle.laws.specs.Charts.Reading.{read-number, chart-numbered, sameEdge-swap}
-use Rattle.laws.specs.Charts.Sequence.{written, few}
+use Rattle.laws.specs.Charts.Sequence.{written, written-few}
 use Rattle.laws.specs.Charts.EdgeLists.{pairSum-if-there}
 
 -- ---- edges that are listed once each
@@ -52,16 +52,20 @@ pub listed-few : {n : ℕ} (es : List Edge) → n ≤ 64 → every (edgeWithin n
 unfolding pairSum sum one
 listed-few {n} es h within once =
     rw (pairs-listed n (all-every (edgeWithin n) es within))
-    (pairSum-mono n 64 (λ a b. written (edge a b) es) (λ a b. 1) h (λ a b l m. few es once (edge a b)))
+    (pairSum-mono n 64 (λ a b. written (edge a b) es) (λ a b. 1) h (λ a b l m. written-few es once (edge a b)))
 
 -- ---- the fields
 
-pub same-length : (xs ys : List ℕ) → sameList xs ys ≡ true → length xs ≡ length ys
+same-length : (xs ys : List ℕ) → sameList xs ys ≡ true → length xs ≡ length ys
 unfolding sameList
 same-length [] [] t = refl
 same-length [] (y ∷ ys) t = absurd (false≢true t)
 same-length (x ∷ xs) [] t = absurd (false≢true t)
 same-length (x ∷ xs) (y ∷ ys) t = ap suc (same-length xs ys (both-right (eqb x y) (sameList xs ys) t))
+
+-- as many as their tags
+pub fields-number : (s tags : List ℕ) → sameList (tagsOf s) tags ≡ true → length (fieldsOf s .fields) ≡ length tags
+fields-number s tags t = sym (length-map (fieldsOf s .fields) (λ f. f .tag)) ∙ same-length (tagsOf s) tags t
 
 module _ (s : List ℕ) (whole : fieldsOf s .complete ≡ true) where
   abbrev long : ℕ → ℕ
@@ -75,16 +79,13 @@ module _ (s : List ℕ) (whole : fieldsOf s .complete ≡ true) where
       ∙ sumOver-places fieldLength (record { tag = 0; body = [] }) (fieldsOf s .fields)
       ∙ ap (λ (k : ℕ). sum k (λ i. 3 + long i)) e
 
-  number : (tags : List ℕ) → sameList (tagsOf s) tags ≡ true → length (fieldsOf s .fields) ≡ length tags
-  number tags t = sym (length-map (fieldsOf s .fields) (λ f. f .tag)) ∙ same-length (tagsOf s) tags t
-
   three : sameList (tagsOf s) chartTags ≡ true → length s ≡ 9 + long 0 + long 1 + long 2
   unfolding sum
-  three t = of-fields (number chartTags t) ∙ omega arith
+  three t = of-fields (fields-number s chartTags t) ∙ omega arith
 
   four : sameList (tagsOf s) weightedTags ≡ true → length s ≡ 12 + long 0 + long 1 + long 2 + long 3
   unfolding sum
-  four t = of-fields (number weightedTags t) ∙ omega arith
+  four t = of-fields (fields-number s weightedTags t) ∙ omega arith
 
 -- ---- the chart
 
@@ -107,7 +108,7 @@ module _ (s : List ℕ) (whole : fieldsOf s .complete ≡ true) (b : Bodies s) w
   short-weighted : sameList (tagsOf s) weightedTags ≡ true → length s ≤ 6125
   unfolding hasWeights
   short-weighted t =
-      let last = b .weights (le-leb 4 (length (fieldsOf s .fields)) (le-of-eq (sym (number s whole weightedTags t)))) in
+      let last = b .weights (le-leb 4 (length (fieldsOf s .fields)) (le-of-eq (sym (fields-number s weightedTags t)))) in
       omega (arith, four s whole t, b .size, b .links, b .order, last)
 
   short : (sameList (tagsOf s) chartTags || sameList (tagsOf s) weightedTags) ≡ true → Short s

@@ -81,10 +81,10 @@ unwritten : (e : Edge) (es : List Edge) (b : Bool) → b ≡ ltb 0 (written e es
 unwritten e es true z t = absurd (false≢true t)
 unwritten e es false z t = omega (arith, ltb-false 0 (written e es) (sym z))
 
-pub few : (es : List Edge) → noRepeats sameEdge es ≡ true → (e : Edge) → written e es ≤ 1
+pub written-few : (es : List Edge) → noRepeats sameEdge es ≡ true → (e : Edge) → written e es ≤ 1
 unfolding noRepeats written sumOver one
-few [] n e = zero-le
-few (x ∷ xs) n e = by-test (sameEdge e x) refl (few xs (both-right (not (any (sameEdge x) xs)) (noRepeats sameEdge xs) n) e)
+written-few [] n e = zero-le
+written-few (x ∷ xs) n e = by-test (sameEdge e x) refl (written-few xs (both-right (not (any (sameEdge x) xs)) (noRepeats sameEdge xs) n) e)
   where
     new : written x xs ≡ 0
     new = unwritten x xs (any (sameEdge x) xs) (written-any x xs) (both-left (not (any (sameEdge x) xs)) (noRepeats sameEdge xs) n)
@@ -109,7 +109,7 @@ module _ {es fs : List Edge} (same : SameEdges es fs) where
   every-there p t = every-all (all-mono (all-there fs) (λ e there. there-passes p e (all-every p es t) (same-member e ∙ there)))
 
   once-there : noRepeats sameEdge es ≡ true → noRepeats sameEdge fs ≡ true
-  once-there t = few-once fs (λ e. subst (λ (k : ℕ). k ≤ 1) (same .often e) (few es t e))
+  once-there t = few-once fs (λ e. subst (λ (k : ℕ). k ≤ 1) (same .often e) (written-few es t e))
 
 turned : {es fs : List Edge} → SameEdges es fs → SameEdges fs es
 turned same = record { often = λ e. sym (same .often e) }
