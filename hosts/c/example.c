@@ -1,15 +1,16 @@
 /*
  * Reads a chart from the file named, or from standard input, and prints its row
- * as the program ringlist does. Then adds a vertex, joins it to vertex 0, and
- * prints the row of the layout that this leads to. Status 1: refused. Status 2:
- * what cannot be read or written, told on standard error.
+ * as the program ringlist does, with its limit. Then adds a vertex, joins it to
+ * vertex 0, and prints the row of the layout that this leads to, with as many
+ * rounds as are known to be enough. Status 1: refused. Status 2: what cannot be
+ * read or written, told on standard error.
  */
 #include <inttypes.h>
 #include <stdio.h>
 
 #include "rostulanda.h"
 
-/* The limit of sifting rounds. */
+/* The limit that the program ringlist takes. */
 #define LIMIT 50
 
 /* Says what was refused; the status of the program. */
@@ -30,13 +31,26 @@ static unsigned edges(const rl_layout *l)
     return bits / 2;
 }
 
-/* Converges the layout and prints its row. */
-static int print_row(rl_layout *l)
+/* The least limit that is known to be enough: one round more than there are
+ * crossings. The table counts each of them at both of its edges, whatever count
+ * is carried. Of a layout that is refused it has no entries. */
+static uint32_t enough_rounds(const rl_layout *l)
+{
+    uint64_t table[RL_MOST_EDGES];
+    size_t edges = rl_edge_crossings(l, table, RL_MOST_EDGES).edges;
+    uint64_t twice = 0;
+    for (size_t e = 0; e < edges; e++)
+        twice += table[e];
+    return twice / 2 < RL_MOST_ROUNDS ? (uint32_t)(twice / 2 + 1) : RL_MOST_ROUNDS;
+}
+
+/* Converges the layout with a limit and prints its row. */
+static int print_row(rl_layout *l, uint32_t limit)
 {
     rl_counted before = rl_count(l);
     if (before.refusal != RL_ACCEPTED)
         return refused(before.refusal);
-    rl_convergence run = rl_converge(l, LIMIT);
+    rl_convergence run = rl_converge(l, limit);
     if (run.refusal != RL_ACCEPTED)
         return refused(run.refusal);
     uint8_t order[RL_PLACES];
@@ -74,14 +88,14 @@ static int print_rows(const uint8_t *chart, size_t length)
     uint8_t refusal = rl_read_chart(&l, chart, length);
     if (refusal != RL_ACCEPTED)
         return refused(refusal);
-    if (print_row(&l) != 0)
+    if (print_row(&l, LIMIT) != 0)
         return 1;
 
     printf("\n");
     refusal = add_joined(&l);
     if (refusal != RL_ACCEPTED)
         return refused(refusal);
-    return print_row(&l);
+    return print_row(&l, enough_rounds(&l));
 }
 
 /* Says what could not be read or written; the status of the program. */

@@ -53,6 +53,9 @@ extern "C" {
 /* The most edges, and the most entries that rl_edge_crossings writes. */
 #define RL_MOST_EDGES 2016
 
+/* The largest limit of rl_converge. */
+#define RL_MOST_ROUNDS 1000
+
 /* The least buffer for rl_list_chart. */
 #define RL_LISTING_BYTES 1024
 
@@ -338,8 +341,11 @@ rl_sifted rl_sift(rl_layout *l, size_t u);
 rl_round rl_sifting_round(rl_layout *l);
 
 /* Sifting rounds until one moves no vertex, or limit of them are run (settle).
- * Converged: a local minimum, no move of one vertex lowers the crossings.
- * Refused: 17. */
+ * Converged: a local minimum, no move of one vertex lowers the crossings. A limit
+ * that is larger than the crossings is enough: it ends converged. Whatever the
+ * limit, at most one round more than there are crossings is run (document 02,
+ * Note 9). These are the crossings themselves, half of the sum of what
+ * rl_edge_crossings writes, not a carried count that may be wrong. Refused: 17. */
 rl_convergence rl_converge(rl_layout *l, uint32_t limit);
 
 /* ---- calls that only read; all but the last ask first whether it is valid (11) ---- */

@@ -184,6 +184,27 @@ static void orders(void)
     HOLDS(rl_greedy_append(&l, 4).refusal == RL_NO_SUCH_VERTEX);
 }
 
+/* A limit that is larger than the one crossing is enough, and one that equals it
+ * is not, whatever count is carried. */
+static void enough_rounds(void)
+{
+    static const uint64_t counts[] = {1, 0, 77, UINT64_MAX};
+    for (size_t i = 0; i < sizeof counts / sizeof *counts; i++) {
+        rl_layout l = first();
+        l.count = counts[i];
+        rl_layout other = l;
+        rl_convergence run = rl_converge(&l, 1);
+        HOLDS(run.refusal == RL_ACCEPTED && run.rounds == 1 && !run.converged);
+        run = rl_converge(&other, 2);
+        HOLDS(run.refusal == RL_ACCEPTED && run.rounds == 2 && run.converged);
+        HOLDS(same(&l, &other) && l.count == counts[i] - 1);
+    }
+    rl_layout l = first();
+    HOLDS(rl_converge(&l, RL_MOST_ROUNDS + 1).refusal == RL_LIMIT_OUT_OF_RANGE);
+    rl_convergence run = rl_converge(&l, RL_MOST_ROUNDS);
+    HOLDS(run.refusal == RL_ACCEPTED && run.rounds == 2 && run.converged);
+}
+
 /* Complete graphs of up to four vertices: every candidate place has the least
  * crossings. */
 static void optima(void)
@@ -746,6 +767,7 @@ int main(void)
     refused_imports();
     edits();
     orders();
+    enough_rounds();
     optima();
     reads();
     writes();

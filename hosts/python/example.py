@@ -1,9 +1,10 @@
 """Prints two rows of a chart.
 
 Reads a chart from the file named, or from standard input, and prints its row as
-the program ringlist does. Then adds a vertex, joins it to vertex 0, and prints
-the row of the layout that this leads to. Status 1: refused. Status 2: what
-cannot be read or written, told on standard error.
+the program ringlist does, with its limit. Then adds a vertex, joins it to
+vertex 0, and prints the row of the layout that this leads to, without a limit:
+as many rounds may be run as are known to be enough. Status 1: refused. Status 2:
+what cannot be read or written, told on standard error.
 """
 
 import os
@@ -44,7 +45,7 @@ def rows(chart: bytes) -> Tuple[str, int]:
     text = ""
     try:
         layout = rostulanda.Layout.from_chart(chart)
-        text += f"{layout.row()}\n\n"
+        text += f"{layout.row(rostulanda.LIMIT)}\n\n"
         added = layout.add_vertex()
         if added != 0:
             layout.add_edge(added, 0)

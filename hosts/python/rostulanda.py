@@ -66,7 +66,10 @@ CALL_NUMBERS = 4
 #: The numbers of each answer of a list of calls: the refusal code, and four more.
 ANSWER_NUMBERS = 5
 
-#: The limit of sifting rounds where none is given.
+#: The largest limit of sifting rounds.
+MOST_ROUNDS = 1000
+
+#: The limit that the program ringlist takes.
 LIMIT = 50
 
 #: The most characters that a message shows of something that was given.
@@ -552,11 +555,13 @@ class Layout:
         _accept(answer.refusal)
         return Round(answer.reduction, answer.moved, answer.optima)
 
-    def converge(self, limit: int = LIMIT) -> Convergence:
+    def converge(self, limit: Optional[int] = None) -> Convergence:
         """Runs sifting rounds until one moves no vertex, or limit of them (document 01: settle).
 
-        The limit is from 1 to 1000.
+        The limit is from 1 to 1000; without one it is enough_rounds().
         """
+        if limit is None:
+            limit = self.enough_rounds()
         answer = _library.rl_converge(self.fields, _number(limit, 2**32 - 1))
         _accept(answer.refusal)
         return Convergence(answer.reduction, answer.rounds, answer.converged, answer.optima)
@@ -573,6 +578,22 @@ class Layout:
         answer = _library.rl_count(self.fields)
         _accept(answer.refusal)
         return answer.count
+
+    def crossings(self) -> int:
+        """The crossings, each counted as the product of its two edges' weights.
+
+        From the order and the edges alone: the carried count is not looked at.
+        """
+        # Each crossing is counted at both of its edges.
+        return sum(self._edge_numbers()) // 2
+
+    def enough_rounds(self) -> int:
+        """The least limit that is known to be enough (document 02, Note 9).
+
+        It is one round more than there are crossings, and at most MOST_ROUNDS. With
+        fewer crossings than MOST_ROUNDS, converging with it ends converged.
+        """
+        return min(self.crossings() + 1, MOST_ROUNDS)
 
     def order(self) -> List[int]:
         """The vertices, clockwise."""
@@ -657,8 +678,11 @@ class Layout:
         Edges are lower end first, sorted by lower, then higher end. The carried
         count is not looked at: the numbers' sum is twice the crossings.
         """
-        numbers = _written(self.write_edge_crossings, array("Q", [0]) * MOST_EDGES)
-        return list(zip(_chart_edges(self.chart()), numbers))
+        return list(zip(_chart_edges(self.chart()), self._edge_numbers()))
+
+    def _edge_numbers(self) -> "array[int]":
+        """The crossings that each edge takes part in, in the sequence of the edges."""
+        return _written(self.write_edge_crossings, array("Q", [0]) * MOST_EDGES)
 
     def write_edge_crossings(self, table: "array[int]") -> int:
         """Writes each edge's crossings to the start of a table, an array("Q").
@@ -692,13 +716,17 @@ class Layout:
 
     # both
 
-    def row(self, limit: int = LIMIT) -> Row:
-        """Converges with a limit, and gives what the program ringlist prints of such a run."""
-        before = self.count()
+    def row(self, limit: Optional[int] = None) -> Row:
+        """Converges with a limit, or without one as converge does.
+
+        Gives what the program ringlist, whose limit is LIMIT, prints of such a run.
+        The crossings are counted, whatever count is carried.
+        """
+        before = self.crossings()
         run = self.converge(limit)
         order = self.order()
         edges = len(_chart_edges(self.chart()))
-        return Row(len(order), edges, before, self.count(), run.rounds, run.converged, order)
+        return Row(len(order), edges, before, self.crossings(), run.rounds, run.converged, order)
 
 
 def _read(call: Callable[..., int], given: bytes) -> Fields:
@@ -854,8 +882,8 @@ def _numbered(
     return numbers
 
 
-def _ask_run(labels: Sequence[Hashable], start: Optional[Hashable], limit: int) -> None:
-    """Asks whether the start is there, if there is one, and whether the limit is in its range."""
+def _ask_run(labels: Sequence[Hashable], start: Optional[Hashable], limit: Optional[int]) -> None:
+    """Asks whether the start is there and the limit in its range, where they are given."""
     if start is not None and start not in labels:
         raise Refused(Refusal.NO_SUCH_VERTEX, f"({_shown(start)} is not there)")
     Layout().converge(limit)
@@ -870,7 +898,7 @@ def _held(labels: Sequence[Hashable], edges: Iterable[Tuple[int, int, Any]]) -> 
 def layout(
     graph: GraphOrEdges,
     vertices: Iterable[Hashable] = (),
-    limit: int = LIMIT,
+    limit: Optional[int] = None,
     start: Optional[Hashable] = None,
     weight: Optional[str] = None,
 ) -> Row:
@@ -889,7 +917,9 @@ def layout(
     in which they are first met, and vertices without edges are not known. Those
     that `vertices` names come before all others. With a start, greedy append
     from that vertex makes the order to begin with. Then sifting rounds run up to
-    the limit. The row's order holds the vertices as they were given.
+    the limit, or without one until none moves a vertex, 1000 at most: with fewer
+    than 1000 crossings before, the row is converged (document 02, Note 9). The
+    row's order holds the vertices as they were given.
 
     Raises Refused for more than 64 vertices (16), a vertex joined to itself (13), a
     start that is not there (12), a limit out of range (17) and last a weight that is

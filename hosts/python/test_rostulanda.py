@@ -130,6 +130,62 @@ class LayoutTest(RefusedCalls):
         self.assertEqual(Layout.from_chart(CHART).converge(2), run)
         self.assertEqual(Layout.from_chart(CHART).converge(), run)
 
+    def test_without_a_limit_one_round_more_than_the_crossings(self):
+        layout = Layout.from_chart(CHART)
+        self.assertEqual((layout.crossings(), layout.enough_rounds()), (1, 2))
+        # A limit that only equals the crossings is spent before it is settled.
+        self.assertFalse(layout.copy().converge(1).converged)
+        run = rostulanda.Convergence(reduction=1, rounds=2, converged=True, optima=16)
+        self.assertEqual(layout.converge(), run)
+        self.assertEqual(layout.order(), [1, 0, 2, 3])
+        empty = Layout()
+        self.assertEqual((empty.crossings(), empty.enough_rounds()), (0, 1))
+        self.assertEqual(empty.converge(None), (0, 1, True, 0))
+
+    def test_the_limit_does_not_go_by_the_carried_count(self):
+        for count in (0, 2, 77, 2**32, 2**64 - 1):
+            layout = Layout.from_chart(CHART)
+            layout.fields.count = count
+            self.assertEqual((layout.crossings(), layout.enough_rounds()), (1, 2))
+            row = layout.copy().row()
+            self.assertEqual((row.before, row.after, row.rounds, row.converged), (1, 0, 2, True))
+            self.assertTrue(layout.converge().converged)
+            self.assertEqual(layout.order(), [1, 0, 2, 3])
+            self.assertEqual(layout.count(), (count - 1) % 2**64)
+
+    def test_the_largest_limit(self):
+        for weights, crossings, limit in (
+            ((1, 1, 1), 2, 3),
+            ((2, 249, 250), 998, 999),
+            ((3, 200, 133), 999, 1000),
+            ((4, 200, 50), 1000, 1000),
+            ((200, 255, 255), 102_000, 1000),
+        ):
+            edges = [(a, b, weight) for (a, b), weight in zip(((0, 2), (1, 3), (1, 4)), weights)]
+            layout = Layout.from_edges(edges)
+            self.assertEqual((layout.crossings(), layout.enough_rounds()), (crossings, limit))
+            self.assertTrue(layout.converge().converged)
+        full = Layout.from_edges([(a, b, 255) for a, b in itertools.combinations(range(64), 2)])
+        self.assertEqual((full.crossings(), full.enough_rounds()), (41_315_324_400, rostulanda.MOST_ROUNDS))
+        self.assertEqual(full.copy().converge(), full.copy().converge(rostulanda.MOST_ROUNDS))
+
+    def test_rounds_are_at_most_the_crossings_taken_away_and_one(self):
+        chance = random.Random(9)
+        rounds = []
+        for n in range(4, 20):
+            pairs = [pair for pair in itertools.combinations(range(n), 2) if chance.random() < 1 / 3]
+            layout = Layout.from_edges([(a, b, chance.randint(1, 2)) for a, b in pairs], n=n)
+            before = layout.copy()
+            layout.fields.count = chance.randrange(2**64)
+            row = layout.row()
+            self.assertTrue(row.converged or row.before >= rostulanda.MOST_ROUNDS)
+            self.assertLessEqual(row.rounds, row.before - row.after + 1)
+            self.assertEqual(row.before, before.count())
+            rounds.append(row.rounds)
+            if row.rounds > 1:
+                self.assertFalse(before.converge(row.rounds - 1).converged)
+        self.assertGreater(max(rounds), 2)
+
     def test_all_places_of_a_complete_graph_are_optima(self):
         for n in range(1, 5):
             layout = Layout.from_edges(itertools.combinations(range(n), 2), n=n)
@@ -248,6 +304,8 @@ class LayoutTest(RefusedCalls):
             layout.sifting_round,
             layout.converge,
             layout.count,
+            layout.crossings,
+            layout.enough_rounds,
             layout.order,
             layout.first_crossing,
             layout.chart,
@@ -257,6 +315,8 @@ class LayoutTest(RefusedCalls):
         ):
             self.refuses(Refusal.INVALID_LAYOUT, call)
         self.refuses(Refusal.INVALID_LAYOUT, layout.sift, 0)
+        self.refuses(Refusal.INVALID_LAYOUT, layout.converge, 50)
+        self.refuses(Refusal.INVALID_LAYOUT, layout.row, 50)
         self.refuses(Refusal.INVALID_LAYOUT, layout.write_chart, bytearray())
         self.refuses(Refusal.INVALID_LAYOUT, layout.export_graph6, bytearray())
         self.refuses(Refusal.INVALID_LAYOUT, layout.write_edge_crossings, array("Q"))
@@ -734,6 +794,12 @@ class GraphTest(unittest.TestCase):
         laid = rostulanda.layout(edges, vertices="abcd", start="c")
         self.assertEqual((laid.before, laid.rounds), (0, 1))
 
+    def test_a_row_with_and_without_a_limit(self):
+        edges = [("a", "c"), ("b", "d")]
+        for limit, rounds, converged in ((1, 1, False), (2, 2, True), (None, 2, True)):
+            row = rostulanda.layout(edges, vertices="abcd", limit=limit)
+            self.assertEqual((row.after, row.rounds, row.converged), (0, rounds, converged))
+
     def test_what_is_refused(self):
         for edges, start, code, words in (
             ([("a", "a")], None, 13, "'a' is joined to itself"),
@@ -866,7 +932,7 @@ class CheckRowTest(unittest.TestCase):
 
 class ChartAndListTest(unittest.TestCase):
     def test_a_row_is_what_ringlist_prints(self):
-        row = Layout.from_chart(CHART).row()
+        row = Layout.from_chart(CHART).row(rostulanda.LIMIT)
         self.assertEqual(f"{row}\n", rostulanda.list_chart(CHART))
         self.assertEqual(row.order, [1, 0, 2, 3])
         self.assertTrue(str(Layout().row()).endswith("\norder"))
@@ -875,7 +941,7 @@ class ChartAndListTest(unittest.TestCase):
     def test_a_row_goes_by_weights(self):
         chart = CHARTS.joinpath("weighted.chart").read_bytes()
         layout = Layout.from_chart(chart)
-        row = layout.copy().row()
+        row = layout.copy().row(rostulanda.LIMIT)
         self.assertEqual(f"{row}\n", rostulanda.list_chart(chart))
         self.assertEqual((row.before, row.after, row.rounds, row.order), (18, 3, 2, [1, 0, 2, 3, 4]))
         self.assertEqual(rostulanda.layout(layout.weighted_edges(), vertices=range(5)), row)

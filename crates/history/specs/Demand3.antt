@@ -1,6 +1,7 @@
 -- Demand 3 of document 01 as one theorem: `demand-3`, at the end, over every start and every list of calls. What it says is the record `Demand3`;
 -- the words it is written in (the steps, sifts and rounds of a list, best place, local minimum) are definitions of `model`, Histories.
 use Prim.Native.Nat.{ℕ, _+_, _*_, _≤_, _<_}
+use native.Mathlib.Omega.{arith}
 use mathlib.Core.Path.{_≡_, refl, sym, ap, _∙_, subst}
 use mathlib.Core.Bool.{Bool, true, false}
 use mathlib.Core.List.{List, map, flatMap}
@@ -10,7 +11,7 @@ use borrow.Author.Tests.{eqb-true, eqb-false}
 use Rattle.model.specs.declared.Layout.{Layout}
 use Rattle.model.specs.declared.Call.{Call}
 use Rattle.model.specs.declared.Call.the-variants as call
-use Rattle.model.specs.Lists.{upto, sumOver, All}
+use Rattle.model.specs.Lists.{one, upto, sumOver, All}
 use Rattle.model.specs.Layouts.{vertexOrder, crossingsOf, eachOnce, valid}
 use Rattle.model.specs.Edits.{moveOf}
 use Rattle.model.specs.Search.{Sift, Round}
@@ -26,6 +27,7 @@ use Rattle.laws.specs.Sifting.Sweeps.{SweepFacts, round-no-more}
 use Rattle.laws.specs.Sifting.Runs.{steps-called, steps-follow, all-steps, end-good, code-zero, rounds-are, sifts-are, sifts-number}
 use Rattle.laws.specs.Sifting.Runs.{step-sifts, step-rounds, step-moved}
 use Rattle.laws.specs.Sifting.Rounds.{Valid, ProperSift, ProperRound, best-sifted}
+use Rattle.laws.specs.Sifting.Enough.{settle-enough}
 use Rattle.laws.specs.Sifting.Optima.{optima-least, optima-counted, optima-some, optima-below}
 use Rattle.history.specs.StepLaws.{Right, start-right, call-keeps, call-refused, CallFacts, call-facts, refused-says-nothing}
 
@@ -42,6 +44,12 @@ abbrev pub LimitReached : Step → ℕ → Type 0
 LimitReached s limit =
     s .call ≡ call.Converge limit → s .answer .third ≡ 0
     → (s .answer .second ≡ limit) × All (λ (r : Round Layout). 0 < r .moved) (roundsOfStep s)
+
+-- an accepted settling with this limit says converged if the limit is larger than the crossings of the layout before it, counted pair by pair; and, whatever
+-- the limit, it ran at most one round more than these crossings
+pub record EnoughRounds (s : Step) (limit : ℕ) : Type 0 where
+  pub enough : crossingsOf (s .before) < limit → T (saysConverged (s .call) (s .answer))
+  pub few : s .answer .second ≤ crossingsOf (s .before) + 1
 
 -- a lay that starts with this vertex answers a tally that is the crossings of the layout it returns, counted pair by pair
 abbrev pub TallyRight : Step → ℕ → Type 0
@@ -93,6 +101,9 @@ pub record Demand3 (start : Layout) (calls : List Call) : Type 0 where
   -- only after a round that moved something
   pub limit-reached : All (λ s. T (accepted s) → (limit : ℕ) → LimitReached s limit) (steps start calls)
   pub went-on-after-a-move : All (λ s. All (λ (r : Round Layout). 0 < r .moved) (butLast (roundsOfStep s))) (steps start calls)
+  -- "any accepted settling whose limit is larger than the ring's crossings at its start ends settled, so at most one round more than the crossings is run"
+  -- (document 02, Note 9)
+  pub enough-rounds : All (λ s. T (accepted s) → (limit : ℕ) → s .call ≡ call.Converge limit → EnoughRounds s limit) (steps start calls)
   -- nothing is left out
   pub complete : All (λ s. T (accepted s) → Complete s) (steps start calls)
   pub whole-rounds : All WholeRound (roundsIn (steps start calls))
@@ -104,6 +115,12 @@ stepOn = stepAt ringCalls
 
 all-right : (P : Step → Type 0) → ((l : Layout) (c : Call) → P (stepOn l c)) → {l : Layout} → Right l → (cs : List Call) → All P (steps l cs)
 all-right P h = all-steps ringCalls Right call-keeps P (λ l c r. h l c)
+
+settle-enough-rounds : (l : Layout) (limit : ℕ) → answerOf l (call.Converge limit) .refusal ≡ 0 → EnoughRounds (stepOn l (call.Converge limit)) limit
+unfolding answerOf saysConverged sweepOf one
+settle-enough-rounds l limit e =
+    let p = settle-enough l limit e in
+    record { enough = λ h. rw (p .enough (omega arith)) tt; few = omega (arith, p .few) }
 
 module _ (l : Layout) (c : Call) where
   is-defined : Defined (stepOn l c)
@@ -132,6 +149,10 @@ module _ (l : Layout) (c : Call) where
 
   reaches-limit : T (accepted (stepOn l c)) → (limit : ℕ) → LimitReached (stepOn l c) limit
   reaches-limit t limit e z = rw (rounds-are ringCalls l c t) (facts t .spent limit e z)
+
+  is-enough : T (accepted (stepOn l c)) → (limit : ℕ) → c ≡ call.Converge limit → EnoughRounds (stepOn l c) limit
+  is-enough t limit e =
+      subst (λ (d : Call). answerOf l d .refusal ≡ 0 → EnoughRounds (stepOn l d) limit) (sym e) (settle-enough-rounds l limit) (code-zero ringCalls l c t)
 
   -- what it sifts, where it is accepted
   sweeps : answerOf l c .refusal ≡ 0 → SweepFacts ring Valid l (sweepOf c)
@@ -176,6 +197,8 @@ demand-3 {start} s calls =
       limit-reached = all-right (λ x. T (accepted x) → (limit : ℕ) → LimitReached x limit) reaches-limit r calls;
       went-on-after-a-move =
           all-right (λ x. All (λ (y : Round Layout). 0 < y .moved) (butLast (roundsOfStep x))) (λ l c. step-moved ringCalls l c Valid (sweeps l c)) r calls;
+      enough-rounds =
+          all-right (λ x. T (accepted x) → (limit : ℕ) → x .call ≡ call.Converge limit → EnoughRounds x limit) is-enough r calls;
       complete = all-right (λ x. T (accepted x) → Complete x) is-complete r calls;
       whole-rounds = all-mono proper (λ x p. record { each-vertex = p .vertices; leads = p .chain });
     }

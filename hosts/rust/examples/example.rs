@@ -1,7 +1,8 @@
 //! Reads a chart from the file named, or from standard input, and prints its
-//! row as the program ringlist does. Then adds a vertex, joins it to vertex 0,
-//! and prints the row of the layout that this leads to. Status 1: refused.
-//! Status 2: what cannot be read or written, told on standard error.
+//! row as the program ringlist does, with its limit. Then adds a vertex, joins
+//! it to vertex 0, and prints the row of the layout that this leads to, without
+//! a limit: as many rounds may be run as are known to be enough. Status 1:
+//! refused. Status 2: what cannot be read or written, told on standard error.
 
 use std::fs::File;
 use std::io::{self, Read, Write};
@@ -10,7 +11,7 @@ use std::process::ExitCode;
 
 use rostulanda::{Layout, Refusal};
 
-/// The limit of sifting rounds.
+/// The limit that the program ringlist takes.
 const LIMIT: u32 = 50;
 
 /// One byte more than a chart may have, to tell that it is too long.
@@ -68,6 +69,6 @@ fn put_rows(chart: &[u8], text: &mut String) -> Result<(), Refusal> {
     if added != 0 {
         layout.add_edge(added, 0)?;
     }
-    *text += &layout.row(LIMIT)?.to_string();
+    *text += &layout.row(None)?.to_string();
     Ok(())
 }

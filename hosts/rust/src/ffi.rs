@@ -19,6 +19,9 @@ pub const GRAPH6_BYTES: usize = 340;
 /// The most edges.
 pub const MOST_EDGES: usize = 2016;
 
+/// The largest limit of sifting rounds.
+pub const MOST_ROUNDS: u32 = 1000;
+
 /// The numbers of each call of a list: which it is, and what it names.
 pub const CALL_NUMBERS: usize = 4;
 

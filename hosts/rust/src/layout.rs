@@ -1,6 +1,6 @@
 //! A layout, held by the host and lent to each call.
 
-use crate::ffi::{self, GRAPH6_BYTES, MOST_EDGES, PLACES, WRITTEN_CHART_BYTES};
+use crate::ffi::{self, GRAPH6_BYTES, MOST_EDGES, MOST_ROUNDS, PLACES, WRITTEN_CHART_BYTES};
 use crate::refusal::{accepted, Refusal};
 use crate::row::Row;
 
@@ -239,8 +239,13 @@ impl Layout {
     }
 
     /// Runs sifting rounds until one moves no vertex, or `limit` of them
-    /// (document 01: settle). The limit is from 1 to 1000.
-    pub fn converge(&mut self, limit: u32) -> Result<Convergence, Refusal> {
+    /// (document 01: settle). The limit is from 1 to 1000. Without one, `None`,
+    /// it is [`Layout::enough_rounds`].
+    pub fn converge(&mut self, limit: impl Into<Option<u32>>) -> Result<Convergence, Refusal> {
+        let limit = match limit.into() {
+            Some(limit) => limit,
+            None => self.enough_rounds()?,
+        };
         let answer = ffi::rl_converge(&mut self.fields, limit);
         let convergence = Convergence {
             reduction: answer.reduction,
@@ -257,6 +262,23 @@ impl Layout {
     pub fn count(&self) -> Result<u64, Refusal> {
         let answer = ffi::rl_count(&self.fields);
         accepted(answer.refusal, answer.count)
+    }
+
+    /// The crossings, each counted as the product of its two edges' weights,
+    /// from the order and the edges alone: the carried count is not looked at.
+    pub fn crossings(&self) -> Result<u64, Refusal> {
+        let mut table = [0; MOST_EDGES];
+        let edges = self.write_edge_crossings(&mut table)?;
+        // Each crossing is counted at both of its edges.
+        Ok(table[..edges].iter().sum::<u64>() / 2)
+    }
+
+    /// The least limit that is known to be enough (document 02, Note 9): one
+    /// round more than there are crossings, and at most [`MOST_ROUNDS`]. With
+    /// fewer crossings than `MOST_ROUNDS`, converging with it ends converged.
+    pub fn enough_rounds(&self) -> Result<u32, Refusal> {
+        let enough = self.crossings()? + 1;
+        Ok(enough.min(MOST_ROUNDS.into()) as u32)
     }
 
     /// The vertices, clockwise.
@@ -357,16 +379,17 @@ impl Layout {
         self.edges().into_iter().map(weighted).collect()
     }
 
-    /// Converges with a limit, and gives what the program `ringlist` prints of
-    /// such a run.
-    pub fn row(&mut self, limit: u32) -> Result<Row, Refusal> {
-        let before = self.count()?;
+    /// Converges with a limit, or without one as [`Layout::converge`] does, and
+    /// gives what the program `ringlist`, whose limit is 50, prints of such a
+    /// run. The crossings are counted, whatever count is carried.
+    pub fn row(&mut self, limit: impl Into<Option<u32>>) -> Result<Row, Refusal> {
+        let before = self.crossings()?;
         let convergence = self.converge(limit)?;
         Ok(Row {
             vertices: self.fields.n,
             edges: self.edges().len(),
             before,
-            after: self.count()?,
+            after: self.crossings()?,
             rounds: convergence.rounds,
             converged: convergence.converged,
             order: self.order()?,
@@ -514,6 +537,109 @@ mod tests {
         for limit in [0, 1001, u32::MAX] {
             assert_eq!(first().converge(limit), Err(Refusal::LimitOutOfRange));
         }
+    }
+
+    /// Converges without a limit: the limit that is taken, what it answers, and
+    /// the order.
+    fn without_limit(mut layout: Layout) -> (u32, Convergence, Vec<usize>) {
+        let limit = layout.enough_rounds().unwrap();
+        let run = layout.converge(None).unwrap();
+        (limit, run, layout.order().unwrap())
+    }
+
+    #[test]
+    fn without_a_limit_one_round_more_than_the_crossings() {
+        // A limit that only equals the crossings is spent before it is settled.
+        assert!(!first().converge(1).unwrap().converged);
+        let run = Convergence {
+            reduction: 1,
+            rounds: 2,
+            converged: true,
+            optima: 16,
+        };
+        assert_eq!(without_limit(first()), (2, run, vec![1, 0, 2, 3]));
+        let run = Convergence {
+            reduction: 0,
+            rounds: 1,
+            converged: true,
+            optima: 0,
+        };
+        assert_eq!(without_limit(Layout::empty()), (1, run, vec![]));
+    }
+
+    #[test]
+    fn the_limit_does_not_go_by_the_carried_count() {
+        for count in [0, 2, 77, 1 << 32, u64::MAX] {
+            let mut layout = first();
+            layout.fields_mut().count = count;
+            assert_eq!(layout.crossings(), Ok(1));
+            assert_eq!(without_limit(layout.clone()), without_limit(first()));
+            let carried = count.wrapping_sub(1);
+            let row = layout.row(None).unwrap();
+            assert_eq!((row.before, row.after, row.converged), (1, 0, true));
+            assert_eq!(layout.count(), Ok(carried));
+        }
+    }
+
+    #[test]
+    fn the_largest_limit() {
+        for (weights, crossings, limit) in [
+            ([1, 1, 1], 2, 3),
+            ([2, 249, 250], 998, 999),
+            ([3, 200, 133], 999, 1000),
+            ([4, 200, 50], 1000, 1000),
+            ([200, 255, 255], 102_000, 1000),
+        ] {
+            let [a, b, c] = weights;
+            let edges = [(0, 2, a), (1, 3, b), (1, 4, c)];
+            let layout = Layout::from_weighted_edges(5, &edges).unwrap();
+            assert_eq!(layout.crossings(), Ok(crossings));
+            let (taken, run, _) = without_limit(layout);
+            assert_eq!((taken, run.converged), (limit, true));
+        }
+        let full = complete(PLACES, 255);
+        assert_eq!(full.crossings(), Ok(41_315_324_400));
+        assert_eq!(full.enough_rounds(), Ok(MOST_ROUNDS));
+        assert_eq!(
+            full.clone().converge(None),
+            full.clone().converge(MOST_ROUNDS)
+        );
+    }
+
+    #[test]
+    fn rounds_are_at_most_the_crossings_taken_away_and_one() {
+        let mut bits: u64 = 9;
+        let mut chance = || {
+            bits ^= bits << 13;
+            bits ^= bits >> 7;
+            bits ^= bits << 17;
+            bits
+        };
+        let (mut rounds_seen, mut unsettled) = (0, 0);
+        for n in 4..20 {
+            let mut layout = Layout::from_edges(n, &[]).unwrap();
+            for high in 0..n {
+                for low in 0..high {
+                    if chance() % 3 == 0 {
+                        let weight = 1 + chance() % 2;
+                        layout.add_weighted_edge(low, high, weight as u8).unwrap();
+                    }
+                }
+            }
+            let before = layout.clone();
+            layout.fields_mut().count = chance();
+            let row = layout.row(None).unwrap();
+            assert!(row.converged || row.before >= MOST_ROUNDS.into());
+            assert!(u64::from(row.rounds) <= row.before - row.after + 1);
+            assert_eq!(before.count(), Ok(row.before));
+            // One round fewer than were run is not enough, where it is a limit.
+            if row.rounds > 1 {
+                assert!(!before.clone().converge(row.rounds - 1).unwrap().converged);
+                unsettled += 1;
+            }
+            rounds_seen = row.rounds.max(rounds_seen);
+        }
+        assert!(rounds_seen > 2 && unsettled > 10);
     }
 
     #[test]
@@ -912,8 +1038,12 @@ mod tests {
         assert_eq!(layout.sift(0).map(drop), refused);
         assert_eq!(layout.sifting_round().map(drop), refused);
         assert_eq!(layout.converge(50).map(drop), refused);
+        assert_eq!(layout.converge(None).map(drop), refused);
+        assert_eq!(layout.crossings().map(drop), refused);
+        assert_eq!(layout.enough_rounds().map(drop), refused);
         assert_eq!(layout.order().map(drop), refused);
         assert_eq!(layout.row(50).map(drop), refused);
+        assert_eq!(layout.row(None).map(drop), refused);
         assert_eq!(layout.first_crossing().map(drop), refused);
         assert_eq!(layout.chart().map(drop), refused);
         assert_eq!(layout.write_chart(&mut []).map(drop), refused);

@@ -9,7 +9,7 @@
 //!
 //! let mut layout = Layout::from_edges(4, &[(0, 2), (1, 3)])?;
 //! assert_eq!(layout.count()?, 1);
-//! let run = layout.converge(50)?;
+//! let run = layout.converge(None)?;
 //! assert!(run.converged);
 //! assert_eq!(layout.count()?, 0);
 //! assert_eq!(layout.order()?, [1, 0, 2, 3]);
@@ -44,7 +44,7 @@ mod refusal;
 mod row;
 
 pub use check::{check_row, check_weighted_row, Checked, Move};
-pub use ffi::{GRAPH6_BYTES, MOST_EDGES, PLACES, WRITTEN_CHART_BYTES};
+pub use ffi::{GRAPH6_BYTES, MOST_EDGES, MOST_ROUNDS, PLACES, WRITTEN_CHART_BYTES};
 pub use layout::{Convergence, Edge, Fields, Layout, Round, Sifted};
 pub use list::{play, Answer, Call, Played, Start};
 pub use refusal::Refusal;
