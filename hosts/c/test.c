@@ -184,6 +184,18 @@ static void orders(void)
     HOLDS(rl_greedy_append(&l, 4).refusal == RL_NO_SUCH_VERTEX);
 }
 
+/* The sum of all edges' crossings: twice those of the layout. */
+static uint64_t twice_the_crossings(const rl_layout *l)
+{
+    uint64_t table[RL_MOST_EDGES];
+    rl_edges_counted counted = rl_edge_crossings(l, table, RL_MOST_EDGES);
+    HOLDS(counted.refusal == RL_ACCEPTED);
+    uint64_t sum = 0;
+    for (size_t i = 0; i < counted.edges; i++)
+        sum += table[i];
+    return sum;
+}
+
 /* A limit that is larger than the one crossing is enough, and one that equals it
  * is not, whatever count is carried. */
 static void enough_rounds(void)
@@ -192,6 +204,7 @@ static void enough_rounds(void)
     for (size_t i = 0; i < sizeof counts / sizeof *counts; i++) {
         rl_layout l = first();
         l.count = counts[i];
+        HOLDS(twice_the_crossings(&l) == 2);
         rl_layout other = l;
         rl_convergence run = rl_converge(&l, 1);
         HOLDS(run.refusal == RL_ACCEPTED && run.rounds == 1 && !run.converged);
@@ -429,17 +442,6 @@ static void edge_crossings_of_all_edges(uint8_t weight)
     counts_into(&l, due, edges);
 }
 
-/* Is the sum of all edges' crossings twice the count? */
-static bool sums_to_twice_the_count(const rl_layout *l)
-{
-    uint64_t table[RL_MOST_EDGES];
-    rl_edges_counted counted = rl_edge_crossings(l, table, RL_MOST_EDGES);
-    uint64_t sum = 0;
-    for (size_t i = 0; i < counted.edges; i++)
-        sum += table[i];
-    return counted.refusal == RL_ACCEPTED && sum == 2 * l->count;
-}
-
 /* After each call of many, with up to 24 vertices, one edge in three and weights
  * from 1 to 255. */
 static void sums_of_edge_crossings(void)
@@ -449,13 +451,13 @@ static void sums_of_edge_crossings(void)
         HOLDS(rl_add_vertex(&l).vertex == v);
         for (size_t w = v % 3; w < v; w += 3) {
             HOLDS(rl_add_edge(&l, w, v, (uint8_t)(1 + (97 * v + 31 * w) % 255)) == RL_ACCEPTED);
-            HOLDS(sums_to_twice_the_count(&l));
+            HOLDS(twice_the_crossings(&l) == 2 * l.count);
         }
     }
     HOLDS(l.count > 0);
     for (size_t v = 0; v < l.n; v++) {
         HOLDS(rl_sift(&l, v).refusal == RL_ACCEPTED);
-        HOLDS(sums_to_twice_the_count(&l));
+        HOLDS(twice_the_crossings(&l) == 2 * l.count);
     }
 }
 

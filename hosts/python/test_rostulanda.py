@@ -167,7 +167,11 @@ class LayoutTest(RefusedCalls):
             self.assertTrue(layout.converge().converged)
         full = Layout.from_edges([(a, b, 255) for a, b in itertools.combinations(range(64), 2)])
         self.assertEqual((full.crossings(), full.enough_rounds()), (41_315_324_400, rostulanda.MOST_ROUNDS))
-        self.assertEqual(full.copy().converge(), full.copy().converge(rostulanda.MOST_ROUNDS))
+        # Just above 2^32: of 32 bits, 309 would be left.
+        parts = ((range(47), 155), (range(47, 64), 64))
+        edges = [(a, b, weight) for part, weight in parts for a, b in itertools.combinations(part, 2)]
+        layout = Layout.from_edges(edges)
+        self.assertEqual((layout.crossings(), layout.enough_rounds()), (2**32 + 309, rostulanda.MOST_ROUNDS))
 
     def test_rounds_are_at_most_the_crossings_taken_away_and_one(self):
         chance = random.Random(9)
@@ -568,7 +572,7 @@ class WeightTest(RefusedCalls):
         chart = CHART + bytes([0x57, 0, 2, 200, 100])
         self.assertEqual(layout.chart(), chart)
         self.assertEqual(Layout.from_chart(chart), layout)
-        self.assertEqual(f"{layout.row()}\n", rostulanda.list_chart(chart))
+        self.assertEqual(f"{layout.row(rostulanda.LIMIT)}\n", rostulanda.list_chart(chart))
         ones = CHART + bytes([0x57, 0, 2, 1, 1])
         self.assertEqual(Layout.from_chart(ones).chart(), CHART)
         for refusal, field in (

@@ -25,13 +25,13 @@ use Rattle.history.specs.Excluded.{firstRing}
 
 -- ---- the bounds
 
--- "any accepted settling" with a limit of at least so many rounds "ends settled"
+-- "any accepted settling" with at least this limit "ends settled"
 abbrev pub Enough : (Layout → ℕ) → Type 0
-Enough rounds = (l : Layout) (limit : ℕ) → settleOf l limit .refusal ≡ 0 → rounds l ≤ limit → settleOf l limit .converged ≡ true
+Enough least = (l : Layout) (limit : ℕ) → settleOf l limit .refusal ≡ 0 → least l ≤ limit → settleOf l limit .converged ≡ true
 
--- an accepted settling runs at most so many, by the layout at its start and what it answers
+-- an accepted settling runs at most so many rounds, by the layout at its start and what it answers
 abbrev pub AtMost : (Layout → Converged → ℕ) → Type 0
-AtMost rounds = (l : Layout) (limit : ℕ) → settleOf l limit .refusal ≡ 0 → settleOf l limit .rounds ≤ rounds l (settleOf l limit)
+AtMost most = (l : Layout) (limit : ℕ) → settleOf l limit .refusal ≡ 0 → settleOf l limit .rounds ≤ most l (settleOf l limit)
 
 -- a limit "larger than the ring's crossings at its start", the pairwise sum
 pub crossings-enough : Enough (λ l. crossingsOf l + 1)
@@ -65,14 +65,14 @@ pub record OneCrossing (l : Layout) : Type 0 where
   pub limit-one : Answers l 1 1 1 false
   pub limit-two : Answers l 2 1 2 true
 
-pub first-settled : OneCrossing firstRing × OneCrossing firstMiscounted
+pub first-limits : OneCrossing firstRing × OneCrossing firstMiscounted
 unfolding firstMiscounted firstRing rowOf isWeight evenWeights weighsEdges blankFrom weightsFit tableWeight carried withWeights tableIn bothWays
     weightedLayoutOf layoutOf first _to_ one upto every any keep firstWith sumPairs sumOver noRepeats occurrences place bit linked between alternate crosses
     adjacent weightedEdges crossingWeight crossings vertexOrder weight crossingsOf eachOnce zeroFrom symmetric loopless bitsBelow valid changed reordered
     refusal byRefusal checked isValid limitFits insertAfter movedAfter sameEdge joins wordIn flatMap xor least countWith reached movedIn lastStill siftBest
     siftMoves bestCandidates siftsThrough savedIn roundBy siftsOfAll roundAt roundsWithin clockwiseFrom candidateLayouts optimaIn settled roundsUpTo
     settleChecks settleOf
-first-settled = (
+first-limits = (
   record {
     crossing = refl;
     limit-one = record { accepts = refl; saves = refl; runs = refl; says = refl };
@@ -86,29 +86,30 @@ first-settled = (
 )
 
 module _ {l : Layout} (f : OneCrossing l) where
-  -- no bound that gives 1 here is enough, and none is that gives 1 at limit 2
-  spent-at-one : (rounds : Layout → ℕ) → rounds l ≤ 1 → Enough rounds → ⊥
-  spent-at-one rounds h claim = true≢false (sym (claim l 1 (f .limit-one .accepts) h) ∙ f .limit-one .says)
+  -- no limit of at most 1 is enough here
+  spent-at-one : (least : Layout → ℕ) → least l ≤ 1 → Enough least → ⊥
+  spent-at-one least h claim = true≢false (sym (claim l 1 (f .limit-one .accepts) h) ∙ f .limit-one .says)
 
-  two-at-two : (rounds : Layout → Converged → ℕ) → rounds l (settleOf l 2) ≤ 1 → AtMost rounds → ⊥
-  two-at-two rounds h claim = omega (arith, claim l 2 (f .limit-two .accepts), f .limit-two .runs)
+  -- and more than one round is run with limit 2
+  two-at-two : (most : Layout → Converged → ℕ) → most l (settleOf l 2) ≤ 1 → AtMost most → ⊥
+  two-at-two most h claim = omega (arith, claim l 2 (f .limit-two .accepts), f .limit-two .runs)
 
 pub crossings-not-enough : Enough crossingsOf → ⊥
-crossings-not-enough = let f = first-settled .0 in spent-at-one f crossingsOf (omega (arith, f .crossing))
+crossings-not-enough = let f = first-limits .0 in spent-at-one f crossingsOf (omega (arith, f .crossing))
 
 pub count-not-enough : Enough (λ l. l .count + 1) → ⊥
 unfolding firstMiscounted
-count-not-enough = spent-at-one (first-settled .1) (λ l. l .count + 1) (omega arith)
+count-not-enough = spent-at-one (first-limits .1) (λ l. l .count + 1) (omega arith)
 
 pub crossings-too-few : AtMost (λ l a. crossingsOf l) → ⊥
-crossings-too-few = let f = first-settled .0 in two-at-two f (λ l a. crossingsOf l) (omega (arith, f .crossing))
+crossings-too-few = let f = first-limits .0 in two-at-two f (λ l a. crossingsOf l) (omega (arith, f .crossing))
 
 pub saving-too-few : AtMost (λ l a. a .reduction) → ⊥
-saving-too-few = let f = first-settled .0 in two-at-two f (λ l a. a .reduction) (omega (arith, f .limit-two .saves))
+saving-too-few = let f = first-limits .0 in two-at-two f (λ l a. a .reduction) (omega (arith, f .limit-two .saves))
 
 pub count-too-few : AtMost (λ l a. l .count + 1) → ⊥
 unfolding firstMiscounted
-count-too-few = two-at-two (first-settled .1) (λ l a. l .count + 1) (omega arith)
+count-too-few = two-at-two (first-limits .1) (λ l a. l .count + 1) (omega arith)
 
 -- ---- a row of ringlist, which settles with limit 50
 

@@ -69,6 +69,6 @@ fn put_rows(chart: &[u8], text: &mut String) -> Result<(), Refusal> {
     if added != 0 {
         layout.add_edge(added, 0)?;
     }
-    *text += &layout.row(None)?.to_string();
+    *text += &layout.row_without_limit()?.to_string();
     Ok(())
 }

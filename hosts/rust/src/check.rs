@@ -166,7 +166,7 @@ mod tests {
     fn a_converged_row_cannot_be_bettered() {
         let edges = scattered(16, 3);
         let mut layout = Layout::from_weighted_edges(16, &edges).unwrap();
-        let row = layout.row(50).unwrap();
+        let row = layout.row_without_limit().unwrap();
         let checked = check_weighted_row(&edges, &row.order, row.after).unwrap();
         assert!(row.converged && checked.right);
         assert_eq!(checked.better, None);

@@ -239,13 +239,8 @@ impl Layout {
     }
 
     /// Runs sifting rounds until one moves no vertex, or `limit` of them
-    /// (document 01: settle). The limit is from 1 to 1000. Without one, `None`,
-    /// it is [`Layout::enough_rounds`].
-    pub fn converge(&mut self, limit: impl Into<Option<u32>>) -> Result<Convergence, Refusal> {
-        let limit = match limit.into() {
-            Some(limit) => limit,
-            None => self.enough_rounds()?,
-        };
+    /// (document 01: settle). The limit is from 1 to 1000.
+    pub fn converge(&mut self, limit: u32) -> Result<Convergence, Refusal> {
         let answer = ffi::rl_converge(&mut self.fields, limit);
         let convergence = Convergence {
             reduction: answer.reduction,
@@ -254,6 +249,12 @@ impl Layout {
             optima: answer.optima,
         };
         accepted(answer.refusal, convergence)
+    }
+
+    /// Converges with [`Layout::enough_rounds`] as the limit: where there are
+    /// fewer than [`MOST_ROUNDS`] crossings, it ends converged.
+    pub fn converge_without_limit(&mut self) -> Result<Convergence, Refusal> {
+        self.converge(self.enough_rounds()?)
     }
 
     /// The carried count. Of a layout that came from [`Layout::empty`], a chart
@@ -379,10 +380,10 @@ impl Layout {
         self.edges().into_iter().map(weighted).collect()
     }
 
-    /// Converges with a limit, or without one as [`Layout::converge`] does, and
-    /// gives what the program `ringlist`, whose limit is 50, prints of such a
-    /// run. The crossings are counted, whatever count is carried.
-    pub fn row(&mut self, limit: impl Into<Option<u32>>) -> Result<Row, Refusal> {
+    /// Converges with a limit, and gives what the program `ringlist`, whose limit
+    /// is 50, prints of such a run. The crossings are counted, whatever count is
+    /// carried.
+    pub fn row(&mut self, limit: u32) -> Result<Row, Refusal> {
         let before = self.crossings()?;
         let convergence = self.converge(limit)?;
         Ok(Row {
@@ -394,6 +395,11 @@ impl Layout {
             converged: convergence.converged,
             order: self.order()?,
         })
+    }
+
+    /// The same of [`Layout::converge_without_limit`].
+    pub fn row_without_limit(&mut self) -> Result<Row, Refusal> {
+        self.row(self.enough_rounds()?)
     }
 
     pub fn fields(&self) -> &Fields {
@@ -543,7 +549,7 @@ mod tests {
     /// the order.
     fn without_limit(mut layout: Layout) -> (u32, Convergence, Vec<usize>) {
         let limit = layout.enough_rounds().unwrap();
-        let run = layout.converge(None).unwrap();
+        let run = layout.converge_without_limit().unwrap();
         (limit, run, layout.order().unwrap())
     }
 
@@ -575,7 +581,7 @@ mod tests {
             assert_eq!(layout.crossings(), Ok(1));
             assert_eq!(without_limit(layout.clone()), without_limit(first()));
             let carried = count.wrapping_sub(1);
-            let row = layout.row(None).unwrap();
+            let row = layout.row_without_limit().unwrap();
             assert_eq!((row.before, row.after, row.converged), (1, 0, true));
             assert_eq!(layout.count(), Ok(carried));
         }
@@ -597,13 +603,16 @@ mod tests {
             let (taken, run, _) = without_limit(layout);
             assert_eq!((taken, run.converged), (limit, true));
         }
-        let full = complete(PLACES, 255);
-        assert_eq!(full.crossings(), Ok(41_315_324_400));
-        assert_eq!(full.enough_rounds(), Ok(MOST_ROUNDS));
-        assert_eq!(
-            full.clone().converge(None),
-            full.clone().converge(MOST_ROUNDS)
-        );
+        assert_eq!(complete(PLACES, 255).crossings(), Ok(41_315_324_400));
+        // Just above 2^32: of 32 bits, 309 would be left.
+        let mut edges = Vec::new();
+        for (vertices, weight) in [(0..47, 155), (47..64, 64)] {
+            let pairs = |a| (a + 1..vertices.end).map(move |b| (a, b, weight));
+            edges.extend(vertices.clone().flat_map(pairs));
+        }
+        let layout = Layout::from_weighted_edges(PLACES, &edges).unwrap();
+        assert_eq!(layout.crossings(), Ok((1 << 32) + 309));
+        assert_eq!(layout.enough_rounds(), Ok(MOST_ROUNDS));
     }
 
     #[test]
@@ -628,7 +637,7 @@ mod tests {
             }
             let before = layout.clone();
             layout.fields_mut().count = chance();
-            let row = layout.row(None).unwrap();
+            let row = layout.row_without_limit().unwrap();
             assert!(row.converged || row.before >= MOST_ROUNDS.into());
             assert!(u64::from(row.rounds) <= row.before - row.after + 1);
             assert_eq!(before.count(), Ok(row.before));
@@ -1038,12 +1047,12 @@ mod tests {
         assert_eq!(layout.sift(0).map(drop), refused);
         assert_eq!(layout.sifting_round().map(drop), refused);
         assert_eq!(layout.converge(50).map(drop), refused);
-        assert_eq!(layout.converge(None).map(drop), refused);
+        assert_eq!(layout.converge_without_limit().map(drop), refused);
         assert_eq!(layout.crossings().map(drop), refused);
         assert_eq!(layout.enough_rounds().map(drop), refused);
         assert_eq!(layout.order().map(drop), refused);
         assert_eq!(layout.row(50).map(drop), refused);
-        assert_eq!(layout.row(None).map(drop), refused);
+        assert_eq!(layout.row_without_limit().map(drop), refused);
         assert_eq!(layout.first_crossing().map(drop), refused);
         assert_eq!(layout.chart().map(drop), refused);
         assert_eq!(layout.write_chart(&mut []).map(drop), refused);

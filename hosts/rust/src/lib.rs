@@ -9,7 +9,7 @@
 //!
 //! let mut layout = Layout::from_edges(4, &[(0, 2), (1, 3)])?;
 //! assert_eq!(layout.count()?, 1);
-//! let run = layout.converge(None)?;
+//! let run = layout.converge_without_limit()?;
 //! assert!(run.converged);
 //! assert_eq!(layout.count()?, 0);
 //! assert_eq!(layout.order()?, [1, 0, 2, 3]);

@@ -53,13 +53,24 @@ pub fn list_chart(chart: &[u8]) -> String {
 #[cfg(test)]
 mod tests {
     use super::*;
-    use crate::{Layout, FIRST_CHART, WEIGHTED_CHART};
+    use crate::{Layout, Refusal, FIRST_CHART, WEIGHTED_CHART};
 
     #[test]
     fn a_row_is_what_ringlist_prints() {
         let row = Layout::from_chart(FIRST_CHART).unwrap().row(50).unwrap();
         assert_eq!(row.to_string(), list_chart(FIRST_CHART));
         assert_eq!((row.before, row.after, row.rounds), (1, 0, 2));
+    }
+
+    #[test]
+    fn a_row_has_the_limit_that_it_is_given() {
+        let first = Layout::from_chart(FIRST_CHART).unwrap();
+        let row = first.clone().row(1).unwrap();
+        assert_eq!((row.after, row.rounds, row.converged), (0, 1, false));
+        for limit in [0, 1001] {
+            let refused = first.clone().row(limit);
+            assert_eq!(refused, Err(Refusal::LimitOutOfRange));
+        }
     }
 
     #[test]

@@ -13,7 +13,9 @@ fn settled(layout: Layout, limit: u32) -> Convergence {
     assert_eq!(right.refusal, 0);
     let mut carrying = layout;
     carrying.count = 0;
-    assert_eq!(calls::converge(carrying, limit).value, right.value);
+    let wrong = calls::converge(carrying, limit);
+    assert_eq!((wrong.refusal, wrong.value), (0, right.value));
+    assert_eq!(wrong.layout.order, right.layout.order);
     right.value
 }
 

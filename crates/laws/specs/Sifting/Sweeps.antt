@@ -35,10 +35,14 @@ module _ {A S : Type 0} {start end : A → S} where
   follow-keeps R trans p ended none = p
   follow-keeps R trans {r} p (next {x = x} q) (also h hs) = follow-keeps R trans (trans r (start x) (end x) p h) q hs
 
+pub reached-append : {A S : Type 0} (after : A → S) (s : S) (xs ys : List A) → reached after s (xs ++ ys) ≡ reached after (reached after s xs) ys
+unfolding reached
+reached-append after s [] ys = refl
+reached-append after s (x ∷ xs) ys = reached-append after (after x) xs ys
+
 pub reached-snoc : {A S : Type 0} (after : A → S) (s : S) (xs : List A) (x : A) → reached after s (xs ++ (x ∷ [])) ≡ after x
 unfolding reached
-reached-snoc after s [] x = refl
-reached-snoc after s (y ∷ ys) x = reached-snoc after (after y) ys x
+reached-snoc after s xs x = reached-append after s xs (x ∷ [])
 
 module _ {A : Type 0} where
   -- one more in front of all but the last
@@ -116,7 +120,7 @@ module _ {S : Type 0} where
   settles-moved (further {r = r} {rs = rs} m q) = but-last-more (λ (x : Round S). 0 < x .moved) r m rs (settles-moved q)
 
   -- a round that moves something, before others
-  still-more : (r : Round S) (rs : List (Round S)) → eqb (r .moved) 0 ≡ false → lastStill (r ∷ rs) ≡ lastStill rs
+  pub still-more : (r : Round S) (rs : List (Round S)) → eqb (r .moved) 0 ≡ false → lastStill (r ∷ rs) ≡ lastStill rs
   unfolding lastStill
   still-more r [] e = e
   still-more r (q ∷ rs) e = refl
