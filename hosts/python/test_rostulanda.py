@@ -942,6 +942,24 @@ class ChartAndListTest(unittest.TestCase):
         self.assertTrue(str(Layout().row()).endswith("\norder"))
         self.assertEqual(rostulanda.list_chart(b""), "refused 3\n")
 
+    def test_fifty_rounds_are_not_always_enough(self):
+        chart = CHARTS.joinpath("many-rounds.chart").read_bytes()
+        layout = Layout.from_chart(chart)
+        spent = layout.copy()
+        row = spent.row(rostulanda.LIMIT)
+        self.assertEqual(f"{row}\n", rostulanda.list_chart(chart))
+        self.assertEqual((row.rounds, row.converged), (50, False))
+        run = layout.copy().converge()
+        self.assertEqual((run.rounds, run.converged), (52, True))
+        row = layout.copy().row()
+        self.assertEqual((row.rounds, row.converged), (52, True))
+        edges, vertices = layout.weighted_edges(), layout.order()
+        self.assertEqual(rostulanda.layout(edges, vertices), row)
+        self.assertEqual(rostulanda.layout(edges, vertices, rostulanda.LIMIT).rounds, 50)
+        # Going on leads to the same order.
+        rest = spent.row()
+        self.assertEqual((rest.rounds, rest.after, rest.order), (2, row.after, row.order))
+
     def test_a_row_goes_by_weights(self):
         chart = CHARTS.joinpath("weighted.chart").read_bytes()
         layout = Layout.from_chart(chart)

@@ -58,6 +58,10 @@ const FIRST_CHART: &[u8] = include_bytes!("../../../charts/first.chart");
 #[cfg(test)]
 const WEIGHTED_CHART: &[u8] = include_bytes!("../../../charts/weighted.chart");
 
+/// Fifty rounds do not settle it.
+#[cfg(test)]
+const MANY_ROUNDS_CHART: &[u8] = include_bytes!("../../../charts/many-rounds.chart");
+
 /// The first one in graph6: 0-2 is the second pair, 1-3 the fifth.
 #[cfg(test)]
 const FIRST_GRAPH6: &[u8] = &[4 + 63, 0b010010 + 63];

@@ -53,7 +53,7 @@ pub fn list_chart(chart: &[u8]) -> String {
 #[cfg(test)]
 mod tests {
     use super::*;
-    use crate::{Layout, Refusal, FIRST_CHART, WEIGHTED_CHART};
+    use crate::{Layout, Refusal, FIRST_CHART, MANY_ROUNDS_CHART, WEIGHTED_CHART};
 
     #[test]
     fn a_row_is_what_ringlist_prints() {
@@ -71,6 +71,23 @@ mod tests {
             let refused = first.clone().row(limit);
             assert_eq!(refused, Err(Refusal::LimitOutOfRange));
         }
+    }
+
+    #[test]
+    fn fifty_rounds_are_not_always_enough() {
+        let layout = Layout::from_chart(MANY_ROUNDS_CHART).unwrap();
+        let mut spent = layout.clone();
+        let row = spent.row(50).unwrap();
+        assert_eq!(row.to_string(), list_chart(MANY_ROUNDS_CHART));
+        assert_eq!((row.rounds, row.converged), (50, false));
+        let run = layout.clone().converge_without_limit().unwrap();
+        assert_eq!((run.rounds, run.converged), (52, true));
+        let row = layout.clone().row_without_limit().unwrap();
+        assert_eq!((row.rounds, row.converged), (52, true));
+        // Going on leads to the same order.
+        let rest = spent.row_without_limit().unwrap();
+        assert_eq!((rest.rounds, rest.after), (2, row.after));
+        assert_eq!(rest.order, row.order);
     }
 
     #[test]

@@ -39,6 +39,16 @@ fn the_first_ring() {
     assert_eq!(settled(first_ring(), 1000).rounds, 2);
 }
 
+/// The sample chart that fifty rounds do not settle.
+#[test]
+fn many_rounds() {
+    let chart = include_bytes!("../../../charts/many-rounds.chart");
+    let layout = second::chart::read(chart).unwrap();
+    assert!(!within_its_bounds(layout, 50));
+    assert!(within_its_bounds(layout, 1000));
+    assert_eq!(settled(layout, 1000).rounds, 52);
+}
+
 /// With a limit of 2, and those round about the crossings.
 #[test]
 fn a_limit_larger_than_the_crossings_is_enough() {
