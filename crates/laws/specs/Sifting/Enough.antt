@@ -15,8 +15,8 @@ use Rattle.model.specs.Lists.{All, none, also}
 use Rattle.model.specs.Layouts.{crossingsOf}
 use Rattle.model.specs.Search.{Search, Round, reached, lastStill, roundAt, roundsWithin}
 use Rattle.model.specs.Sifting.{ring, roundsUpTo, settled, settleOf}
-use Rattle.laws.specs.Sifting.Sweeps.{Lawful, Rounds, Settles, spent, last, further, settles, lastReached, reached-append, still-more, chain-exact, chain-fewer}
-use Rattle.laws.specs.Sifting.Sweeps.{rounds-proper}
+use Rattle.laws.specs.Sifting.Sweeps.{reached-append, Settles, spent, last, further, still-more, lastReached, settles}
+use Rattle.laws.specs.Sifting.Sweeps.{Lawful, Rounds, chain-exact, chain-fewer, rounds-proper}
 use Rattle.laws.specs.Sifting.Rounds.{Valid, lawful, settled-rearranged, settled-exact}
 use Rattle.laws.specs.Sifting.Calls.{settle-passed, settle-accepted}
 
@@ -118,43 +118,50 @@ pub record LimitFacts (l : Layout) (limit : ℕ) (a : Converged) : Type 0 where
   pub not-enough : a .converged ≡ false → limit ≤ a .reduction
 
 module _ (l : Layout) (limit : ℕ) (e : settleOf l limit .refusal ≡ 0) where
+  whole : Valid l
+  whole = settle-passed l limit e .0
+
+  answered : settleOf l limit ≡ roundsUpTo limit l
+  answered = let p = settle-passed l limit e in settle-accepted l limit (p .0) (p .1) (p .2)
+
   -- the saving is exact
   pub settle-exact : crossingsOf (settleOf l limit .layout) + settleOf l limit .reduction ≡ crossingsOf l
-  settle-exact = let p = settle-passed l limit e in rw (settle-accepted l limit (p .0) (p .1) (p .2)) (settled-exact limit l (p .0))
+  settle-exact = rw answered (settled-exact limit l whole)
 
   pub settle-enough : LimitFacts l limit (settleOf l limit)
   unfolding roundsUpTo settled
   settle-enough =
-      let p = settle-passed l limit e in
-      rw (settle-accepted l limit (p .0) (p .1) (p .2))
+      rw answered
       (record {
-        enough = λ h. limit-enough ring Valid lawful limit l (p .0) (omega arith);
-        few = omega (arith, rounds-few ring Valid lawful limit l (p .0));
-        saved = omega (arith, rounds-cost ring Valid lawful limit l (p .0), settled-exact limit l (p .0));
-        not-enough = λ f. omega (arith, unsettled-cost ring Valid lawful limit l (p .0) f, settled-exact limit l (p .0));
+        enough = λ h. limit-enough ring Valid lawful limit l whole (omega arith);
+        few = omega (arith, rounds-few ring Valid lawful limit l whole);
+        saved = omega (arith, rounds-cost ring Valid lawful limit l whole, settled-exact limit l whole);
+        not-enough = λ f. omega (arith, unsettled-cost ring Valid lawful limit l whole f, settled-exact limit l whole);
       })
 
-  -- where the limit was enough, a larger one gives the same answer
-  pub settle-same : settleOf l limit .converged ≡ true → (more : ℕ) → limit + more ≤ 1000 → settleOf l (limit + more) ≡ settleOf l limit
+  -- did the last of its rounds move no vertex?
+  told : {b : Bool} → settleOf l limit .converged ≡ b → lastStill (roundsWithin ring limit l) ≡ b
   unfolding roundsUpTo settled
-  settle-same c more h =
-      let p = settle-passed l limit e in
-      let same = settle-accepted l limit (p .0) (p .1) (p .2) in
-      settle-accepted l (limit + more) (p .0) (omega (arith, p .1)) h
-      ∙ ap (settled l) (rounds-same ring more limit l (ap (λ (a : Converged). a .converged) (sym same) ∙ c))
-      ∙ sym same
+  told c = ap (λ (a : Converged). a .converged) (sym answered) ∙ c
 
-  -- where it was not, going on from what it gave leads to what the larger one leads to
-  pub settle-on : settleOf l limit .converged ≡ false → (more : ℕ) → 1 ≤ more → limit + more ≤ 1000
-      → settleOf (settleOf l limit .layout) more .layout ≡ settleOf l (limit + more) .layout
-  unfolding roundsUpTo settled
-  settle-on c more g h =
-      let p = settle-passed l limit e in
-      let same = settle-accepted l limit (p .0) (p .1) (p .2) in
-      let on = rounds-on ring more limit l (ap (λ (a : Converged). a .converged) (sym same) ∙ c) in
-      ap (λ (a : Converged). settleOf (a .layout) more .layout) same
-      ∙ ap (λ (a : Converged). a .layout)
-      (settle-accepted (lastReached ring limit l) more (settled-rearranged limit l (p .0) .valid-after) g (omega (arith, h)))
-      ∙ sym (reached-append (λ (r : Round Layout). r .after) l (roundsWithin ring limit l) (roundsWithin ring more (lastReached ring limit l)))
-      ∙ ap (reached (λ (r : Round Layout). r .after) l) (sym on)
-      ∙ sym (ap (λ (a : Converged). a .layout) (settle-accepted l (limit + more) (p .0) (omega (arith, p .1)) h))
+  -- a larger limit
+  module _ (more : ℕ) (h : limit + more ≤ 1000) where
+    answered-more : settleOf l (limit + more) ≡ roundsUpTo (limit + more) l
+    answered-more = settle-accepted l (limit + more) whole (omega (arith, settle-passed l limit e .1)) h
+
+    -- where the limit was enough, the larger one gives the same answer
+    pub settle-same : settleOf l limit .converged ≡ true → settleOf l (limit + more) ≡ settleOf l limit
+    unfolding roundsUpTo
+    settle-same c = answered-more ∙ ap (settled l) (rounds-same ring more limit l (told c)) ∙ sym answered
+
+    -- where it was not, going on from what it gave leads to what the larger one leads to
+    pub settle-on : settleOf l limit .converged ≡ false → 1 ≤ more
+        → settleOf (settleOf l limit .layout) more .layout ≡ settleOf l (limit + more) .layout
+    unfolding roundsUpTo settled
+    settle-on c g =
+        let end = lastReached ring limit l in
+        ap (λ (a : Converged). settleOf (a .layout) more .layout) answered
+        ∙ ap (λ (a : Converged). a .layout) (settle-accepted end more (settled-rearranged limit l whole .valid-after) g (omega (arith, h)))
+        ∙ sym (reached-append (λ (r : Round Layout). r .after) l (roundsWithin ring limit l) (roundsWithin ring more end))
+        ∙ ap (reached (λ (r : Round Layout). r .after) l) (sym (rounds-on ring more limit l (told c)))
+        ∙ sym (ap (λ (a : Converged). a .layout) answered-more)
