@@ -95,15 +95,7 @@ fn better(layout: &mut Layout, order: &[usize]) -> Result<Option<Move>, Refusal>
 #[cfg(test)]
 mod tests {
     use super::*;
-
-    /// One edge in so many of n vertices, with weights from 1 to 255.
-    fn scattered(n: usize, one_in: usize) -> Vec<(usize, usize, u8)> {
-        let pairs = (0..n).flat_map(|a| (a + 1..n).map(move |b| (a, b)));
-        pairs
-            .filter(|(a, b)| (7 * a + 5 * b) % one_in == 0)
-            .map(|(a, b)| (a, b, 1 + ((97 * a + 31 * b) % 255) as u8))
-            .collect()
-    }
+    use crate::scattered;
 
     #[test]
     fn the_first_chart() {

@@ -50,6 +50,16 @@ pub use list::{play, Answer, Call, Played, Start};
 pub use refusal::Refusal;
 pub use row::{list_chart, Row};
 
+/// One edge in so many of n vertices, with weights from 1 to 255.
+#[cfg(test)]
+fn scattered(n: usize, one_in: usize) -> Vec<(usize, usize, u8)> {
+    let pairs = (0..n).flat_map(|a| (a + 1..n).map(move |b| (a, b)));
+    pairs
+        .filter(|(a, b)| (7 * a + 5 * b) % one_in == 0)
+        .map(|(a, b)| (a, b, 1 + ((97 * a + 31 * b) % 255) as u8))
+        .collect()
+}
+
 /// Four vertices, 0-2 and 1-3: one crossing.
 #[cfg(test)]
 const FIRST_CHART: &[u8] = include_bytes!("../../../charts/first.chart");

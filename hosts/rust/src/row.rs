@@ -80,10 +80,12 @@ mod tests {
         let row = spent.row(50).unwrap();
         assert_eq!(row.to_string(), list_chart(MANY_ROUNDS_CHART));
         assert_eq!((row.rounds, row.converged), (50, false));
+        assert_eq!((row.before, row.after), (434_951, 126_666));
         let run = layout.clone().converge_without_limit().unwrap();
         assert_eq!((run.rounds, run.converged), (52, true));
         let row = layout.clone().row_without_limit().unwrap();
         assert_eq!((row.rounds, row.converged), (52, true));
+        assert_eq!((row.before, row.after), (434_951, 126_661));
         // Going on leads to the same order.
         let rest = spent.row_without_limit().unwrap();
         assert_eq!((rest.rounds, rest.after), (2, row.after));
