@@ -129,7 +129,7 @@ module _ {n : ℕ} (W : ℕ → ℕ → ℕ) (symmetry : Symmetric n W) where
   laid_at_back p {m} {s} laid (v ∷ vs) e =
       let w = first (subst (All (Waiting n p s.placed)) e (all_waiting n p s.placed)) in
       subst (λ (j : ℕ). Laid n W j (place_at_back n W (place_back n W s v) vs)) (omega arith)
-      (laid_at_back p (laid_back laid w) vs (waiting_rest w (s.placed ++ (v ∷ [])) (unplaced_back n s.placed v) e))
+      (laid_at_back p {m = suc m} {s = place_back n W s v} (laid_back laid w) vs (waiting_rest w (s.placed ++ (v ∷ [])) (unplaced_back n s.placed v) e))
     where
       first : {P : ℕ → Type 0} {x : ℕ} {xs : List ℕ} → All P (x ∷ xs) → P x
       first (also q qs) = q

@@ -125,7 +125,7 @@ module _ {W : ℕ → ℕ → ℕ} where
   weighed_more {done} {table} w none = subst (λ (xs : List Edge). WeighedBy W xs table) (sym (append-nil done)) w
   weighed_more {done} {table} w (also {x = e} {xs = es} t ts) =
       subst (λ (xs : List Edge). WeighedBy W xs (with_weights table (e ∷ es) (map (edge_weight W) (e ∷ es)))) (append_assoc done (e ∷ []) es)
-      (weighed_more (weighed_next w e t) ts)
+      (weighed_more {done = done ++ (e ∷ [])} {table = with_weights table (e ∷ []) (edge_weight W e ∷ [])} (weighed_next w e t) ts)
 
   pub table_weighed : (es : List Edge) → every (edge_within 64) es ≡ true → WeighedBy W es (table_in es (map (edge_weight W) es))
   unfolding table_in

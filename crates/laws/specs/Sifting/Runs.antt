@@ -34,12 +34,12 @@ module _ {S C A : Type 0} (k : Calls S C A) where
         → All P (steps_from k s cs)
     unfolding steps_from
     all_steps P h g [] = none
-    all_steps P h {s} g (c ∷ cs) = also (h s c g) (all_steps P h (keeps s c g) cs)
+    all_steps P h {s} g (c ∷ cs) = also (h s c g) (all_steps P h {s = k.after (k.answers s c)} (keeps s c g) cs)
 
     pub end_good : {s : S} → Good s → (cs : List C) → Good (played_from k s cs)
     unfolding played_from
     end_good g [] = g
-    end_good {s} g (c ∷ cs) = end_good (keeps s c g) cs
+    end_good {s} g (c ∷ cs) = end_good {s = k.after (k.answers s c)} (keeps s c g) cs
 
   -- ---- the sifts and rounds of a step
 
