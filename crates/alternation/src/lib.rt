@@ -1,4 +1,6 @@
 // Do two edges cross? Their four ends differ, and their places alternate round the circle.
+#![tactic(auto)]
+
 ghost use Rattle.std.specs.Prelude.{◌≡◌, [], ◌∷◌, eqb};
 ghost use Rattle.model.specs.Lists.{no_repeats};
 ghost use Rattle.model.specs.Crossings.{between as betweenPlaces, alternate as alternatePlaces};

@@ -1,4 +1,6 @@
 // Greedy append (document 01: lay). One file for each subject.
+#![tactic(auto)]
+
 mod appending;
 mod steps;
 

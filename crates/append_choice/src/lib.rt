@@ -1,4 +1,6 @@
 // The vertex that greedy append (document 01: lay) places next.
+#![tactic(auto)]
+
 ghost use Rattle.std.specs.Prelude.{◌≡◌, cond, leb};
 ghost use Rattle.append_choice.specs.Choices.{preferred_of, considered_of, best_below};
 

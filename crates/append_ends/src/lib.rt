@@ -2,6 +2,8 @@
 // placed vertices (document 02, Note 8). Of a line it holds whatever the line is: its start and its size
 // are taken modulo 65 and a vertex modulo 64, which changes nothing for 64 vertices or fewer around the
 // middle (append_line).
+#![tactic(auto)]
+
 ghost use Rattle.std.specs.Prelude.{◌≡◌, ◌%◌, ◌≤◌, length};
 ghost use Rattle.append_ends.specs.Ends.{as_vertices, vertices, ends_of, most_at_end};
 ghost use Rattle.append_ends.specs.Passes.{passed_of, Small};

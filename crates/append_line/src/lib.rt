@@ -1,6 +1,8 @@
 // A list of vertices that grows at both ends, held in the middle of a buffer. Each function holds
 // for any line: a vertex is taken modulo 64, a place modulo 128, and what is written modulo 65. For
 // 64 vertices or fewer, beginning with one in the middle, that changes nothing.
+#![tactic(auto)]
+
 ghost use Rattle.std.specs.Prelude.{◌≡◌, cond, eqb};
 ghost use Rattle.model.specs.Crossings.{bit};
 ghost use Rattle.append_line.specs.Lines.{alone_at, at_front, at_back, rest_of, written_over};

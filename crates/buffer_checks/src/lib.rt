@@ -1,4 +1,6 @@
 // What the calls share that fill a lent buffer or table from its start: their checks.
+#![tactic(auto)]
+
 ghost use Rattle.std.specs.Prelude.{◌≡◌};
 ghost use Rattle.model.specs.Checks.{refusal};
 ghost use Rattle.buffer_checks.specs.Answers.{asks};

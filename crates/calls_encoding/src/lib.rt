@@ -1,4 +1,6 @@
 // Calls, their answers and where a list of them starts, written as numbers.
+#![tactic(auto)]
+
 mod answers;
 mod calls;
 mod origins;

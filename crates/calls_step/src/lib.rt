@@ -1,4 +1,6 @@
 // One call: the outcome of a call on a layout.
+#![tactic(auto)]
+
 mod outcomes;
 mod steps;
 

@@ -1,4 +1,6 @@
 // A layout changed, and its count carried on.
+#![tactic(auto)]
+
 ghost use Rattle.std.specs.Prelude.{◌≡◌};
 ghost use Rattle.model.specs.Layouts.{carried as carriedCount};
 ghost use Rattle.laws.specs.Layouts.Recount.{carried_to, recounted as recountedLayout};

@@ -2,6 +2,8 @@
 // layout (ring) that an accepted chart gives. chart_questions has 1 to 4, chart_ends 5 and 6, chart_bodies
 // 7 and 8, chart_weights 24 and 25. PassedFirst k says that the first k of these have passed, SizeRead k
 // that n has been read besides.
+#![tactic(auto)]
+
 ghost use Rattle.std.specs.Prelude.{◌≡◌};
 ghost use Rattle.model.specs.Charts.{chart_edges, chart_order, read_of};
 ghost use Rattle.laws.specs.Charts.Words.{adjacency_of};

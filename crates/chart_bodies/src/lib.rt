@@ -1,5 +1,7 @@
 // What the bodies of a chart's fields 4C and 52 give: the edges (links) as adjacency words, question 7,
 // and the vertices (devices) in their order, question 8.
+#![tactic(auto)]
+
 ghost use Rattle.std.specs.Prelude.{◌≡◌, []};
 ghost use Rattle.model.specs.Charts.{asked, answer, repeat_checks};
 ghost use Rattle.laws.specs.Charts.Wrapped.{wrapped};

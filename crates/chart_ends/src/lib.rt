@@ -1,4 +1,6 @@
 // Questions 5 and 6 about a chart: its edges (links) as pairs of ends, a byte each.
+#![tactic(auto)]
+
 ghost use Rattle.std.specs.Prelude.{◌≡◌, []};
 ghost use Rattle.model.specs.Charts.{asked, answer, end_checks, edge_within};
 ghost use Rattle.laws.specs.Charts.Ends.{edge};

@@ -1,4 +1,6 @@
 // Questions 1 to 4 about a chart, and the bodies of its fields. Each pass answers an enum.
+#![tactic(auto)]
+
 ghost use Rattle.std.specs.Prelude.{◌≡◌, ◌≤◌, length, drop, ltb};
 ghost use Rattle.model.specs.Charts.{asked, field_found, size_found};
 ghost use Rattle.model.specs.Charts.{fields_of, tags_of, body_of, has_weights, same_list, field_answer, division_answer, tags_answer, size_answer};

@@ -1,5 +1,7 @@
 // The weights of a chart's links (document 02, Note 8): the body of field 57, a byte for each link in the
 // sequence of field 4C, or 1 for each where there is no such field. listed says whether there is one.
+#![tactic(auto)]
+
 ghost use Rattle.std.specs.Prelude.{◌≡◌, true, cond, [], ◌<◌, min, length, get_or};
 ghost use Rattle.model.specs.Lists.{every};
 ghost use Rattle.model.specs.Layouts.{is_weight};

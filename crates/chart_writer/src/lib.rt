@@ -1,4 +1,6 @@
 // Writing the chart of a layout (ring) into a lent buffer (document 02, Notes 1 and 8).
+#![tactic(auto)]
+
 ghost use Rattle.std.specs.Prelude.{◌≡◌, [], ◌∷◌, ◌+◌, ◌*◌, ◌/◌, ◌%◌, ◌≤◌, ◌<◌, length};
 ghost use Rattle.model.specs.Crossings.{edges};
 ghost use Rattle.model.specs.Layouts.{table_weight};

@@ -1,6 +1,8 @@
 // What a chord between each two places of an order crosses, each edge by its weight (document 02,
 // Notes 7 and 8). Each place tells the number from that of the place before it: the weights towards
 // the vertices passed grow by a row a step.
+#![tactic(auto)]
+
 ghost use Rattle.std.specs.Prelude.{◌≡◌, ◌<◌, ◌≤◌, length};
 ghost use Rattle.laws.specs.Tables.Rows.{RowsOf};
 ghost use Rattle.laws.specs.Tables.Drawn.{Weighted};

@@ -1,5 +1,7 @@
 // The crossings of an order whose edges weigh (document 02, Note 8), counted over pairs of places j < k:
 // the weight of all vertices before j towards k, times the weight of j towards all behind k.
+#![tactic(auto)]
+
 ghost use Rattle.std.specs.Prelude.{◌≡◌, ◌*◌, ◌≤◌, ◌<◌};
 ghost use Rattle.laws.specs.Tables.Rows.{table_weight};
 ghost use Rattle.laws.specs.Tables.Counts.{counted};

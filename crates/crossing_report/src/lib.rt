@@ -1,4 +1,6 @@
 // By value, what a host gets of the search for a crossing pair.
+#![tactic(auto)]
+
 ghost use Rattle.std.specs.Prelude.{◌≡◌, []};
 ghost use Rattle.model.specs.Reports.{crossing_report_of, pair_report};
 

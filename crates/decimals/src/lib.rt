@@ -1,6 +1,8 @@
 // Numbers in decimal, each behind a space, written into a lent buffer from a place on. Each call
 // answers the place behind what it wrote. Where there is no room it writes nothing, and answers the
 // place itself.
+#![tactic(auto)]
+
 ghost use mathlib.Core.List.{◌++◌, flat_map};
 ghost use Rattle.std.specs.Prelude.{◌+◌, ◌*◌, ◌≤◌, length};
 ghost use Rattle.model.specs.Listing.{text, decimal, spaced};

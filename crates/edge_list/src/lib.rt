@@ -1,5 +1,7 @@
 // The edges of a graph, listed: lower end first, sorted by lower, then higher end, two bytes each.
 // Above 64 vertices none is listed.
+#![tactic(auto)]
+
 ghost use Rattle.std.specs.Prelude.{◌≡◌, ◌+◌, ◌*◌, ◌≤◌, ◌<◌, length};
 ghost use Rattle.model.specs.Crossings.{edges};
 ghost use Rattle.model.specs.WrittenCharts.{edge_bytes};

@@ -1,4 +1,6 @@
 // Adding and removing an edge (document 01: link, unlink), with its weight (document 02, Note 8).
+#![tactic(auto)]
+
 ghost use Rattle.std.specs.Prelude.{◌≡◌, cond};
 ghost use Rattle.model.specs.Layouts.{is_weight};
 ghost use Rattle.model.specs.Checks.{refusal};

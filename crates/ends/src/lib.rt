@@ -1,4 +1,6 @@
 // An edge in the adjacency words of its two ends: put in, and taken out.
+#![tactic(auto)]
+
 ghost use Rattle.std.specs.Prelude.{◌≡◌, ◌%◌};
 ghost use Rattle.model.specs.Edits.{with_bit, without_bit, at_both_ends};
 

@@ -1,6 +1,8 @@
 // Importing a graph in graph6 (document 02, Note 4): questions 20 to 22, each asked of the whole input
 // before the next, and the layout that an accepted graph gives, in the order 0, 1, 2 and so on, each
 // edge with the weight 1.
+#![tactic(auto)]
+
 ghost use Rattle.std.specs.Prelude.{◌≡◌, ◌≤◌};
 ghost use Rattle.model.specs.Lists.{upto};
 ghost use Rattle.model.specs.Graph6.{import_of};

@@ -1,4 +1,6 @@
 // Six bits a byte, as graph6 has them: from the high bit, plus 63.
+#![tactic(auto)]
+
 ghost use Rattle.std.specs.Prelude.{◌≡◌, get_or, eqb};
 ghost use Rattle.model.specs.Lists.{every};
 ghost use Rattle.model.specs.Graph6.{holds_six, unpacked};

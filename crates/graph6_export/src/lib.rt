@@ -1,5 +1,7 @@
 // Exporting a layout (ring) in graph6 into a lent buffer (document 02, Note 4). Its order is dropped; a
 // weight other than 1 is refused (Note 8).
+#![tactic(auto)]
+
 ghost use Rattle.std.specs.Prelude.{◌≡◌, ◌≤◌, length};
 ghost use Rattle.model.specs.Writing.{write_of, written_bytes};
 ghost use Rattle.model.specs.Graph6.{size_part, graph6_format};

@@ -1,4 +1,6 @@
 // The bits of a graph's pairs, packed six to a byte as graph6 has them. An n above 64 is taken as 64.
+#![tactic(auto)]
+
 ghost use Rattle.std.specs.Prelude.{◌≡◌, cond, suc, ◌+◌, ◌-◌, ◌/◌, ◌%◌, ◌^◌, ◌≤◌, ◌<◌, min, get_or, set};
 ghost use Rattle.model.specs.Graph6.{pair_bits};
 ghost use Rattle.laws.specs.Graph6.Packing.{packed_in};

@@ -1,5 +1,7 @@
 // The data part of a graph in graph6: a bit for each pair of vertices, by rising higher end. An n above
 // 64 is taken as 64.
+#![tactic(auto)]
+
 ghost use Rattle.std.specs.Prelude.{◌≡◌, cond, [], ◌++◌, suc, ◌+◌, ◌%◌, ◌<◌, min, length, drop, eqb};
 ghost use Rattle.model.specs.Lists.{every};
 ghost use Rattle.model.specs.Edits.{with_bit, at_both_ends};

@@ -1,4 +1,6 @@
 // The size part of a graph in graph6: the number of vertices, in one byte or in four.
+#![tactic(auto)]
+
 ghost use Rattle.std.specs.Prelude.{◌≡◌, length};
 ghost use Rattle.model.specs.Charts.{size_found};
 ghost use Rattle.model.specs.Graph6.{size_part, graph6_size_answer};

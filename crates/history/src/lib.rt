@@ -1,1 +1,3 @@
 // No code: specs/ has the claim over every list of calls.
+
+#![tactic(auto)]

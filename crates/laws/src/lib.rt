@@ -1,1 +1,3 @@
 // Mathematics about the definitions of model; no code.
+
+#![tactic(auto)]

@@ -1,5 +1,7 @@
 // The lines of a listing, written into a lent buffer from a place on. Each call answers the place
 // behind what it wrote. Where there is no room it writes nothing, and answers the place itself.
+#![tactic(auto)]
+
 ghost use Rattle.std.specs.Prelude.{cond, ◌+◌, ◌*◌, ◌≤◌, length};
 ghost use mathlib.Core.List.{◌++◌, flat_map};
 ghost use Rattle.model.specs.Listing.{text, line, spaced};

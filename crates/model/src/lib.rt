@@ -1,5 +1,7 @@
 // The public types of the library. What the calls do with them is defined in specs/.
 
+#![tactic(auto)]
+
 // A circular layout (document 01: a ring). Vertices (devices) are 0 to n - 1. The first n places
 // of order hold them clockwise. Bit i of adjacency[v] (the neighbour word of v) is set exactly
 // when v and i are joined by an edge (a link). The weight of u towards v stands at 64 * u + v of

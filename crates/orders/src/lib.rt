@@ -1,4 +1,6 @@
 // Do bytes hold each vertex once: a list of n bytes, and the 64 places of a layout's order.
+#![tactic(auto)]
+
 ghost use Rattle.std.specs.Prelude.{◌≡◌, ◌&&◌, ◌≤◌, leb, length, take};
 ghost use Rattle.model.specs.Layouts.{each_once, zero_from};
 

@@ -1,4 +1,6 @@
 // Places of an order: where a vertex stands, where each does, and an entry moved directly behind another.
+#![tactic(auto)]
+
 ghost use Rattle.std.specs.Prelude.{◌≡◌, cond, ◌&&◌, ◌≤◌, ◌<◌, take, ltb};
 ghost use Rattle.model.specs.Lists.{place};
 ghost use Rattle.laws.specs.Orders.Permutations.{Permutation};

@@ -1,5 +1,7 @@
 // The answer line: a name and a refusal number, the call's own answers, and the layout that then
 // stands.
+#![tactic(auto)]
+
 ghost use Rattle.std.specs.Prelude.{◌≡◌, ◌+◌, ◌≤◌, ◌<◌, length};
 
 use decimals::{put_bytes, put_number, put_small};

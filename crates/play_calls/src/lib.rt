@@ -3,6 +3,8 @@
 // reads or writes a file. What a line says is compared with a second program by tests; what is
 // proved is that every function is safe and ends, and that every line fits its buffer.
 
+#![tactic(auto)]
+
 mod dispatch;
 mod starts;
 

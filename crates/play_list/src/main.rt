@@ -1,5 +1,7 @@
 // Plays the list of calls on standard input and writes the answer lines (tests/README.md). The work
 // is in player; here records and the bytes behind them are read, and lines are written.
+#![tactic(auto)]
+
 ghost use Rattle.std.specs.Prelude.{◌≡◌, ◌≤◌, min, length};
 
 use libc::{STDIN_FILENO, STDOUT_FILENO};

@@ -1,5 +1,7 @@
 // The numbers of a record, eight bytes each, low byte first, the sizes of bytes that follow a
 // record in a list, and layouts with a field set to such a number.
+#![tactic(auto)]
+
 mod fields;
 
 ghost use Rattle.std.specs.Prelude.{◌≡◌, ◌+◌, ◌*◌, ◌^◌, ◌≤◌, ◌<◌, length};

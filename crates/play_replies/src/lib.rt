@@ -1,5 +1,7 @@
 // The calls that change a layout, each with its answer line. They go through calls_step::step: what is
 // compared is what the theorem over lists of calls speaks of.
+#![tactic(auto)]
+
 ghost use Rattle.std.specs.Prelude.{◌+◌, ◌≤◌};
 ghost use Rattle.play_answers.specs.Lines.{line_room};
 

@@ -1,4 +1,6 @@
 // The crossings of every edge (perlink), with the answer line.
+#![tactic(auto)]
+
 ghost use Rattle.std.specs.Prelude.{◌+◌, ◌*◌, ◌≤◌, ◌≡◌, length};
 ghost use Rattle.play_answers.specs.Lines.{line_room};
 

@@ -1,4 +1,6 @@
 // The calls that only read a layout, each with its answer line.
+#![tactic(auto)]
+
 ghost use Rattle.std.specs.Prelude.{◌+◌, ◌*◌, ◌≤◌, ◌≡◌, length};
 ghost use Rattle.play_answers.specs.Lines.{line_room};
 

@@ -1,4 +1,6 @@
 // The calls that only read: the carried count, and the order into a lent buffer.
+#![tactic(auto)]
+
 ghost use Rattle.std.specs.Prelude.{◌≡◌};
 ghost use Rattle.model.specs.Reading.{count_of, order_refusal, order_bytes};
 

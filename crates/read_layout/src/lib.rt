@@ -1,5 +1,7 @@
 // What the readers of charts and of graph6 share: what they hand back where a pass refuses, and where
 // all have passed.
+#![tactic(auto)]
+
 ghost use Rattle.std.specs.Prelude.{◌≡◌};
 ghost use Rattle.model.specs.Charts.{asked, size_found};
 ghost use Rattle.laws.specs.Charts.Passes.{refused_read, accepted_read, counted_layout};

@@ -1,6 +1,8 @@
 // Reads a chart on standard input, settles it and lists it. At most 8,193 bytes are read, the last
 // only to tell that the chart is too long. Where reading or writing fails, one line on standard
 // error says so.
+#![tactic(auto)]
+
 ghost use Rattle.std.specs.Prelude.{length};
 ghost use Rattle.ringlist.specs.Input.{Within};
 

@@ -3,6 +3,8 @@
 // and one sum over the row of the vertex passed tells by how much the next candidate differs.
 // The numbers that the sum goes by, the reaches, stay as they are at the start; what those passed add
 // to it is kept apart, for each vertex its weight on them.
+#![tactic(auto)]
+
 ghost use Rattle.std.specs.Prelude.{◌≡◌, ◌+◌, ◌*◌, ◌<◌, ◌≤◌};
 ghost use Rattle.laws.specs.Tables.Rows.{most_weight, most_sum, RowsOf};
 ghost use Rattle.sift_walk.specs.Keeping.{kept_next, keeping};

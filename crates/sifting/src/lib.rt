@@ -1,5 +1,7 @@
 // Circular sifting (document 01: sift, round, settle). One file for each call, and one for the
 // layout that they lead to.
+#![tactic(auto)]
+
 mod convergence;
 mod layouts;
 mod rounds;

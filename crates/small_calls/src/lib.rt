@@ -1,4 +1,6 @@
 // The calls on layouts of at most eight vertices (document 02, Note 10), each into a lent buffer.
+#![tactic(auto)]
+
 mod least;
 mod listed;
 mod orders;

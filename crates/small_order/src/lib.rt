@@ -1,5 +1,7 @@
 // The order with a given index in the list of all orders of at most eight vertices, vertex 0 first
 // (document 02, Note 10), and how many there are.
+#![tactic(auto)]
+
 ghost use Rattle.std.specs.Prelude.{◌≡◌, ◌≤◌, ◌<◌, get_or, take};
 ghost use Rattle.model.specs.Lists.{upto, keep};
 ghost use Rattle.model.specs.SmallOrders.{factorial, number_of_orders, order_at};

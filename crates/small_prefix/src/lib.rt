@@ -1,5 +1,7 @@
 // The first vertices of an order of at most eight (document 02, Note 10), as a list and as bits. Holds for
 // any prefix: a vertex is taken modulo 64 and a place modulo 8, which changes nothing for what fits.
+#![tactic(auto)]
+
 ghost use Rattle.std.specs.Prelude.{◌≡◌};
 ghost use Rattle.small_prefix.specs.Prefixes.{alone, next_of};
 

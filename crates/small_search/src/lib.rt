@@ -1,6 +1,8 @@
 // The least crossings of at most eight vertices (document 02, Note 10): the list of all orders with vertex 0
 // first, gone through once. The crossings so far are kept, and a part of the list is left out where they
 // have reached the least so far.
+#![tactic(auto)]
+
 ghost use Rattle.std.specs.Prelude.{◌≡◌, ◌%◌, ◌≤◌};
 ghost use Rattle.laws.specs.Sums.Numbers.{Bounded};
 ghost use Rattle.laws.specs.Tables.Rows.{table_weight};

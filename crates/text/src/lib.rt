@@ -1,5 +1,7 @@
 // Text, written into a lent buffer from a place on. Each call answers the place behind what it
 // wrote. Where there is no room it writes nothing, and answers the place itself.
+#![tactic(auto)]
+
 ghost use Rattle.std.specs.Prelude.{◌≡◌, ◌+◌, ◌≤◌, length, ltb};
 ghost use Rattle.laws.specs.Buffers.Writing.{Written};
 ghost use Rattle.text.specs.Room.{Put};

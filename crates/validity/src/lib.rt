@@ -1,4 +1,6 @@
 // Is a layout valid (document 01: whole), and the checks of a call on one.
+#![tactic(auto)]
+
 mod checks;
 mod validity;
 

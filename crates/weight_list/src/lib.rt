@@ -1,5 +1,7 @@
 // The weights of a graph's edges, listed (document 02, Note 8): a byte each, in the sequence in which
 // edge_list lists the edges. Above 64 vertices none is listed.
+#![tactic(auto)]
+
 ghost use Rattle.std.specs.Prelude.{◌≡◌, map, ◌+◌, ◌*◌, ◌%◌, ◌≤◌, length};
 ghost use Rattle.model.specs.Crossings.{edge_weight};
 ghost use Rattle.model.specs.Layouts.{table_weight};

@@ -1,6 +1,8 @@
 // A table of weights (document 02, Note 8): the weight of u towards v stands at 64 * u + v. Of the library
 // only this crate reads it, and weights_valid, which asks whether it fits. Calls of other crates are total: a
 // vertex is taken modulo 64.
+#![tactic(auto)]
+
 mod light;
 mod units;
 

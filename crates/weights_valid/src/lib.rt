@@ -1,5 +1,7 @@
 // Do the words and a table of weights (document 02, Note 8) make a graph? For any bytes at all. The weight
 // of u towards v stands at 64 * u + v.
+#![tactic(auto)]
+
 ghost use Rattle.std.specs.Prelude.{◌≡◌, ◌&&◌, ◌≤◌, ◌<◌, eqb, leb, ltb, length};
 ghost use Rattle.model.specs.Lists.{one};
 ghost use Rattle.model.specs.Layouts.{symmetric, loopless, bits_below, zero_from, weights_fit};

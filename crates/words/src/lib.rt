@@ -1,5 +1,7 @@
 // Bits of a 64-bit word. A place of 64 or above is none of its bits: it is never set, and setting
 // or clearing it changes nothing.
+#![tactic(auto)]
+
 ghost use Rattle.std.specs.Prelude.{◌≡◌, ◌-◌, ◌^◌, min, cond, eqb, ltb};
 ghost use Rattle.std.specs.Int.Bits.{bit_and};
 ghost use Rattle.model.specs.Crossings.{bit};

@@ -1,0 +1,16 @@
+use borrow.Author.Rules.{rules}
+use Prim.Native.Nat.{ℕ, ◌-◌}
+use native.Mathlib.Omega.{arith}
+use mathlib.Core.Path.{ap}
+use lib.ListN.{get_or}
+use borrow.Author.Tests.{lt-ltb, le-ltb}
+use Rattle.laws.specs.Sums.Loops.{FilledUpTo, filled_start, filled_next, filled_end}
+use Rattle.laws.specs.Orders.Moves.{moved_from}
+use Rattle.places.specs.MovedPlaces.{shifted}
+use Rattle.places.proofs.moved.Given as goal
+
+abbrev pub invariant-loop-i : goal.invariant-loop-i
+invariant-loop-i l = FilledUpTo (λ k. get_or l.order (moved_from l.p l.q k) 0) 64 l.next l.i
+
+abbrev pub decreases-loop-i : goal.decreases-loop-i
+decreases-loop-i l = 64 - l.i
