@@ -39,9 +39,12 @@ class Fn:
                 return None
         return i
 
-    def field(self, var, place, fields):
+    def field(self, var, place, fields, root):
         """The flat path of the fields behind a place."""
         first, rest = fields[0], fields[1:]
+        if rest and (same(first).startswith("loop") or re.match(r"if\d+$", first)):
+            rest = [{"inv": "invariant", "taken": "true", "left": "false"}.get(rest[0], rest[0])] + rest[1:]
+            fields = [first] + rest
         if first in ("args", "requires", "ranges", "utf8", "well_formed"):
             path = fields
             for old, new in self.renamed.items():
@@ -51,9 +54,8 @@ class Fn:
                     path = n + path[len(o) :]
                     break
             return ".".join([var] + path)
-        # the step of this place or of one above it
-        i = place
-        while i is not None:
+        # the step of this place or of one above it, or else of one between it and the goal
+        for i in self.chain(place) + self.chain(root):
             step = self.d["places"][i][2]
             if same(step[0]) == same(first):
                 arm = self.d["arms"][i]
@@ -65,8 +67,22 @@ class Fn:
                         if same(old) == same(first) and not path:
                             return ".".join([var, new] + rest)
                 return ".".join([var, step[1]] + rest)
-            i = self.parent(i)
         return None
+
+    def chain(self, i):
+        out = []
+        while i is not None:
+            out.append(i)
+            i = self.parent(i)
+        return out
+
+    def in_arm(self, place, fields, root):
+        """Is this a step that an arm holds in parts, at a path that no part has?"""
+        for i in self.chain(place) + self.chain(root):
+            if same(self.d["places"][i][2][0]) == same(fields[0]):
+                arm = self.d["arms"][i]
+                return bool(arm) and not any(same(o) == same(fields[0]) and p and fields[1 : 1 + len(p)] == p for _, o, p in arm[2])
+        return False
 
 
 def blocks(text):
@@ -192,7 +208,13 @@ def convert(crate, folder, data, say):
         kept.append([n, body, comment])
     helpers = kept
 
-    def flatten(t, env):
+    helperplace = {}
+    for n, body, comment in helpers:
+        m = re.search(rf"\(({W}+) : tie\.({W}+)", body)
+        if m and same(m[2]) in fn.at:
+            helperplace[n] = fn.at[same(m[2])]
+
+    def flatten(t, env, ctx, here):
         t = macro(t, funs)
         t = re.sub(r"(?<![\w.])(" + "|".join(map(re.escape, funs)) + r") (\w+(?:\.before)*)(?= in\b)", lambda q: q[2] + funs[q[1]], t) if funs else t
         # names of places
@@ -206,9 +228,34 @@ def convert(crate, folder, data, say):
                 break
             alias, root, befores = hit[1], hit[2], hit[3]
             pre = t[: hit.start()]
-            post = re.sub(rf"(?<![\w.'-]){re.escape(alias)}(?![\w'-])(?! :)", root + befores, t[hit.end() :])
+            post = re.sub(rf"(?<![\w.'-])(?<!let ){re.escape(alias)}(?![\w'-])(?! :)", root + befores, t[hit.end() :])
             t = pre + post
             t = macro(t, funs)
+        # names of what an arm holds in parts
+        while True:
+            hit = None
+            for m in re.finditer(rf"let ({W}+) = ({W}+)((?:\.before)*)((?:\.(?!before\b){W}+)+) in\s*", t):
+                if m[2] in env:
+                    q = fn.up(env[m[2]], m[3].count(".before"))
+                    if fn.in_arm(env[m[2]] if q is None else q, m[4].strip(".").split("."), env[m[2]]):
+                        hit = m
+                        break
+            if not hit:
+                break
+            post = re.sub(rf"(?<![\w.'-])(?<!let ){re.escape(hit[1])}(?![\w'-])(?! :)", hit[2] + hit[3] + hit[4], t[hit.end() :])
+            t = t[: hit.start()] + post
+        # lemmas over a place
+        for h, q in helperplace.items():
+            new = data["places_by_name"][q]
+
+            def call(m):
+                if m[2] not in env:
+                    return m[0]
+                if here == q:
+                    return f"{h} {m[2]}"
+                return f"{h} (goal.at.{ctx} {m[2]}).{new}"
+
+            t = re.sub(rf"(?<![\w.'-])({re.escape(h)}) ({W}+)((?:\.before)*)(?![\w.'-])", call, t)
         # let s = c.before.args in
         argset = {}
         for m in re.finditer(rf"let ({W}+) = ({W}+)((?:\.before)*)\.args in", t):
@@ -228,9 +275,8 @@ def convert(crate, folder, data, say):
                 return m[0]
             p = fn.up(env[var], k)
             if p is None:
-                say(f"left: {path}: {m[0]}")
-                return m[0]
-            new = fn.field(var, p, fields.strip(".").split("."))
+                p = env[var]
+            new = fn.field(var, p, fields.strip(".").split("."), env[var])
             if new is None:
                 say(f"left: {path}: {m[0]} at {data['places'][p][0]}")
                 return m[0]
@@ -331,21 +377,22 @@ def convert(crate, folder, data, say):
             if not m:
                 say(f"left: {path}: answer {a}")
                 continue
+            heads = re.sub(r" κs\b", "", m[1])
             pats = m[1].split()
             env = {pats[0]: place} if pats else {}
-            t = flatten(m[2], env)
+            t = flatten(m[2], env, g, place)
             if t.strip() in TRIVIAL:
                 continue
-            res.append((k, "\n".join(comment + [f"pub {g} : goal.{g}"] + unf + [f"{g}{m[1]} ={t}"])))
+            res.append((k, "\n".join(comment + [f"pub {g} : goal.{g}"] + unf + [f"{g}{heads} ={t}"])))
         elif a.startswith("("):
             m = re.match(rf"\(λ ({W}+)((?: {W}+)*)\.\s*(.*)\)$", a, re.S)
             if not m:
                 say(f"left: {path}: {a[:60]}")
                 continue
-            t = flatten(m[3], {m[1]: place})
+            t = flatten(m[3], {m[1]: place}, g, place)
             if t.strip() in TRIVIAL:
                 continue
-            res.append((k, f"pub {g} : goal.{g}\n{g} {m[1]}{m[2]} = {t}"))
+            res.append((k, f"pub {g} : goal.{g}\n{g} {m[1]}{re.sub(' κs', '', m[2])} = {t}"))
         else:
             helper = [h for h in helpers if h[0] == a]
             res.append((k, f"pub {g} : goal.{g}\n{g} c = {a} c"))
@@ -360,7 +407,12 @@ def convert(crate, folder, data, say):
             for v in m[1].split():
                 if i is not None:
                     env[v] = i
-        hs.append("\n".join(comment + [places(flatten(body, env))]))
+        q = helperplace.get(n)
+        ctx = data["places_by_name"][q] if q is not None else ""
+        m = re.search(rf"^{re.escape(n)}(?! :)(?= )", body, re.M)
+        cut = m.start() if m else len(body)
+        done = flatten(body[:cut], env, ctx, q) + flatten(body[cut:], env, ctx, q)
+        hs.append("\n".join(comment + [places(done)]))
     text = "\n\n".join(hs + [t for _, t in res])
     text = places(text)
     if res or hs:

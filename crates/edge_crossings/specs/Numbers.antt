@@ -4,7 +4,7 @@ use Rattle.std.proofs.Math.Nat.{mod-eq_of_lt}
 use Rattle.std.proofs.Common.{lt_of_lt_of_le, le_of_lt, le_antisymm, add-one, arith, ap₂, ◌∙◌}
 use Rattle.std.specs.Prelude.{◌≡◌, refl, true, cond, length, set, ltb}
 use Rattle.std.proofs.Math.Path.{sym, ap}
-use mathlib.Core.List.{List, [], ◌∷◌, ◌++◌, map, map_append, map_map}
+use mathlib.Core.List.{List, [], ◌∷◌, ◌++◌, map, map-append, map-map}
 use Rattle.std.proofs.Math.ListN.{get_or, take}
 use borrow.Author.Tests.{lt-ltb, le-ltb}
 use Rattle.model.specs.declared.Edge.{Edge}
@@ -78,7 +78,7 @@ numbered_next : (chords places ws ends : List ℕ) (i : ℕ)
     ≡ numbered chords places ws ends i ++ (number_of chords places ws (get_or ends (2 * i) 0) (get_or ends (2 * i + 1) 0) ∷ [])
 unfolding numbered upto
 numbered_next chords places ws ends i =
-    map_append (λ j. number_of chords places ws (get_or ends (2 * j) 0) (get_or ends (2 * j + 1) 0)) (upto i) (i ∷ [])
+    map-append (λ j. number_of chords places ws (get_or ends (2 * j) 0) (get_or ends (2 * j + 1) 0)) (upto i) (i ∷ [])
 
 -- the first i are in the table
 pub record NumberedUpTo (chords places ws ends start : List ℕ) (count : ℕ) (table : List ℕ) (i : ℕ) : Type 0 where
@@ -159,7 +159,7 @@ module _ {n : ℕ} {order adj ws chords places : List ℕ} (r : Drawable n order
   pub all_numbered : (ends : List ℕ) (count : ℕ) → listed ends count ≡ edges n adj → numbered chords places ws ends count ≡ numbers_of n order adj ws
   unfolding numbered numbers_of listed edge_at
   all_numbered ends count e =
-      sym (map_map number (edge_at ends) (upto count))
+      sym (map-map number (edge_at ends) (upto count))
       ∙ ap (map number) e
       ∙ map_ext number (crossings_with (table_weight ws) (take n order) (edges n adj)) (edges_within n adj) number_right
     where

@@ -6,7 +6,7 @@ use native.Mathlib.Omega.{arith}
 use Rattle.std.specs.Prelude.{◌≡◌, Bool, ◌&&◌, get_or, set, eqb, leb, ltb}
 use Rattle.std.proofs.Math.Path.{refl, ap}
 use Rattle.std.proofs.Math.Bool.{true, false, cond}
-use mathlib.Core.List.{List, [], ◌∷◌, ◌++◌, map, flat_map, map_append, append-nil}
+use mathlib.Core.List.{List, [], ◌∷◌, ◌++◌, map, flat_map, map-append, append-nil}
 use Rattle.std.proofs.Math.ListN.{length}
 use Rattle.std.proofs.Math.Pow.{ones_lt}
 use Rattle.std.proofs.lemmas.Bool.{lt-leb}
@@ -75,7 +75,7 @@ module _ (word a : ℕ) where
   unfolding row_edges upto keep last_edge
   row_grows b =
       ap (map (edge a)) (keep_append (higher word a) (upto b) (b ∷ []))
-      ∙ map_append (edge a) (keep (higher word a) (upto b)) (keep (higher word a) (b ∷ []))
+      ∙ map-append (edge a) (keep (higher word a) (upto b)) (keep (higher word a) (b ∷ []))
 
   row_next : (b : ℕ) {t : Bool} → a < b → t ≡ eqb (bit word b) 1 → row_edges word a (suc b) ≡ row_edges word a b ++ cond t (edge a b ∷ []) []
   unfolding keep last_edge

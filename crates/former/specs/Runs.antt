@@ -2,7 +2,7 @@
 use Rattle.std.specs.Prelude.{ℕ, zero, suc, ◌<◌, ◌≡◌, Bool, cond, ◌&&◌, ◌||◌, length}
 use Rattle.std.proofs.Common.{add-zero, arith, ◌∙◌, subst}
 use Rattle.std.proofs.Math.Path.{refl, sym, ap, ap₂}
-use Rattle.std.proofs.Math.Bool.{true, false, not, and_true, and-false, or-true}
+use Rattle.std.proofs.Math.Bool.{true, false, not, and-true, and-false, or-true}
 use mathlib.Core.List.{List, [], ◌∷◌, ◌++◌, append-nil}
 use Rattle.std.proofs.Math.Dec.{eqb, ltb}
 use borrow.Author.Tests.{eq-eqb, ne_eqb, eqb-true, lt-ltb}
@@ -207,7 +207,7 @@ module _ (n : ℕ) (adj : List ℕ) (start : ℕ) where
 
             by_test : (v : ℕ) (b : Bool) → isolated adj v ≡ b
                 → (not (member v (staying_part formerly).placed) && b) ≡ not (not b || eqb v start)
-            by_test v true e = ap (λ (m : Bool). not m && true) (among v e) ∙ and_true (not (eqb v start))
+            by_test v true e = ap (λ (m : Bool). not m && true) (among v e) ∙ and-true (not (eqb v start))
             by_test v false e = and-false (not (member v (staying_part formerly).placed))
 
         -- so the list is the former one with the others at the back, and the tally is the same

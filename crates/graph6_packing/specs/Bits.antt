@@ -3,7 +3,7 @@ use Prim.Native.Nat.{ℕ, zero, suc, ◌+◌, ◌*◌, ◌-◌, ◌/◌, ◌%◌
 use Rattle.std.proofs.Common.{add-one, arith, ◌∙◌, length-append}
 use Rattle.std.specs.Prelude.{◌≡◌, refl, Bool, true, false, cond, length, get_or, set, replicate, eqb}
 use Rattle.std.proofs.Math.Path.{sym, ap}
-use mathlib.Core.List.{List, [], ◌∷◌, ◌++◌, map, flat_map, map_append, map_map, append_assoc, append-nil}
+use mathlib.Core.List.{List, [], ◌∷◌, ◌++◌, map, flat_map, map-append, map-map, append_assoc, append-nil}
 use Rattle.std.proofs.Math.ListN.{length-map}
 use Rattle.model.specs.declared.Edge.{Edge}
 use Rattle.model.specs.Lists.{one, upto}
@@ -56,7 +56,7 @@ module _ (adj : List ℕ) (b : ℕ) where
 
   lower_more : (a : ℕ) → lower_bits (a + 1) ≡ lower_bits a ++ (one (linked adj a b) ∷ [])
   unfolding lower_bits upto
-  lower_more a = ap lower_bits (add-one a) ∙ map_append (λ x. one (linked adj x b)) (upto a) (a ∷ [])
+  lower_more a = ap lower_bits (add-one a) ∙ map-append (λ x. one (linked adj x b)) (upto a) (a ∷ [])
 
   lower_bits_lem : (a : ℕ) → All (λ x. x ≤ 1) (lower_bits a)
   unfolding lower_bits
@@ -82,8 +82,8 @@ module _ (adj : List ℕ) (b : ℕ) where
   bits_all =
       sym
       (ap (map joined) (pairs_next b)
-      ∙ map_append joined (pairs_by_higher b) (map to (upto b))
-      ∙ ap (λ (xs : List ℕ). map joined (pairs_by_higher b) ++ xs) (map_map joined to (upto b)))
+      ∙ map-append joined (pairs_by_higher b) (map to (upto b))
+      ∙ ap (λ (xs : List ℕ). map joined (pairs_by_higher b) ++ xs) (map-map joined to (upto b)))
     where
       joined : Edge → ℕ
       joined e = one (linked adj e.low e.high)

@@ -4,7 +4,7 @@ use Rattle.std.proofs.Math.Nat.{min-eq_left, max-eq_right}
 use Rattle.std.proofs.Common.{le_of_lt, add-one, arith, sym, ◌∙◌, length-append}
 use Rattle.std.proofs.Math.Path.{ap, ap₂}
 use Rattle.std.proofs.Math.Bool.{true, false, cond}
-use mathlib.Core.List.{List, [], ◌∷◌, ◌++◌, map, flat_map, map_append, append_assoc, append-nil}
+use mathlib.Core.List.{List, [], ◌∷◌, ◌++◌, map, flat_map, map-append, append_assoc, append-nil}
 use Rattle.std.proofs.lemmas.List.{length-map}
 use Rattle.model.specs.declared.Edge.{Edge}
 use Rattle.model.specs.Lists.{upto}
@@ -32,7 +32,7 @@ place_length {a} {b} h l =
 
 lower_more : (b a : ℕ) → lower b (a + 1) ≡ lower b a ++ (record { low = a; high = b } ∷ [])
 unfolding lower upto
-lower_more b a = ap (lower b) (add-one a) ∙ map_append (λ x. record { low = x; high = b }) (upto a) (a ∷ [])
+lower_more b a = ap (lower b) (add-one a) ∙ map-append (λ x. record { low = x; high = b }) (upto a) (a ∷ [])
 
 -- some pairs and one more
 module _ (bits : List ℕ) (es : List Edge) {a b : ℕ} (rises : a < b) (below : b < 64) where

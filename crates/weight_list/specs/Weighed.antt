@@ -4,8 +4,8 @@ use Rattle.std.proofs.Common.{mod-eq_of_lt, le_antisymm, le_of_eq, add-zero, add
 use Rattle.std.proofs.Math.Decide.{dec_lt}
 use Rattle.std.specs.Prelude.{◌≡◌, Bool, true, false, List, [], ◌∷◌, ◌++◌, map, length, get_or, set, ltb}
 use Rattle.std.proofs.Math.Path.{sym, ap, ap₂}
-use Rattle.std.proofs.lemmas.List.{map_append, length-map}
-use Rattle.std.proofs.lemmas.Simd.{map_map}
+use Rattle.std.proofs.lemmas.List.{map-append, length-map}
+use Rattle.std.proofs.lemmas.Simd.{map-map}
 use Rattle.model.specs.declared.Edge.{Edge}
 use Rattle.model.specs.Lists.{upto}
 use Rattle.model.specs.Crossings.{edge_weight}
@@ -29,7 +29,7 @@ weighed ws ends count = map (λ i. table_weight ws (get_or ends (2 * i) 0 % 64) 
 weighed_next : (ws ends : List ℕ) (i : ℕ)
     → weighed ws ends (suc i) ≡ weighed ws ends i ++ (table_weight ws (get_or ends (2 * i) 0 % 64) (get_or ends (2 * i + 1) 0 % 64) ∷ [])
 unfolding weighed upto
-weighed_next ws ends i = map_append (λ j. table_weight ws (get_or ends (2 * j) 0 % 64) (get_or ends (2 * j + 1) 0 % 64)) (upto i) (i ∷ [])
+weighed_next ws ends i = map-append (λ j. table_weight ws (get_or ends (2 * j) 0 % 64) (get_or ends (2 * j + 1) 0 % 64)) (upto i) (i ∷ [])
 
 -- the first i are written, from a place on
 pub record WeighedUpTo (ws ends start : List ℕ) (at count : ℕ) (bytes : List ℕ) (i : ℕ) : Type 0 where
@@ -95,7 +95,7 @@ module _ (n : ℕ) (adj : List ℕ) where
     all_weighed : (ws : List ℕ) → weighed ws ends (end / 2) ≡ map (edge_weight (table_weight ws)) (listed_edges n adj)
     unfolding weighed listed edge_at
     all_weighed ws =
-        sym (map_map wrapped (edge_at ends) (upto (end / 2)))
+        sym (map-map wrapped (edge_at ends) (upto (end / 2)))
         ∙ ap (map wrapped) (listed_bytes_lem (listed_edges n adj) all_put)
         ∙ map_ext wrapped (edge_weight (table_weight ws)) below (λ e w. ap₂ (table_weight ws) (mod-eq_of_lt w.0) (mod-eq_of_lt w.1))
       where
