@@ -244,6 +244,7 @@ def convert(crate, folder, data, say):
                 break
             post = re.sub(rf"(?<![\w.'-])(?<!let ){re.escape(hit[1])}(?![\w'-])(?! :)", hit[2] + hit[3] + hit[4], t[hit.end() :])
             t = t[: hit.start()] + post
+        t = re.sub(rf"not-(?:true|false) (?:_|{W}+(?:\.{W}+)*) ({W}+(?:\.{W}+)*\.(?:true|false|taken|left))(?![\w.])", r"\1", t)
         # lemmas over a place
         for h, q in helperplace.items():
             new = data["places_by_name"][q]

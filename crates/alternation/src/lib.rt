@@ -3,7 +3,7 @@
 
 ghost use Rattle.std.specs.Prelude.{◌≡◌, [], ◌∷◌, eqb};
 ghost use Rattle.model.specs.Lists.{no_repeats};
-ghost use Rattle.model.specs.Crossings.{between as betweenPlaces, alternate as alternatePlaces};
+ghost use Rattle.model.specs.Crossings.{between as between_places, alternate as alternate_places};
 
 // Are the four vertices all different?
 pub fn differ(a: usize, b: usize, c: usize, d: usize) -> bool
@@ -29,13 +29,13 @@ pub fn differ(a: usize, b: usize, c: usize, d: usize) -> bool
 
 // Of places r and s, does one lie between p and q, and the other not?
 pub fn alternate(p: u8, q: u8, r: u8, s: u8) -> bool
-    ensures { result ≡ alternatePlaces p q r s }
+    ensures { result ≡ alternate_places p q r s }
 {
     between(p, q, r) != between(p, q, s)
 }
 
 fn between(p: u8, q: u8, r: u8) -> bool
-    ensures { result ≡ betweenPlaces p q r }
+    ensures { result ≡ between_places p q r }
 {
     (p < r && r < q) || (q < r && r < p)
 }

@@ -2,8 +2,8 @@
 #![tactic(auto)]
 
 ghost use Rattle.std.specs.Prelude.{◌≡◌};
-ghost use Rattle.model.specs.Layouts.{carried as carriedCount};
-ghost use Rattle.laws.specs.Layouts.Recount.{carried_to, recounted as recountedLayout};
+ghost use Rattle.model.specs.Layouts.{carried as carried_count};
+ghost use Rattle.laws.specs.Layouts.Recount.{carried_to, recounted as recounted_layout};
 
 use counting::{count_crossings, crossings_of};
 use model::Layout;
@@ -11,7 +11,7 @@ use model::Layout;
 // The count plus the crossings after, less the crossings before, modulo 2^64, whatever count came
 // in.
 pub fn carried(count: u64, before: u64, after: u64) -> u64
-    ensures { result ≡ carriedCount count before after }
+    ensures { result ≡ carried_count count before after }
 {
     let raised = std::num::wrapping_add_u64(count, after);
     std::num::wrapping_sub_u64(raised, before)
@@ -46,7 +46,7 @@ pub fn recounted(
     adjacency: [u64; 64],
     weights: [u8; 4096],
 ) -> Layout
-    ensures { result ≡ recountedLayout l n order adjacency weights }
+    ensures { result ≡ recounted_layout l n order adjacency weights }
 {
     let after = count_crossings(n, &order, &weights);
     carried_to(l, n, order, adjacency, weights, after)

@@ -2,10 +2,10 @@
 // validity (document 01: whole) on the words but symmetry, which weights that fit bring along. For any
 // words at all.
 ghost use Rattle.std.specs.Prelude.{◌≡◌, ◌&&◌, ◌≤◌, leb};
-ghost use Rattle.model.specs.Layouts.{zero_from, loopless as looplessWords, bits_below};
+ghost use Rattle.model.specs.Layouts.{zero_from, loopless as loopless_words, bits_below};
 
 pub fn is_bounded(n: usize, adjacency: &[u64; 64]) -> bool
-    ensures { let a = adjacency.now in result ≡ (leb n 64 && looplessWords n a && bits_below n a && zero_from n a) }
+    ensures { let a = adjacency.now in result ≡ (leb n 64 && loopless_words n a && bits_below n a && zero_from n a) }
 {
     if 64 < n {
         return false;
@@ -52,7 +52,7 @@ fn bits_below(n: usize, adjacency: &[u64; 64]) -> bool
 // Is no vertex joined to itself?
 fn loopless(n: usize, adjacency: &[u64; 64]) -> bool
     requires { n ≤ 64 }
-    ensures { result ≡ looplessWords n adjacency.now }
+    ensures { result ≡ loopless_words n adjacency.now }
 {
     let mut v = 0;
     while v < n {

@@ -8,10 +8,10 @@
 ghost use Rattle.std.specs.Prelude.{◌≡◌, ◌+◌, ◌*◌, ◌<◌, ◌≤◌};
 ghost use Rattle.laws.specs.Tables.Rows.{most_weight, most_sum, RowsOf};
 ghost use Rattle.sift_walk.specs.Keeping.{kept_next, keeping};
-ghost use Rattle.sift_walk.specs.Seats.{turned as turnedPlace, other_at, Walker, Seated};
+ghost use Rattle.sift_walk.specs.Seats.{turned as turned_place, other_at, Walker, Seated};
 ghost use Rattle.sift_walk.specs.Reaching.{ReachesOf};
 ghost use Rattle.sift_walk.specs.Walks.{start, most_change, Exchanged, Passed, KeptRight};
-ghost use Rattle.sift_walk.specs.Finding.{Found, chosen as chosenWalk};
+ghost use Rattle.sift_walk.specs.Finding.{Found, chosen as chosen_walk};
 
 use places::{moved, place_of};
 use weights::{add_row, row_sum, row_weight, weight_at};
@@ -213,7 +213,7 @@ fn one_more(kept: Kept) -> Kept
 // The first best candidate, if it has fewer crossings than the present order.
 fn chosen(n: usize, p: usize, order: [u8; 64], kept: Kept) -> Walk
     requires { (p ≤ 64) × (kept.first ≤ 64) }
-    ensures { result ≡ chosenWalk n p order kept }
+    ensures { result ≡ chosen_walk n p order kept }
 {
     let least = kept.least;
     let optima = kept.optima;
@@ -244,7 +244,7 @@ fn other_at(n: usize, p: usize, order: &[u8; 64], j: usize) -> usize
 // The place of the vertex j behind the next one clockwise from place p.
 fn turned(n: usize, p: usize, j: usize) -> usize
     requires { (p ≤ 64) × (j ≤ 64) }
-    ensures { result ≡ turnedPlace n p j }
+    ensures { result ≡ turned_place n p j }
 {
     let q = p + 1 + j;
     if q < n { q } else { q - n }

@@ -2,13 +2,13 @@
 // save is enough.
 ghost use Rattle.std.specs.Prelude.{◌≡◌};
 ghost use Rattle.model.specs.Layouts.{carried};
-ghost use Rattle.sifting.specs.Layouts.{relaid as relaidLayout};
+ghost use Rattle.sifting.specs.Layouts.{relaid as relaid_layout};
 
 use model::Layout;
 
 // Another order, and the count lowered by what it saves.
 pub(crate) fn relaid(l: Layout, order: [u8; 64], saving: u64) -> Layout
-    ensures { result ≡ relaidLayout l order saving }
+    ensures { result ≡ relaid_layout l order saving }
 {
     let count = lowered(l.count, saving);
     let mut after = l;

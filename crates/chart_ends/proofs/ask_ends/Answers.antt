@@ -3,7 +3,6 @@ use Prim.Native.Nat.{◌+◌, ◌-◌}
 use native.Mathlib.Omega.{arith}
 use mathlib.Core.Path.{sym, ◌∙◌}
 use lib.ListN.{length}
-use borrow.Author.Tests.{not-true, not-false}
 use Rattle.chart_ends.specs.Edges.{EndsUpTo, ends_start, ends_next, ends_bad, ends_end, answer_odd, answer_outside, answer_within}
 use Rattle.chart_ends.proofs.ask_ends.Goals as goal
 
@@ -22,11 +21,11 @@ overflow_cast-links-in-loop-i c = omega (arith, c.shared_slice_known-in-loop-i-2
 pub returns-then-not-is_edge : goal.returns-then-not-is_edge
 returns-then-not-is_edge c =
     answer_outside _ _ c.if-links-ne0.false
-    (ends_bad c.loop-i.invariant c.loop-i-test.true (sym c.is_edge.ensures ∙ not-true c.is_edge.result c.if-not-is_edge.true))
+    (ends_bad c.loop-i.invariant c.loop-i-test.true (sym c.is_edge.ensures ∙ c.if-not-is_edge.true))
 
 pub loop-i-preserved : goal.loop-i-preserved
 loop-i-preserved c =
-    ends_next c.loop-i.invariant c.loop-i-test.true (sym c.is_edge.ensures ∙ not-false c.is_edge.result c.if-not-is_edge.false)
+    ends_next c.loop-i.invariant c.loop-i-test.true (sym c.is_edge.ensures ∙ c.if-not-is_edge.false)
 
 pub returns : goal.returns
 returns c = answer_within _ _ c.if-links-ne0.false (ends_end c.loop-i.invariant c.loop-i-test.false)
