@@ -10,7 +10,7 @@ use append_line::{Line, alone, put_back, put_front};
 use weights::{row_weights, sub_row};
 
 // The vertices placed so far, as a list and as bits, and the tally.
-#[derive(Drop)]
+#[derive(Clone, Copy)]
 pub struct Partial {
     pub line: Line,
     pub placed: u64,

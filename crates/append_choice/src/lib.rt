@@ -5,7 +5,7 @@ ghost use Rattle.std.specs.Prelude.{◌≡◌, cond, leb};
 ghost use Rattle.append_choice.specs.Choices.{preferred_of, considered_of, best_below};
 
 // A candidate, with its placed and its unplaced neighbours.
-#[derive(Drop)]
+#[derive(Clone, Copy)]
 pub struct Choice {
     pub vertex: usize,
     pub placed: u32,

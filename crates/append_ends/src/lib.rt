@@ -12,14 +12,14 @@ use append_line::Line;
 
 // A closing edge crosses an open one: at the front where the open one starts before the other, and at
 // the back where it starts behind.
-#[derive(Drop)]
+#[derive(Clone, Copy)]
 pub struct Ends {
     pub front: u64,
     pub back: u64,
 }
 
 // The same, with the weight of the closing and of the open edges met so far.
-#[derive(Drop)]
+#[derive(Clone, Copy)]
 struct Met {
     front: u64,
     back: u64,

@@ -8,7 +8,7 @@ ghost use Rattle.model.specs.Crossings.{bit};
 ghost use Rattle.append_line.specs.Lines.{alone_at, at_front, at_back, rest_of, written_over};
 
 // The size places from first on are taken.
-#[derive(Drop)]
+#[derive(Clone, Copy)]
 pub struct Line {
     pub places: [u8; 128],
     pub first: usize,

@@ -10,7 +10,7 @@ ghost use Rattle.chords.specs.Chords.{ChordsOf, RowOf, NextChord};
 
 // A chord: the weight of the edges that it crosses, and that of all edges from between its places or
 // from its end to beyond them.
-#[derive(Drop)]
+#[derive(Clone, Copy)]
 struct Chord {
     crossed: u32,
     outgoing: u32,

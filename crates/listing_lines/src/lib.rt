@@ -12,7 +12,7 @@ use decimals::{put_bytes, put_line};
 use text::{lacks, put_text};
 
 // The numbers of a listing, one to a line.
-#[derive(Drop)]
+#[derive(Clone, Copy)]
 pub struct Numbers {
     pub vertices: u64,
     pub edges: u64,

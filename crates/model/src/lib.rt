@@ -7,7 +7,7 @@
 // when v and i are joined by an edge (a link). The weight of u towards v stands at 64 * u + v of
 // weights, 0 where there is no edge (document 02, Note 8). count is the carried count.
 #[repr(C)]
-#[derive(Drop)]
+#[derive(Clone, Copy)]
 pub struct Layout {
     pub n: usize,
     pub order: [u8; 64],
@@ -18,7 +18,7 @@ pub struct Layout {
 
 // An edge (a link), the lower end first.
 #[repr(C)]
-#[derive(Drop)]
+#[derive(Clone, Copy)]
 pub struct Edge {
     pub low: usize,
     pub high: usize,
@@ -29,14 +29,14 @@ pub struct Edge {
 // every bool false.
 
 // Adding or removing an edge, moving a vertex (link, unlink, move).
-#[derive(Drop)]
+#[derive(Clone, Copy)]
 pub struct Changed {
     pub refusal: u8,
     pub layout: Layout,
 }
 
 // Adding a vertex (add): its number.
-#[derive(Drop)]
+#[derive(Clone, Copy)]
 pub struct Added {
     pub refusal: u8,
     pub layout: Layout,
@@ -44,7 +44,7 @@ pub struct Added {
 }
 
 // Greedy append (lay): the tally of crossings at the ends taken.
-#[derive(Drop)]
+#[derive(Clone, Copy)]
 pub struct Appended {
     pub refusal: u8,
     pub layout: Layout,
@@ -53,7 +53,7 @@ pub struct Appended {
 
 // Sifting one vertex (sift): the reduction (saving), crossings before less crossings after; and how
 // many of its candidate places have the least crossings.
-#[derive(Drop)]
+#[derive(Clone, Copy)]
 pub struct Sifted {
     pub refusal: u8,
     pub layout: Layout,
@@ -62,7 +62,7 @@ pub struct Sifted {
 }
 
 // A sifting round (round): the summed reduction, how many vertices moved, and the summed optima.
-#[derive(Drop)]
+#[derive(Clone, Copy)]
 pub struct Rounded {
     pub refusal: u8,
     pub layout: Layout,
@@ -73,7 +73,7 @@ pub struct Rounded {
 
 // Sifting rounds until a local minimum or the limit (settle): the summed reduction, the rounds run,
 // whether the last of them moved no vertex (settled), and the summed optima of all of them.
-#[derive(Drop)]
+#[derive(Clone, Copy)]
 pub struct Converged {
     pub refusal: u8,
     pub layout: Layout,
@@ -85,14 +85,14 @@ pub struct Converged {
 
 // The carried count.
 #[repr(C)]
-#[derive(Drop)]
+#[derive(Clone, Copy)]
 pub struct Counted {
     pub refusal: u8,
     pub count: u64,
 }
 
 // The search for a crossing pair of edges (the shown crossing pair).
-#[derive(Drop)]
+#[derive(Clone, Copy)]
 pub enum FirstCrossing {
     Pair(Edge, Edge),
     Nothing,
@@ -100,7 +100,7 @@ pub enum FirstCrossing {
 }
 
 // A layout read from bytes, a chart or a graph in graph6: the empty one where they are refused.
-#[derive(Drop)]
+#[derive(Clone, Copy)]
 pub struct LayoutRead {
     pub refusal: u8,
     pub layout: Layout,
@@ -108,7 +108,7 @@ pub struct LayoutRead {
 
 // A layout written into a lent buffer, as a chart or in graph6: how many bytes that is, 0 where it is refused.
 #[repr(C)]
-#[derive(Drop)]
+#[derive(Clone, Copy)]
 pub struct LayoutWritten {
     pub refusal: u8,
     pub length: usize,
@@ -116,7 +116,7 @@ pub struct LayoutWritten {
 
 // The crossings of every edge, in a lent table: how many edges there are, 0 where it is refused.
 #[repr(C)]
-#[derive(Drop)]
+#[derive(Clone, Copy)]
 pub struct EdgesCounted {
     pub refusal: u8,
     pub edges: usize,
@@ -125,7 +125,7 @@ pub struct EdgesCounted {
 // The least crossings that any order of at most eight vertices has, 0 where it is refused. The order that
 // has them is in a lent buffer.
 #[repr(C)]
-#[derive(Drop)]
+#[derive(Clone, Copy)]
 pub struct LeastFound {
     pub refusal: u8,
     pub crossings: u64,
@@ -135,7 +135,7 @@ pub struct LeastFound {
 // case which number and values of document 01 it stands for.
 
 // A pass that only asks: questions 1 and 2, 3, 5 and 6, 7, 8, and 24 and 25; of graph6 21 and 22.
-#[derive(Drop)]
+#[derive(Clone, Copy)]
 pub enum Asked {
     Passed,
     Refused(u8),
@@ -143,21 +143,21 @@ pub enum Asked {
 
 // A field at the start of the bytes that are left: its tag and the length of its body. Nothing where
 // no header and body stand there whole; questions 2 and 3 say what that means.
-#[derive(Drop)]
+#[derive(Clone, Copy)]
 pub enum FieldFound {
     Field(u8, usize),
     Nothing,
 }
 
 // Question 4, and 20 of graph6: the number of vertices.
-#[derive(Drop)]
+#[derive(Clone, Copy)]
 pub enum SizeFound {
     Found(usize),
     Refused(u8),
 }
 
 // A call that changes a layout, with what it names: any numbers at all.
-#[derive(Drop)]
+#[derive(Clone, Copy)]
 pub enum Call {
     AddVertex,
     AddEdge(usize, usize, u8),
@@ -171,7 +171,7 @@ pub enum Call {
 
 // What any of these calls answers: the refusal code, the layout, and the further numbers of its answer in their sequence, 0 where it has fewer;
 // a bool counts as 0 or 1.
-#[derive(Drop)]
+#[derive(Clone, Copy)]
 pub struct Outcome {
     pub refusal: u8,
     pub layout: Layout,
@@ -188,14 +188,14 @@ pub const ANSWER_WIDTH: usize = 5;
 pub const CALL_WIDTH: usize = 4;
 
 // A call read from its numbers, or the end of the list.
-#[derive(Drop)]
+#[derive(Clone, Copy)]
 pub enum Decoded {
     Next(Call),
     End,
 }
 
 // Where a list of calls starts: from the empty layout, from a chart, or from a graph in graph6.
-#[derive(Drop)]
+#[derive(Clone, Copy)]
 pub enum Origin {
     Empty,
     Chart,
@@ -204,7 +204,7 @@ pub enum Origin {
 
 // A list of calls played: the refusal code, the layout at the end, and how many calls were played.
 #[repr(C)]
-#[derive(Drop)]
+#[derive(Clone, Copy)]
 pub struct Played {
     pub refusal: u8,
     pub layout: Layout,
@@ -214,21 +214,21 @@ pub struct Played {
 // What a call on a lent layout returns: its answer without the layout. A call that answers nothing further returns its refusal code alone.
 
 #[repr(C)]
-#[derive(Drop)]
+#[derive(Clone, Copy)]
 pub struct AddReport {
     pub refusal: u8,
     pub vertex: usize,
 }
 
 #[repr(C)]
-#[derive(Drop)]
+#[derive(Clone, Copy)]
 pub struct AppendReport {
     pub refusal: u8,
     pub tally: u64,
 }
 
 #[repr(C)]
-#[derive(Drop)]
+#[derive(Clone, Copy)]
 pub struct SiftReport {
     pub refusal: u8,
     pub reduction: u64,
@@ -236,7 +236,7 @@ pub struct SiftReport {
 }
 
 #[repr(C)]
-#[derive(Drop)]
+#[derive(Clone, Copy)]
 pub struct RoundReport {
     pub refusal: u8,
     pub reduction: u64,
@@ -245,7 +245,7 @@ pub struct RoundReport {
 }
 
 #[repr(C)]
-#[derive(Drop)]
+#[derive(Clone, Copy)]
 pub struct ConvergeReport {
     pub refusal: u8,
     pub reduction: u64,
@@ -256,7 +256,7 @@ pub struct ConvergeReport {
 
 // found says that two edges cross, and first and second are then the pair. Neither refused nor found: no two edges cross.
 #[repr(C)]
-#[derive(Drop)]
+#[derive(Clone, Copy)]
 pub struct CrossingReport {
     pub refusal: u8,
     pub found: bool,

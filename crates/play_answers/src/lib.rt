@@ -10,7 +10,7 @@ use text::put_text;
 
 // What a record did: the layout that now stands, how many bytes of the line are written, and whether
 // the list ends here.
-#[derive(Drop)]
+#[derive(Clone, Copy)]
 pub struct Played {
     pub layout: Layout,
     pub written: usize,

@@ -40,7 +40,7 @@ fn order_into(l: Layout, line: &mut [u8], buffer: &mut [u8]) -> Played
 }
 
 // What a layout is written as.
-#[derive(Drop)]
+#[derive(Clone, Copy)]
 pub enum Format {
     Chart,
     Graph6,

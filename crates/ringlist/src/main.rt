@@ -9,7 +9,7 @@ ghost use Rattle.ringlist.specs.Input.{Within};
 use libc::{STDERR_FILENO, STDIN_FILENO, STDOUT_FILENO};
 
 // The input, read to its end or as far as the buffer goes; or a read that failed.
-#[derive(Drop)]
+#[derive(Clone, Copy)]
 enum Input {
     Read(usize),
     Failed,

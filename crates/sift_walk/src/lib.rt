@@ -21,7 +21,7 @@ use weights::{add_row, row_sum, row_weight, weight_at};
 const START: u64 = 1099511627776;
 
 // The order after a sift, by how much its crossings are fewer, and how many candidates have as few.
-#[derive(Drop)]
+#[derive(Clone, Copy)]
 pub struct Walk {
     pub order: [u8; 64],
     pub saving: u64,
@@ -30,7 +30,7 @@ pub struct Walk {
 
 // What is kept of the candidates so far: their least number, the first that has it, and how many have
 // it.
-#[derive(Drop)]
+#[derive(Clone, Copy)]
 struct Kept {
     least: u64,
     first: usize,
@@ -39,7 +39,7 @@ struct Kept {
 
 // How far the walk is: the number of the present candidate, the weight of the vertex on those passed,
 // and what is kept.
-#[derive(Drop)]
+#[derive(Clone, Copy)]
 struct Step {
     number: u64,
     met: u32,

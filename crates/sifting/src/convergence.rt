@@ -15,7 +15,7 @@ use validity::limit_refusal;
 use weights::row_weights;
 
 // What rounds one after the other have led to.
-#[derive(Drop)]
+#[derive(Clone, Copy)]
 struct Settled {
     order: [u8; 64],
     reduction: u64,

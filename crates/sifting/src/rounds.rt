@@ -17,7 +17,7 @@ use weights::row_weights;
 
 // What sifts one after the other have led to: the order, by how much its crossings are fewer than
 // before them, how many vertices moved, and the summed optima.
-#[derive(Drop)]
+#[derive(Clone, Copy)]
 pub(crate) struct Swept {
     pub(crate) order: [u8; 64],
     pub(crate) reduction: u64,

@@ -17,7 +17,7 @@ use weights::{row_weights, sub_row};
 
 // The vertices placed so far, the crossings that they have met, and for each vertex the weight of its edges
 // to those that are not placed.
-#[derive(Drop)]
+#[derive(Clone, Copy)]
 pub struct Branch {
     pub prefix: Prefix,
     pub met: u64,
@@ -25,7 +25,7 @@ pub struct Branch {
 }
 
 // The least crossings so far, and the first order that has them.
-#[derive(Drop)]
+#[derive(Clone, Copy)]
 pub struct Found {
     pub least: u64,
     pub order: [u8; 8],

@@ -1,0 +1,22 @@
+use Prim.Native.Nat.{◌+◌, ◌≤◌}
+use native.Mathlib.Omega.{arith}
+use lib.ListN.{length}
+use Rattle.text.specs.Room.{put_full, put_fits, no_room, has_room_lem}
+use borrow.Author.Rules.{rules}
+use Rattle.decimals.proofs.put_line.Goals as goal
+use Rattle.decimals.proofs.put_line.Goals.{Else-lacks}
+
+-- there is room
+room : (c : Else-lacks) → let s = c.args in s.at + (length s.name.now + 22) ≤ length s.out.now
+room c = has_room_lem c.lacks.ensures c.if-lacks.false
+
+pub returns-then-lacks : goal.returns-then-lacks
+returns-then-lacks c = put_full _ (no_room c.lacks.ensures c.if-lacks.true)
+
+pub named_line-requires : goal.named_line-requires
+named_line-requires c = omega (arith, room (goal.at.named_line-requires c).Else-lacks)
+
+pub returns : goal.returns
+returns c =
+    let line = c.named_line.ensures in
+    put_fits (room (goal.at.returns c).Else-lacks) (omega (arith, line.0.place, line.1)) line.0

@@ -1,0 +1,19 @@
+use borrow.Author.Rules.{rules}
+use Prim.Native.Nat.{ℕ, ◌-◌}
+use native.Mathlib.Omega.{arith}
+use mathlib.Core.Path.{ap}
+use mathlib.Core.Bool.{Bool, not}
+use mathlib.Core.List.{List}
+use Rattle.laws.specs.Sums.Below.{PassedBelow, below_start, below_next, below_all, below_fails}
+use Rattle.model.specs.Layouts.{loopless}
+use Rattle.model.specs.Crossings.{linked}
+use Rattle.graphs.proofs.rows.loopless.Given as goal
+
+abbrev pub passes : List ℕ → ℕ → Bool
+passes adj v = not (linked adj v v)
+
+abbrev pub invariant-loop-v : goal.invariant-loop-v
+invariant-loop-v l = PassedBelow (passes l.adjacency) l.n l.v
+
+abbrev pub decreases-loop-v : goal.decreases-loop-v
+decreases-loop-v l = l.n - l.v

@@ -1,0 +1,7 @@
+use borrow.Author.Rules.{rules}
+use Rattle.laws.specs.Tables.Rows.{table_weight}
+use Rattle.weights.proofs.entry.Goals as goal
+
+pub returns : goal.returns
+unfolding table_weight
+returns c = record { is = c.wide.ensures.is; small = c.wide.ensures.small }

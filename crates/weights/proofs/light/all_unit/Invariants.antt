@@ -1,0 +1,14 @@
+use borrow.Author.Rules.{rules}
+use Prim.Native.Nat.{◌-◌}
+use native.Mathlib.Omega.{arith}
+use lib.Dec.{leb}
+use lib.ListN.{get_or}
+use Rattle.laws.specs.Sums.Below.{ToldBelow, told_start, told_next, told_end}
+use Rattle.laws.specs.Layouts.Units.{none_above_one}
+use Rattle.weights.proofs.light.all_unit.Given as goal
+
+abbrev pub invariant-loop-i : goal.invariant-loop-i
+invariant-loop-i l = ToldBelow (λ k. leb (get_or l.weights k 0) 1) 4096 (leb l.most 1) l.i
+
+abbrev pub decreases-loop-i : goal.decreases-loop-i
+decreases-loop-i l = 4096 - l.i

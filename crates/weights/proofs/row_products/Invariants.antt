@@ -1,0 +1,13 @@
+use borrow.Author.Rules.{rules}
+use Prim.Native.Nat.{ℕ, ◌*◌, ◌-◌, ◌%◌}
+use native.Mathlib.Omega.{arith}
+use mathlib.Core.Path.{ap, ◌∙◌}
+use lib.ListN.{get_or}
+use Rattle.laws.specs.Tables.Rows.{table_weight, row_sum, SummedUpTo, summed_start, summed_next, summed_end}
+use Rattle.weights.proofs.row_products.Given as goal
+
+abbrev pub invariant-loop-i : goal.invariant-loop-i
+invariant-loop-i l = SummedUpTo (λ y. table_weight l.weights l.v y * (get_or l.numbers y 0 % 32768)) 8355585 l.total l.i
+
+abbrev pub decreases-loop-i : goal.decreases-loop-i
+decreases-loop-i l = 64 - l.i

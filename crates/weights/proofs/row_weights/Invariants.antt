@@ -1,0 +1,12 @@
+use borrow.Author.Rules.{rules}
+use Prim.Native.Nat.{◌-◌}
+use native.Mathlib.Omega.{arith}
+use Rattle.laws.specs.Sums.Loops.{FilledUpTo, filled_start, filled_next}
+use Rattle.laws.specs.Tables.Rows.{row_weight}
+use Rattle.weights.proofs.row_weights.Given as goal
+
+abbrev pub invariant-loop-v : goal.invariant-loop-v
+invariant-loop-v l = FilledUpTo (λ x. row_weight l.weights x) 64 l.rows l.v
+
+abbrev pub decreases-loop-v : goal.decreases-loop-v
+decreases-loop-v l = 64 - l.v

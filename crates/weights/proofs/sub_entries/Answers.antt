@@ -1,0 +1,18 @@
+use borrow.Author.Rules.{rules}
+use Prim.Native.Nat.{◌-◌}
+use native.Mathlib.Omega.{arith}
+use mathlib.Core.Path.{◌≡◌}
+use lib.ListN.{length}
+use Rattle.laws.specs.Tables.Rows.{ChangingUpTo, taken_from, changing_start, changing_next, taken_end}
+use Rattle.weights.proofs.sub_entries.Goals as goal
+
+pub loop-y-init : goal.loop-y-init
+loop-y-init c e = changing_start e
+
+pub loop-y-preserved : goal.loop-y-preserved
+loop-y-preserved c e =
+    changing_next (c.loop-y.invariant e) c.loop-y-test.true c.entry-w.ensures.is c.entry-w.ensures.small
+    c.lessened.ensures.0 c.lessened.ensures.1
+
+pub returns : goal.returns
+returns c e = taken_end (c.loop-y.invariant e) c.loop-y-test.false

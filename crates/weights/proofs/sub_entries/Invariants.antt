@@ -1,0 +1,13 @@
+use borrow.Author.Rules.{rules}
+use Prim.Native.Nat.{◌-◌}
+use native.Mathlib.Omega.{arith}
+use mathlib.Core.Path.{◌≡◌}
+use lib.ListN.{length}
+use Rattle.laws.specs.Tables.Rows.{ChangingUpTo, taken_from, changing_start, changing_next, taken_end}
+use Rattle.weights.proofs.sub_entries.Given as goal
+
+abbrev pub invariant-loop-y : goal.invariant-loop-y
+invariant-loop-y l = length l.initial.numbers ≡ 64 → ChangingUpTo taken_from l.weights l.v l.initial.numbers l.numbers l.y
+
+abbrev pub decreases-loop-y : goal.decreases-loop-y
+decreases-loop-y l = 64 - l.y

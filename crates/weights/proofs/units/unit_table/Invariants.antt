@@ -1,0 +1,15 @@
+use borrow.Author.Rules.{rules}
+use Prim.Native.Nat.{◌-◌, ◌/◌, ◌%◌}
+use native.Mathlib.Omega.{arith}
+use mathlib.Core.Path.{refl}
+use lib.ListN.{get_or}
+use Rattle.model.specs.Crossings.{bit}
+use Rattle.laws.specs.Sums.Loops.{FilledUpTo, filled_start, filled_next, filled_end}
+use Rattle.weights.specs.Units.{unit_table}
+use Rattle.weights.proofs.units.unit_table.Given as goal
+
+abbrev pub invariant-loop-i : goal.invariant-loop-i
+invariant-loop-i l = FilledUpTo (λ k. bit (get_or l.adjacency (k / 64) 0) (k % 64)) 4096 l.weights l.i
+
+abbrev pub decreases-loop-i : goal.decreases-loop-i
+decreases-loop-i l = 4096 - l.i
