@@ -58,6 +58,13 @@ class Fn:
         for i in self.chain(place) + self.chain(root):
             step = self.d["places"][i][2]
             if same(step[0]) == same(first):
+                names = self.d["params"].get(self.d["places"][i][3])
+                if rest and rest[0] == "new" and names:
+                    k = 1
+                    while k < len(rest) and rest[k] == "1":
+                        k += 1
+                    if k < len(rest) and rest[k] == "0" and k - 1 < len(names):
+                        rest = ["new", names[k - 1]] + rest[k + 1 :]
                 arm = self.d["arms"][i]
                 if arm:
                     for new, old, path in sorted(arm[2], key=lambda a: -len(a[2])):
@@ -245,6 +252,11 @@ def convert(crate, folder, data, say):
             post = re.sub(rf"(?<![\w.'-])(?<!let ){re.escape(hit[1])}(?![\w'-])(?! :)", hit[2] + hit[3] + hit[4], t[hit.end() :])
             t = t[: hit.start()] + post
         t = re.sub(rf"not-(?:true|false) (?:_|{W}+(?:\.{W}+)*) ({W}+(?:\.{W}+)*\.(?:true|false|taken|left))(?![\w.])", r"\1", t)
+        # what a test of '!r' says is said of r now
+        path_ = rf"{W}+(?:\.{W}+)+"
+        t = re.sub(rf"(?<![(\w])test_(?:held|failed) (?:\{{[^{{}}]*\}} )?({path_}) ({path_})(?=[,)\n])", r"sym \1 ∙ \2", t)
+        t = re.sub(rf"test_(?:held|failed) (?:\{{[^{{}}]*\}} )?({path_}) ({path_})", r"sym \1 ∙ \2", t)
+        t = re.sub(rf"test_(?:held|failed) (?:\{{[^{{}}]*\}} )?refl ({path_})", r"\1", t)
         # lemmas over a place
         for h, q in helperplace.items():
             new = data["places_by_name"][q]
@@ -382,8 +394,10 @@ def convert(crate, folder, data, say):
             pats = m[1].split()
             env = {pats[0]: place} if pats else {}
             t = flatten(m[2], env, g, place)
-            if t.strip() in TRIVIAL:
+            if t.strip() in TRIVIAL and not unf:
                 continue
+            if "in_default-own" in t:
+                t = " grind (arith, nat_tests)"
             res.append((k, "\n".join(comment + [f"pub {g} : goal.{g}"] + unf + [f"{g}{heads} ={t}"])))
         elif a.startswith("("):
             m = re.match(rf"\(λ ({W}+)((?: {W}+)*)\.\s*(.*)\)$", a, re.S)
@@ -423,6 +437,14 @@ def convert(crate, folder, data, say):
         if mine:
             lines.append(f"use {mod}.Invariants.{{{', '.join(mine)}}}")
         with open(os.path.join(folder, "Answers.antt"), "w", encoding="utf-8") as f:
+            if "nat_tests" in text:
+                lines.append("use Rattle.std.proofs.Common.{arith}")
+                lines.append("use Rattle.std.proofs.lemmas.Bool.Decides.{nat_tests}")
+                lines = [l for l in lines if not re.search(r"native.Mathlib.Omega.\{arith\}", l)]
+            if "sym " in text and not re.search(r"[{ ,]sym[,}]", "\n".join(lines)):
+                lines.append("use Rattle.std.proofs.Common.{sym}")
+            if "∙" in text and "◌∙◌" not in "\n".join(lines):
+                lines.append("use Rattle.std.proofs.Common.{◌∙◌}")
             lines.append(f"use {mod}.Goals as goal")
             if used_places:
                 lines.append(f"use {mod}.Goals.{{{', '.join(sorted(used_places))}}}")

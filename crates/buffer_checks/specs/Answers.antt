@@ -29,7 +29,7 @@ module _ {f : Format} {l : Layout} {buffer : List ℕ} {own long code : ℕ} (a 
   behind_eleven : T (valid l)
       → cond (eqb own 0) (cond (leb long (length buffer)) 0 f.short) own
       ≡ refusal (f.checks l ++ (room_for f.short (f.entries l) buffer ∷ []))
-  behind_eleven t = rw (a.measured t) (by_code own (a.own-is t))
+  behind_eleven t = rw (a.measured t) (by_code own (a.own_is t))
     where
       by_code : (k : ℕ) → k ≡ refusal (f.checks l)
           → cond (eqb k 0) (cond (leb (length (f.entries l)) (length buffer)) 0 f.short) k

@@ -106,7 +106,7 @@ module _ {n : ℕ} {adj : List ℕ} (symmetry : Symmetric n (unit_weight adj)) {
   unfolding best_of
   best_seen h none = refl
   best_seen {b} h (also {x} {xs = vs} k ks) =
-      ap (λ (t : Bool). best_of n adj xs (cond t x b) vs) (preferred_seen k h) ∙ best_seen (by_test (preferred n adj (keep q xs) x b)) ks
+      ap (λ (t : Bool). best_of n adj xs (cond t x b) vs) (preferred_seen k h) ∙ best_seen {b = cond (preferred n adj (keep q xs) x b) x b} (by_test (preferred n adj (keep q xs) x b)) ks
     where
       by_test : (t : Bool) → cond t x b < n
       by_test true = k

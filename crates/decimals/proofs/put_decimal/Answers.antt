@@ -7,8 +7,8 @@ use Rattle.decimals.proofs.put_decimal.Goals as goal
 use Rattle.decimals.proofs.put_decimal.Goals.{After-decimal-count}
 
 -- the digits made
-made : (c : After-decimal-count) → take c.decimal-count.result c.decimal-count.new.1.0 ≡ decimal c.args.x
-made c = c.decimal-count.ensures.1.1 ∙ digits_decimal _ _ c.decimal-count.ensures.1.0
+made : (c : After-decimal-count) → take c.decimal-count.result c.decimal-count.new.out ≡ decimal c.args.x
+made c = c.decimal-count.ensures.digits ∙ digits_decimal _ _ c.decimal-count.ensures.len
 
 pub returns : goal.returns
 returns c =

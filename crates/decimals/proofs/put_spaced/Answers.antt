@@ -5,6 +5,10 @@ use Rattle.model.specs.Listing.{text, spaced}
 use Rattle.text.specs.Parts.{behind}
 use Rattle.decimals.proofs.put_spaced.Goals as goal
 
+pub put_decimal-requires : goal.put_decimal-requires
+unfolding spaced text upto
+put_decimal-requires c = omega arith
+
 pub returns : goal.returns
 unfolding spaced text upto
 returns c =

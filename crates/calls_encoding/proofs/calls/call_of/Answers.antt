@@ -1,6 +1,8 @@
 use borrow.Author.Rules.{rules}
 use borrow.Author.Tests.{ne_eqb}
 use Rattle.model.specs.Playing.{call_of}
+use Rattle.std.proofs.Common.{arith}
+use Rattle.std.proofs.lemmas.Bool.Decides.{nat_tests}
 use Rattle.calls_encoding.proofs.calls.call_of.Goals as goal
 
 pub returns-in-16 : goal.returns-in-16
@@ -37,15 +39,4 @@ returns-in-23 c = rw c.in-23.is
 
 pub returns-in_default : goal.returns-in_default
 unfolding call_of
-returns-in_default c =
-    let op = c.args.op in
-    rw (
-      ne_eqb op 16 c.in_default-own.rest.0.0.0.0.0.0.0.1,
-      ne_eqb op 17 c.in_default-own.rest.0.0.0.0.0.0.1,
-      ne_eqb op 18 c.in_default-own.rest.0.0.0.0.0.1,
-      ne_eqb op 19 c.in_default-own.rest.0.0.0.0.1,
-      ne_eqb op 20 c.in_default-own.rest.0.0.0.1,
-      ne_eqb op 21 c.in_default-own.rest.0.0.1,
-      ne_eqb op 22 c.in_default-own.rest.0.1,
-      ne_eqb op 23 c.in_default-own.rest.1,
-    )
+returns-in_default c = grind (arith, nat_tests)

@@ -1,6 +1,8 @@
 use mathlib.Core.Path.{refl}
 use borrow.Author.Tests.{ne_eqb}
 use Rattle.model.specs.Playing.{origin_of}
+use Rattle.std.proofs.Common.{arith}
+use Rattle.std.proofs.lemmas.Bool.Decides.{nat_tests}
 use Rattle.calls_encoding.proofs.origins.origin_of.Goals as goal
 
 pub returns-in-1 : goal.returns-in-1
@@ -13,6 +15,4 @@ returns-in-2 c = rw c.in-2.is refl
 
 pub returns-in_default : goal.returns-in_default
 unfolding origin_of
-returns-in_default c =
-    let number = c.args.number in
-    rw (ne_eqb number 1 c.in_default-own.rest.0.1, ne_eqb number 2 c.in_default-own.rest.1)
+returns-in_default c = grind (arith, nat_tests)

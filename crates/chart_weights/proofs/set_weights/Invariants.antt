@@ -1,0 +1,13 @@
+use borrow.Author.Rules.{rules}
+use Prim.Native.Nat.{◌+◌, ◌*◌, ◌-◌, ◌<◌}
+use native.Mathlib.Omega.{arith}
+use mathlib.Core.Path.{◌∙◌}
+use lib.ListN.{length}
+use Rattle.chart_weights.specs.Listed.{weights_in, listed_inside, weight_is, SetUpTo, set_start, set_inside, set_next, set_end}
+use Rattle.chart_weights.proofs.set_weights.Given as goal
+
+abbrev pub invariant-loop-i : goal.invariant-loop-i
+invariant-loop-i l = SetUpTo l.initial.table l.links (weights_in l.listed l.links l.body) l.table l.i
+
+abbrev pub decreases-loop-i : goal.decreases-loop-i
+decreases-loop-i l = l.count - l.i

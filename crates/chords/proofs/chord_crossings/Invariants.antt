@@ -1,0 +1,9 @@
+use Rattle.std.proofs.Common.{◌-◌, sym, arith, rules}
+use Rattle.chords.specs.Chords.{ChordsUpTo, rows_start, rows_next, rows_end}
+use Rattle.chords.proofs.chord_crossings.Given as goal
+
+abbrev pub invariant-loop-i : goal.invariant-loop-i
+invariant-loop-i l = ChordsUpTo l.n l.order l.weights l.chords l.i
+
+abbrev pub decreases-loop-i : goal.decreases-loop-i
+decreases-loop-i l = l.n - l.i

@@ -1,0 +1,49 @@
+use borrow.Author.Rules.{rules}
+use Prim.Native.Nat.{◌+◌, ◌-◌, ◌≤◌}
+use native.Mathlib.Omega.{arith}
+use mathlib.Core.Logic.{⊎_elim}
+use mathlib.Core.Path.{◌≡◌}
+use lib.ListN.{length, length-set}
+use Rattle.edge_list.specs.Rows.{RowPut, row_start, row_size, row_skip, row_room, row_put, row_end}
+use Rattle.edge_list.proofs.put_row.Goals as goal
+use Rattle.edge_list.proofs.put_row.Goals.{Then-is_set}
+
+-- there is room for an edge
+room : (c : Then-is_set) → let s = c.loop-b in s.to + 2 ≤ length s.out
+room c =
+    row_room c.loop-b.invariant c.loop-b-test.true c.is_set.ensures c.if-is_set.true
+
+size : (c : Then-is_set)
+    → length c.loop-b.out ≡ length c.args.out.now
+size c = row_size c.loop-b.invariant
+
+pub loop-b-init : goal.loop-b-init
+loop-b-init c = let given = c.requires in row_start given.0 given.1 given.2
+
+pub bounds-out-to : goal.bounds-out-to
+bounds-out-to c = omega (arith, room c)
+
+pub overflow_add-out : goal.overflow_add-out
+overflow_add-out c = omega (arith, room c, size c)
+
+pub bounds-out-to-then-is_set : goal.bounds-out-to-then-is_set
+bounds-out-to-then-is_set c = simp length-set (omega (arith, room c))
+
+pub overflow_add-to : goal.overflow_add-to
+overflow_add-to c = omega (arith, room c, size c)
+
+pub loop-b-preserved : goal.loop-b-preserved
+loop-b-preserved c =
+    let inv = c.loop-b.invariant in
+    let more = c.loop-b-test.true in
+    let test = c.is_set.ensures in
+    ⊎_elim
+    (λ w. rw (w.1, w.2) (row_put inv more test w.0.taken))
+    (λ w. rw (w.1, w.2) (row_skip inv more test w.0.left))
+    c.if-is_set.branch
+
+pub shape_of-out : goal.shape_of-out
+shape_of-out c = row_size c.loop-b.invariant
+
+pub returns : goal.returns
+returns c = row_end c.loop-b.invariant c.loop-b-test.false

@@ -1,0 +1,10 @@
+use Prim.Native.Nat.{◌-◌}
+use native.Mathlib.Omega.{arith}
+use Rattle.edge_list.specs.Rows.{RowsPut, rows_start, rows_size, rows_room, rows_next, rows_end}
+use Rattle.edge_list.proofs.put_rows.Given as goal
+
+abbrev pub invariant-loop-a : goal.invariant-loop-a
+invariant-loop-a l = RowsPut l.n l.adjacency l.initial.out l.at l.out l.to l.a
+
+abbrev pub decreases-loop-a : goal.decreases-loop-a
+decreases-loop-a l = l.n - l.a

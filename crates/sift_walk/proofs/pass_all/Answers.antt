@@ -1,0 +1,19 @@
+use borrow.Author.Rules.{rules}
+use Prim.Native.Nat.{◌-◌}
+use native.Mathlib.Omega.{arith}
+use Rattle.sift_walk.specs.Walks.{WalkUpTo, walking_start, walking_next, walking_end}
+use Rattle.sift_walk.proofs.pass_all.Goals as goal
+
+pub loop-j-init : goal.loop-j-init
+loop-j-init c = walking_start
+
+pub loop-j-preserved : goal.loop-j-preserved
+loop-j-preserved c =
+    let asked = c.requires in
+    let v = c.other_at-v.ensures in
+    walking_next c.loop-j.invariant asked.0 asked.2 v.1 c.row_weight-whole.ensures.is c.before.before.before.before.before.before.before.before.Reaches-of.ensures
+    (omega (arith, c.loop-j-test.true)) v.0 c.passing-step.ensures c.add_row.ensures
+
+pub returns : goal.returns
+returns c =
+    walking_end c.loop-j.invariant c.requires.0 (omega (arith, c.loop-j-test.false))
