@@ -18,6 +18,7 @@ TRIVIAL = {"search rules", "omega arith", "search (rules)", "(search rules)", "(
 
 
 def same(name):
+    name = re.sub(r"(?<![A-Za-z])Is(?=[A-Z])", "", name).lower()
     name = name.replace("_", "-").replace("loop-holds", "loop-init").replace("loop-again", "loop-preserved")
     return name
 
@@ -41,11 +42,14 @@ class Fn:
 
     def field(self, var, place, fields, root):
         """The flat path of the fields behind a place."""
+        fields = [FIELDS.get(f, f) if k else f for k, f in enumerate(fields)]
+        fields[0] = {"pre": "requires", "good": "well_formed"}.get(fields[0], fields[0])
+        fields = ["type_inv" if f == "type-inv" else f for f in fields]
         first, rest = fields[0], fields[1:]
         if rest and (same(first).startswith("loop") or re.match(r"if\d+$", first)):
             rest = [{"inv": "invariant", "taken": "true", "left": "false"}.get(rest[0], rest[0])] + rest[1:]
             fields = [first] + rest
-        if first in ("args", "requires", "ranges", "utf8", "well_formed"):
+        if first in ("args", "requires", "ranges", "utf8", "well_formed", "type_inv"):
             path = fields
             for old, new in self.renamed.items():
                 o = old.replace(" ", "").strip(".").split(".")
@@ -59,6 +63,8 @@ class Fn:
             step = self.d["places"][i][2]
             if same(step[0]) == same(first):
                 names = self.d["params"].get(self.d["places"][i][3])
+                if step[1].startswith("wrapping_") and rest == ["ensures"]:
+                    rest = ["ensures", "value"]
                 if rest and rest[0] == "new" and names:
                     k = 1
                     while k < len(rest) and rest[k] == "1":
@@ -90,6 +96,16 @@ class Fn:
                 arm = self.d["arms"][i]
                 return bool(arm) and not any(same(o) == same(fields[0]) and p and fields[1 : 1 + len(p)] == p for _, o, p in arm[2])
         return False
+
+
+def own_fields():
+    said = subprocess.run(["git", "grep", "-hoP", r"^ *pub [\w'-]+ :", LANDED, "--", "crates"], capture_output=True, text=True).stdout
+    names = {line.split()[1] for line in said.split("\n") if line.strip()}
+    snake = lambda n: re.sub(r"(?<=[a-z0-9])[A-Z]", lambda m: "_" + m[0].lower(), n).replace("-", "_")
+    return {n: snake(n) for n in names if snake(n) != n}
+
+
+FIELDS = own_fields()
 
 
 def blocks(text):
@@ -201,6 +217,11 @@ def convert(crate, folder, data, say):
     # functions from a place to one above it
     kept = []
     for n, body, comment in helpers:
+        while True:
+            m = re.search(rf"let ({W}+) = ({W}+(?:\.before)*) in\s*", body)
+            if not m or not re.search(r": tie\.[^\n]* → tie\.", body):
+                break
+            body = body[: m.start()] + re.sub(rf"(?<![\w.'-]){re.escape(m[1])}(?![\w'-])", m[2], body[m.end() :])
         m = re.match(rf"(?:abbrev |pub )*{re.escape(n)} : tie\.({W}+){strip} → tie\.({W}+){strip}\s*\n{re.escape(n)} (\w+) = \3((?:\.before)+)\s*$", body)
         if m:
             funs[n] = m[4]
@@ -282,7 +303,7 @@ def convert(crate, folder, data, say):
         def one(m):
             var, befores, fields = m[1], m[2] or "", m[3] or ""
             if var not in env:
-                return m[0]
+                return re.sub(rf"(?<=\.){W}+", lambda q: FIELDS.get(q[0], q[0]), m[0]) if m[1].islower() else m[0]
             k = befores.count(".before")
             if not fields:
                 return m[0]

@@ -12,11 +12,11 @@ pub loop-k-preserved : goal.loop-k-preserved
 unfolding vertex_at
 loop-k-preserved c =
     let so_far = c.loop-k.invariant in
-    row_next so_far c.loop-k-test.true refl refl c.before.before.before.before.before.before.before.before.before.before.pre.3 c.weight_at-start.ensures.is c.next_chord-chord.ensures
-    (c.add_row.ensures so_far.passed-size)
+    row_next so_far c.loop-k-test.true refl refl c.requires.3 c.weight_at-start.ensures.is c.next_chord-chord.ensures
+    (c.add_row.ensures so_far.passed_size)
 
 pub shape_of-chords : goal.shape_of-chords
-shape_of-chords c = c.loop-k.invariant.size ∙ sym c.before.before.before.before.pre.2
+shape_of-chords c = c.loop-k.invariant.size ∙ sym c.requires.2
 
 pub returns : goal.returns
-returns c = row_end c.loop-k.invariant c.loop-k-test.false c.before.before.before.before.pre.2
+returns c = row_end c.loop-k.invariant c.loop-k-test.false c.requires.2

@@ -6,6 +6,6 @@ pub returns : goal.returns
 returns c =
     record {
       exact =
-          next_exact _ _ c.wrapping_sub_u32-crossed.type-inv c.wrapping_sub_u32-others.type-inv c.wrapping_sub_u32-leaving.type-inv (search rules) (search rules)
-          c.wrapping_sub_u32-crossed.ensures c.wrapping_sub_u32-others.ensures c.wrapping_sub_u32-leaving.ensures c.wrapping_add_u32-outgoing.ensures;
+          next_exact _ _ c.wrapping_sub_u32-crossed.type_inv c.wrapping_sub_u32-others.type_inv c.wrapping_sub_u32-leaving.type_inv (search rules) (search rules)
+          c.wrapping_sub_u32-crossed.ensures.value c.wrapping_sub_u32-others.ensures.value c.wrapping_sub_u32-leaving.ensures.value c.wrapping_add_u32-outgoing.ensures.value;
     }

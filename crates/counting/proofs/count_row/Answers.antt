@@ -30,18 +30,18 @@ bounds-before-x c = omega (arith, c.loop-k.invariant.inside, c.loop-k.invariant.
 pub overflow_add-total : goal.overflow_add-total
 unfolding vertex_at
 overflow_add-total c =
-    let few = row_fits c.before.before.before.before.before.before.pre.2 c.loop-k.invariant (later c) c.product-total.ensures (omega arith) in
+    let few = row_fits c.requires.2 c.loop-k.invariant (later c) c.product-total.ensures (omega arith) in
     record { fits = omega (arith, few) }
 
 pub overflow_add-beyond : goal.overflow_add-beyond
 overflow_add-beyond c =
     let so_far = c.loop-k.invariant in
-    record { fits = omega (arith, so_far.beyond-few, so_far.small, c.weight_at-beyond.ensures.small) }
+    record { fits = omega (arith, so_far.beyond_few, so_far.small, c.weight_at-beyond.ensures.small) }
 
 pub loop-k-preserved : goal.loop-k-preserved
 unfolding vertex_at
 loop-k-preserved c =
-    row_next c.before.before.before.before.before.before.before.pre.2 c.loop-k.invariant (later (goal.at.loop-k-preserved c).After-product-total) c.product-total.ensures (omega arith) c.weight_at-beyond.ensures.is
+    row_next c.requires.2 c.loop-k.invariant (later (goal.at.loop-k-preserved c).After-product-total) c.product-total.ensures (omega arith) c.weight_at-beyond.ensures.is
     c.weight_at-beyond.ensures.small (omega arith) (omega arith)
 
 pub returns : goal.returns

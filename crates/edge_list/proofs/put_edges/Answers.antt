@@ -17,7 +17,7 @@ asked : (c : After-lacks)
     → let s = c.args in c.lacks.result ≡ ltb (length s.out.now) (s.at + 2 * length (listed_edges s.n s.adjacency.now))
 asked c =
     let s = c.args in
-    c.lacks.ensures ∙ ap (λ (k : ℕ). ltb (length s.out.now) (s.at + 2 * k)) c.before.IsEdge-count.ensures
+    c.lacks.ensures ∙ ap (λ (k : ℕ). ltb (length s.out.now) (s.at + 2 * k)) c.edge_count-count.ensures
 
 -- there is room
 room : (c : Else-lacks) → let s = c.args in s.at + 2 * length (listed_edges s.n s.adjacency.now) ≤ length s.out.now

@@ -1,12 +1,11 @@
 use borrow.Author.Rules.{rules}
 use Prim.Native.Nat.{◌+◌, ◌-◌, ◌≤◌}
 use native.Mathlib.Omega.{arith}
-use mathlib.Core.Logic.{⊎_elim}
 use mathlib.Core.Path.{◌≡◌}
 use lib.ListN.{length, length-set}
 use Rattle.edge_list.specs.Rows.{RowPut, row_start, row_size, row_skip, row_room, row_put, row_end}
 use Rattle.edge_list.proofs.put_row.Goals as goal
-use Rattle.edge_list.proofs.put_row.Goals.{Then-is_set}
+use Rattle.edge_list.proofs.put_row.Goals.{Then-is_set, then-is_set, else-is_set}
 
 -- there is room for an edge
 room : (c : Then-is_set) → let s = c.loop-b in s.to + 2 ≤ length s.out
@@ -37,10 +36,10 @@ loop-b-preserved c =
     let inv = c.loop-b.invariant in
     let more = c.loop-b-test.true in
     let test = c.is_set.ensures in
-    ⊎_elim
-    (λ w. rw (w.1, w.2) (row_put inv more test w.0.taken))
-    (λ w. rw (w.1, w.2) (row_skip inv more test w.0.left))
-    c.if-is_set.branch
+    elim c.if-is_set.branch [
+      | then-is_set w ↦ rw (w.out-is, w.to-is) (row_put inv more test w.if-is_set.true)
+      | else-is_set w ↦ rw (w.out-is, w.to-is) (row_skip inv more test w.if-is_set.false)
+    ]
 
 pub shape_of-out : goal.shape_of-out
 shape_of-out c = row_size c.loop-b.invariant

@@ -11,7 +11,7 @@ pub loop-j-preserved : goal.loop-j-preserved
 loop-j-preserved c =
     let asked = c.requires in
     let v = c.other_at-v.ensures in
-    walking_next c.loop-j.invariant asked.0 asked.2 v.1 c.row_weight-whole.ensures.is c.before.before.before.before.before.before.before.before.Reaches-of.ensures
+    walking_next c.loop-j.invariant asked.0 asked.2 v.1 c.row_weight-whole.ensures.is c.reaches_of-reaches.ensures
     (omega (arith, c.loop-j-test.true)) v.0 c.passing-step.ensures c.add_row.ensures
 
 pub returns : goal.returns
