@@ -85,6 +85,6 @@ pub fn written(l: Line, order: [u8; 64]) -> [u8; 64]
     let places = l.places;
     let first = l.first % 65;
     let end = first + l.size % 65;
-    bytes::copy(&places[first..end], &mut next);
+    next[..end - first].copy_from_slice(&places[first..end]);
     next
 }

@@ -1,0 +1,27 @@
+use borrow.Author.Rules.{rules}
+use Prim.Native.Nat.{ℕ, ◌-◌}
+use native.Mathlib.Omega.{arith}
+use mathlib.Core.Bool.{Bool}
+use mathlib.Core.List.{List}
+use lib.Dec.{eqb}
+use lib.ListN.{get_or}
+use Rattle.laws.specs.Sums.Below.{ToldBelow, told_start, told_next, told_end}
+use Rattle.weights_valid.specs.Bytes.{byte_of, bits_fit, joined_byte}
+use Rattle.weights_valid.proofs.bits_fit.Goals as goal
+
+pub loop-v-init : goal.loop-v-init
+loop-v-init c = told_start
+
+pub byte_of-requires : goal.byte_of-requires
+byte_of-requires c = c.requires
+
+pub loop-v-preserved : goal.loop-v-preserved
+loop-v-preserved c =
+    let loop = c.loop-v in
+    let other = get_or c.args.bits.now loop.v 0 in
+    told_next loop.invariant (omega (arith, c.loop-v-test.true))
+    (joined_byte _ _ loop.differences other c.joined-differences.result c.byte_of.ensures c.joined-differences.ensures)
+
+pub returns : goal.returns
+unfolding bits_fit
+returns c = told_end c.loop-v.invariant (omega (arith, c.loop-v-test.false))

@@ -1,0 +1,14 @@
+use borrow.Author.Rules.{rules}
+use Prim.Native.Nat.{suc, ◌+◌, ◌-◌}
+use native.Mathlib.Omega.{arith}
+use Rattle.model.specs.Layouts.{table_weight}
+use lib.Dec.{eqb}
+use Rattle.laws.specs.Sums.Below.{ToldBelow, told_start, told_next, told_end}
+use Rattle.weights_valid.specs.Pairs.{even_pair, even_row}
+use Rattle.weights_valid.proofs.even_row.Given as goal
+
+abbrev pub invariant-loop-v : goal.invariant-loop-v
+invariant-loop-v l = ToldBelow (even_pair l.weights l.u) (suc l.u) (eqb l.differences 0) l.v
+
+abbrev pub decreases-loop-v : goal.decreases-loop-v
+decreases-loop-v l = l.u + 1 - l.v

@@ -1,0 +1,10 @@
+use native.Mathlib.Omega.{arith}
+use mathlib.Core.Path.{sym}
+use Rattle.weights_valid.specs.Bytes.{BitsFrom, bits_start, bits_few, bits_next, bits_group}
+use Rattle.weights_valid.proofs.group_fits.Given as goal
+
+abbrev pub invariant-loop-j : goal.invariant-loop-j
+invariant-loop-j l = BitsFrom l.weights l.k l.bits l.j
+
+abbrev pub decreases-loop-j : goal.decreases-loop-j
+decreases-loop-j l = l.j
