@@ -1,4 +1,5 @@
-use Rattle.std.proofs.Common.{add-sub_cancel_left}
+use Rattle.std.proofs.Common.{◌%◌}
+use Rattle.std.proofs.Math.Nat.{add-sub_cancel_left}
 use Rattle.append_line.specs.Lines.{written_over}
 use Rattle.append_line.proofs.written.Goals as goal
 

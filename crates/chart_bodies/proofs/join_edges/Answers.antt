@@ -20,11 +20,14 @@ overflow_cast-b c = omega (arith, c.shared_slice_known-in-loop-i-2-1.given (c.lo
 
 pub returns-then-is_set : goal.returns-then-is_set
 returns-then-is_set c =
-    joined_again c.loop-i.invariant c.loop-i-test.true (sym c.is_set.ensures ∙ c.if-is_set.true) _
+    let t = joined_again c.loop-i.invariant c.loop-i-test.true (sym c.is_set.ensures ∙ c.if-is_set.true) c.args.adjacency.now in
+    record { result_value = t.0; adjacency_after = t.1 }
 
 pub loop-i-preserved : goal.loop-i-preserved
 loop-i-preserved c =
     joined_next c.loop-i.invariant c.loop-i-test.true (sym c.is_set.ensures ∙ c.if-is_set.false) c.join.ensures
 
 pub returns : goal.returns
-returns c = joined_end c.loop-i.invariant c.loop-i-test.false _
+returns c =
+    let t = joined_end c.loop-i.invariant c.loop-i-test.false c.args.adjacency.now in
+    record { result_value = t.0; adjacency_after = t.1 }
