@@ -18,7 +18,7 @@ TRIVIAL = {"search rules", "omega arith", "search (rules)", "(search rules)", "(
 
 
 def same(name):
-    name = re.sub(r"(?<![A-Za-z])Is(?=[A-Z])", "", name).lower()
+    name = re.sub(r"_lem$", "", re.sub(r"(?<![A-Za-z])Is(?=[A-Z])", "", name)).lower()
     name = name.replace("_", "-").replace("loop-holds", "loop-init").replace("loop-again", "loop-preserved")
     return name
 
@@ -63,6 +63,8 @@ class Fn:
             step = self.d["places"][i][2]
             if same(step[0]) == same(first):
                 names = self.d["params"].get(self.d["places"][i][3])
+                if rest and rest[0] == "ok":
+                    rest = ["type_inv"] + rest[1:]
                 if step[1].startswith("wrapping_") and rest == ["ensures"]:
                     rest = ["ensures", "value"]
                 if rest and rest[0] == "new" and names:
@@ -105,7 +107,7 @@ def own_fields():
     return {n: snake(n) for n in names if snake(n) != n}
 
 
-FIELDS = own_fields()
+FIELDS = own_fields() | {"is-valid": "is_valid_lem"}
 
 
 def blocks(text):
@@ -226,7 +228,7 @@ def convert(crate, folder, data, say):
         if m:
             funs[n] = m[4]
             continue
-        m = re.match(rf"(?:abbrev |pub )*{re.escape(n)} : tie\.({W}+){strip} → tie\.({W}+){strip}\s*\n{re.escape(n)} (\w+) = (.*)$", body, re.S)
+        m = re.match(rf"(?:abbrev |pub )*{re.escape(n)} : tie\.({W}+){strip} → tie\.({W}+){strip}\s*\n{re.escape(n)} (\w+) =\s+(.*)$", body, re.S)
         if m:
             e = macro(m[4].strip(), funs)
             e = re.sub(r"^(\w+) (\w+(?:\.before)*)$", lambda q: q[2] + funs[q[1]] if q[1] in funs else q[0], e)
@@ -316,6 +318,7 @@ def convert(crate, folder, data, say):
                 return m[0]
             return new
 
+        t = re.sub(rf"(?<=\)\.){W}+", lambda q: FIELDS.get(q[0], q[0]), t)
         return re.sub(rf"(?<![\w.'-])({W}+)((?:\.before)*)((?:\.(?!before\b){W}+)*)", one, t)
 
     # invariants

@@ -86,7 +86,7 @@ fn read_order(bytes: &[u8], n: usize, adjacency: [u64; 64]) -> LayoutRead
         return refused(asked_code(once));
     };
     let mut order = [0u8; 64];
-    bytes::copy(body, &mut order);
+    order[..body.len()].copy_from_slice(body);
     read_weights(bytes, n, order, adjacency)
 }
 

@@ -35,6 +35,6 @@ pub fn order(l: Layout, buffer: &mut [u8]) -> u8
         return 18;
     }
     let places = l.order;
-    bytes::copy(&places[..n], buffer);
+    buffer[..n].copy_from_slice(&places[..n]);
     0
 }

@@ -1,0 +1,5 @@
+use borrow.Author.Rules.{rules}
+use Rattle.chart_writer.proofs.put_header.Goals as goal
+
+pub returns : goal.returns
+returns c = c.put_text.ensures

@@ -1,0 +1,11 @@
+use borrow.Author.Rules.{rules}
+use Prim.Native.Nat.{◌-◌}
+use native.Mathlib.Omega.{arith}
+use Rattle.graph6_packing.specs.Bits.{LowerPacked, place_few, place_free, lower_start, lower_next, lower_end}
+use Rattle.graph6_packing.proofs.pack_lower.Given as goal
+
+abbrev pub invariant-loop-a : goal.invariant-loop-a
+invariant-loop-a l = LowerPacked l.adjacency l.b l.bytes l.a
+
+abbrev pub decreases-loop-a : goal.decreases-loop-a
+decreases-loop-a l = l.b - l.a

@@ -1,0 +1,7 @@
+use Rattle.std.proofs.Common.{refl, rules}
+use Rattle.sifting.specs.Settling.{settled_next}
+use Rattle.sifting.proofs.convergence.run_next.Goals as goal
+
+pub returns : goal.returns
+unfolding settled_next
+returns c = refl

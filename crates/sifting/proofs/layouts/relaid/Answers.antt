@@ -1,0 +1,10 @@
+use Rattle.std.proofs.Common.{ℕ, ap, rules}
+use Rattle.sifting.specs.Layouts.{relaid}
+use Rattle.sifting.proofs.layouts.relaid.Goals as goal
+
+pub returns : goal.returns
+unfolding relaid
+returns c =
+    let s = c.args in
+    ap
+    (λ (k : ℕ). record { n = s.l.n; order = s.order; adjacency = s.l.adjacency; weights = s.l.weights; count = k }) c.lowered-count.ensures
