@@ -1,16 +1,9 @@
-use native.Mathlib.Omega.{arith}
 use Rattle.model.specs.SmallOrders.{number_of_orders}
 use Rattle.small_order.specs.Indices.{none_number}
 use Rattle.small_order.proofs.number_of_orders.Goals as goal
 
 pub returns-then-n-eq0 : goal.returns-then-n-eq0
 returns-then-n-eq0 c = none_number c.if-n-eq0.true
-
-pub overflow_sub-n : goal.overflow_sub-n
-overflow_sub-n c = omega (arith, c.if-n-eq0.false)
-
-pub orders_of-requires : goal.orders_of-requires
-orders_of-requires c = omega (arith, c.requires, c.if-n-eq0.false)
 
 pub returns : goal.returns
 unfolding number_of_orders

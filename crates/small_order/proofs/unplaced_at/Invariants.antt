@@ -1,9 +1,5 @@
-use Prim.Native.Nat.{◌-◌}
-use native.Mathlib.Omega.{arith}
-use mathlib.Core.Path.{sym, ap, ◌∙◌}
-use mathlib.Core.Bool.{not}
-use mathlib.Core.Logic.{⊎_elim}
-use Rattle.small_order.specs.Indices.{free, SeenUpTo, seen_start, seen_taken, seen_passed, seen_found, seen_none}
+use Rattle.std.proofs.Common.{◌-◌}
+use Rattle.small_order.specs.Indices.{SeenUpTo}
 use Rattle.small_order.proofs.unplaced_at.Given as goal
 
 abbrev pub invariant-loop-v : goal.invariant-loop-v
