@@ -1,25 +1,18 @@
 -- The placed vertices as the code holds them, what one vertex more makes of them, and the search of the rest.
-use Rattle.std.specs.Prelude.{ℕ, zero, suc, ◌+◌, ◌*◌, ◌-◌, ◌%◌, ◌≤◌, ◌<◌, ◌≡◌, refl, Bool, true, false, not, cond, length, take}
-use Rattle.std.proofs.Common.{mod-eq_of_lt, le_refl, le_trans, add-one, arith, sym, ◌∙◌, subst, le-leb}
+use Rattle.std.specs.Prelude.{ℕ, ◌+◌, ◌-◌, ◌%◌, ◌≤◌, ◌<◌, ◌≡◌, false, length, take}
+use Rattle.std.proofs.Common.{arith, sym, ◌∙◌, subst}
 use Rattle.std.proofs.Math.Nat.{lt_of_lt_of_le}
 use Rattle.std.proofs.Math.Path.{ap, ap₂}
-use mathlib.Core.List.{List, [], ◌∷◌, ◌++◌, flat_map}
-use Rattle.std.proofs.lemmas.Bool.{lt-leb}
-use Rattle.model.specs.Lists.{upto, keep, first_with, sum_pairs, member, occurrences}
-use Rattle.model.specs.Crossings.{crossings, weighted_edges}
-use Rattle.model.specs.GreedyAppend.{unplaced, back_crossings}
-use Rattle.model.specs.Search.{least}
-use Rattle.model.specs.SmallOrders.{all_orders, least_of_all, first_least}
+use mathlib.Core.List.{List, [], ◌∷◌, ◌++◌}
+use Rattle.model.specs.Lists.{member, occurrences}
+use Rattle.model.specs.GreedyAppend.{back_crossings}
+use Rattle.model.specs.SmallOrders.{least_of_all, first_least}
 use Rattle.laws.specs.Sums.Lists.{all_mono}
 use Rattle.laws.specs.Sums.Pairs.{Symmetric}
-use Rattle.laws.specs.Orders.Permutations.{at_lt, occurrences_nil, upto_permutation}
-use Rattle.laws.specs.Crossings.Edges.{crossings_sum}
-use Rattle.laws.specs.Crossings.Counting.{placed}
-use Rattle.laws.specs.Crossings.Bound.{crossing_sum_bound}
+use Rattle.laws.specs.Orders.Permutations.{occurrences_nil}
 use Rattle.laws.specs.Tables.Rows.{table_weight, RowsOf, TakenRow}
 use Rattle.laws.specs.Tables.Ends.{StillOpen, OpenOf, open_start, open_taken, open_front, open_back, back_open}
-use Rattle.laws.specs.Append.Order.{unplaced_next}
-use Rattle.laws.specs.Small.Search.{Best, in_turn, search_rest, search_answer}
+use Rattle.laws.specs.Small.Search.{Best}
 use Rattle.append_ends.specs.Ends.{as_vertices, all_vertices, ends_of}
 use Rattle.small_prefix.specs.declared.Prefix.{Prefix}
 use Rattle.small_prefix.specs.Prefixes.{entries, alone, next_of, Ready, ready_alone, out_free, entries_next, ready_next}
