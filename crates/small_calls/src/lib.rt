@@ -3,7 +3,7 @@
 
 mod least;
 mod listed;
-mod orders;
+mod order_buffer;
 
 pub use least::least_crossings;
 pub use listed::order_at;

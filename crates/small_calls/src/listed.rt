@@ -3,7 +3,7 @@ ghost use Rattle.std.specs.Prelude.{◌≡◌, [], ◌∷◌};
 ghost use Rattle.model.specs.Checks.{refusal, is_valid, buffer_fits};
 ghost use Rattle.model.specs.SmallOrders.{is_small, is_listed, order_at_refusal, order_at_bytes};
 
-use super::orders::put_order;
+use super::order_buffer::put_order;
 use model::Layout;
 use small_order::{number_of_orders, order_of};
 use validity::is_valid;

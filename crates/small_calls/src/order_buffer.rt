@@ -6,5 +6,5 @@ pub(crate) fn put_order(places: [u8; 8], n: usize, buffer: &mut [u8])
     requires { (n ≤ 8) × (n ≤ length buffer.old) }
     ensures { buffer.new ≡ take n places ++ drop n buffer.old }
 {
-    bytes::copy(&places[..n], buffer);
+    buffer[..n].copy_from_slice(&places[..n]);
 }
