@@ -1,0 +1,22 @@
+use borrow.Author.Rules.{rules}
+use mathlib.Core.Path.{◌∙◌}
+use Rattle.laws.specs.Charts.Passes.{asked_number}
+use Rattle.chart.specs.Reading.{SizeRead, read_placed, read_misplaced, order_long, order_read}
+use Rattle.chart.proofs.read_order.Goals as goal
+use Rattle.chart.proofs.read_order.Goals.{In-Passed}
+
+-- question 8 has passed
+placed : (c : In-Passed) → let s = c.args in SizeRead 8 s.bytes.now s.n
+placed c =
+    read_placed c.requires.0 c.body_of-body.ensures c.in-Passed.is c.ask_order-once.ensures
+
+pub returns-in_default : goal.returns-in_default
+returns-in_default c =
+    let e = c.in_default.is in
+    c.refused.ensures
+    ∙ asked_number e c.asked_code.ensures
+    ∙ read_misplaced c.requires.0 c.body_of-body.ensures e c.ask_order-once.ensures
+
+pub read_weights-requires : goal.read_weights-requires
+read_weights-requires c =
+    (placed (goal.at.read_weights-requires c).In-Passed, order_read (placed (goal.at.read_weights-requires c).In-Passed).passed c.body_of-body.ensures c.before.copy.ensures.1, c.requires.1)

@@ -1,0 +1,14 @@
+use Prim.Native.Nat.{◌-◌, ◌≤◌}
+use native.Mathlib.Omega.{arith}
+use mathlib.Core.Path.{refl}
+use Rattle.model.specs.Lists.{upto}
+use Rattle.laws.specs.Sums.Loops.{MadeUpTo, made_start, made_next, made_end}
+use Rattle.laws.specs.Charts.Padded.{padded}
+use Rattle.graph6.specs.Rising.{none_placed, one_placed}
+use Rattle.graph6.proofs.rising_order.Given as goal
+
+abbrev pub invariant-loop-v : goal.invariant-loop-v
+invariant-loop-v l = MadeUpTo (λ k. padded (upto k)) l.n l.order l.v
+
+abbrev pub decreases-loop-v : goal.decreases-loop-v
+decreases-loop-v l = l.n - l.v
