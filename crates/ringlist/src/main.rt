@@ -6,7 +6,7 @@
 ghost use Rattle.std.specs.Prelude.{length};
 ghost use Rattle.ringlist.specs.Input.{Within};
 
-use libc::{STDERR_FILENO, STDIN_FILENO, STDOUT_FILENO};
+use std::io::Read;
 
 // The input, read to its end or as far as the buffer goes; or a read that failed.
 #[derive(Clone, Copy)]
@@ -15,36 +15,31 @@ enum Input {
     Failed,
 }
 
-fn main() {
+fn main(rt: HostRuntime) {
     let mut input = [0u8; 8193];
-    let Input::Read(got) = read_input(&mut input) else {
-        io::write_all(STDERR_FILENO, b"ringlist: standard input cannot be read\n");
+    let Input::Read(got) = read_input(&mut rt.stdin(), &mut input) else {
+        let _ = eprintln!(rt; "ringlist: standard input cannot be read");
         return;
     };
-    list(&input[..got]);
+    list(&rt, &input[..got]);
 }
 
-fn list(chart: &[u8]) {
+fn list(rt: &(impl Print + Eprint), chart: &[u8]) {
     let mut out = [0u8; 1024];
     let n = listing::list_chart(chart, &mut out);
-    if !io::write_all(STDOUT_FILENO, &out[..n]) {
-        io::write_all(
-            STDERR_FILENO,
-            b"ringlist: standard output cannot be written\n",
-        );
+    if rt.write_all(&out[..n]).is_err() {
+        let _ = eprintln!(rt; "ringlist: standard output cannot be written");
     }
 }
 
-fn read_input(input: &mut [u8]) -> Input
+fn read_input(from: &mut impl Read, input: &mut [u8]) -> Input
     ensures { Within result (length input.new) }
 {
     let mut got = 0;
     while got < input.len() {
-        let answer = libc::read(STDIN_FILENO, &mut input[got..]);
-        if answer < 0 {
+        let Ok(more) = from.read(&mut input[got..]) else {
             return Input::Failed;
-        }
-        let more = io::count(answer, &input[got..]);
+        };
         if more == 0 {
             return Input::Read(got);
         }
