@@ -3,10 +3,13 @@
 // error says so.
 #![tactic(auto)]
 
-ghost use Rattle.std.specs.Prelude.{length};
-ghost use Rattle.ringlist.specs.Input.{Within};
+ghost use Rattle.std.specs.Prelude.{length, OnOk};
+ghost use Rattle.std.specs.Io.KnownBytes.{Appends};
+ghost use Rattle.model.specs.Listing.{listing_of};
+ghost use Rattle.ringlist.specs.Input.{Within, TakenFrom};
 
-use std::io::Read;
+use std::io;
+use std::io::{Read, Write};
 
 // The input, read to its end or as far as the buffer goes; or a read that failed.
 #[derive(Clone, Copy)]
@@ -25,15 +28,23 @@ fn main(rt: HostRuntime) {
 }
 
 fn list(rt: &(impl Print + Eprint), chart: &[u8]) {
-    let mut out = [0u8; 1024];
-    let n = listing::list_chart(chart, &mut out);
-    if rt.write_all(&out[..n]).is_err() {
+    if write_listing(&mut io::writer(rt), chart).is_err() {
         let _ = eprintln!(rt; "ringlist: standard output cannot be written");
     }
 }
 
-fn read_input(from: &mut impl Read, input: &mut [u8]) -> Input
-    ensures { Within result (length input.new) }
+// Writes the listing of a chart.
+fn write_listing<W: Write>(output: &mut W, chart: &[u8]) -> io::Result<()>
+    ensures { OnOk result (Appends (W.contents output.old) (W.contents output.new) (listing_of chart.now)) }
+{
+    let mut out = [0u8; 1024];
+    let n = listing::list_chart(chart, &mut out);
+    output.write_all(&out[..n])
+}
+
+fn read_input<R: Read>(from: &mut R, input: &mut [u8]) -> Input
+    ensures within { Within result (length input.new) }
+    ensures taken { TakenFrom result (R.remaining from.old) (R.remaining from.new) input.new }
 {
     let mut got = 0;
     while got < input.len() {
