@@ -3,10 +3,13 @@
 // error says so.
 #![tactic(auto)]
 
-ghost use Rattle.std.specs.Prelude.{length};
-ghost use Rattle.ringlist.specs.Input.{Within};
+ghost use Rattle.std.specs.Prelude.{length, OnOk};
+ghost use Rattle.std.specs.Io.KnownBytes.{Appends};
+ghost use Rattle.model.specs.Listing.{listing_of};
+ghost use Rattle.ringlist.specs.Input.{Within, TakenFrom};
 
-use libc::{STDERR_FILENO, STDIN_FILENO, STDOUT_FILENO};
+use std::io;
+use std::io::{Read, Write};
 
 // The input, read to its end or as far as the buffer goes; or a read that failed.
 #[derive(Clone, Copy)]
@@ -15,36 +18,39 @@ enum Input {
     Failed,
 }
 
-fn main() {
+fn main(rt: HostRuntime) {
     let mut input = [0u8; 8193];
-    let Input::Read(got) = read_input(&mut input) else {
-        io::write_all(STDERR_FILENO, b"ringlist: standard input cannot be read\n");
+    let Input::Read(got) = read_input(&mut rt.stdin(), &mut input) else {
+        let _ = eprintln!(rt; "ringlist: standard input cannot be read");
         return;
     };
-    list(&input[..got]);
+    list(&rt, &input[..got]);
 }
 
-fn list(chart: &[u8]) {
-    let mut out = [0u8; 1024];
-    let n = listing::list_chart(chart, &mut out);
-    if !io::write_all(STDOUT_FILENO, &out[..n]) {
-        io::write_all(
-            STDERR_FILENO,
-            b"ringlist: standard output cannot be written\n",
-        );
+fn list(rt: &(impl Print + Eprint), chart: &[u8]) {
+    if write_listing(&mut io::writer(rt), chart).is_err() {
+        let _ = eprintln!(rt; "ringlist: standard output cannot be written");
     }
 }
 
-fn read_input(input: &mut [u8]) -> Input
-    ensures { Within result (length input.new) }
+// Writes the listing of a chart.
+fn write_listing<W: Write>(output: &mut W, chart: &[u8]) -> io::Result<()>
+    ensures { OnOk result (Appends (W.contents output.old) (W.contents output.new) (listing_of chart.now)) }
+{
+    let mut out = [0u8; 1024];
+    let n = listing::list_chart(chart, &mut out);
+    output.write_all(&out[..n])
+}
+
+fn read_input<R: Read>(from: &mut R, input: &mut [u8]) -> Input
+    ensures within { Within result (length input.new) }
+    ensures taken { TakenFrom result (R.remaining from.old) (R.remaining from.new) input.new }
 {
     let mut got = 0;
     while got < input.len() {
-        let answer = libc::read(STDIN_FILENO, &mut input[got..]);
-        if answer < 0 {
+        let Ok(more) = from.read(&mut input[got..]) else {
             return Input::Failed;
-        }
-        let more = io::count(answer, &input[got..]);
+        };
         if more == 0 {
             return Input::Read(got);
         }
