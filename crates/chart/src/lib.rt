@@ -4,7 +4,7 @@
 // that n has been read besides.
 #![tactic(auto)]
 
-ghost use Rattle.std.specs.Prelude.{◌≡◌};
+ghost use Rattle.std.specs.Prelude.{◌≡◌, ◌≤◌, length};
 ghost use Rattle.model.specs.Charts.{chart_edges, chart_order, read_of};
 ghost use Rattle.laws.specs.Charts.Words.{adjacency_of};
 ghost use Rattle.laws.specs.Charts.Padded.{padded};
@@ -85,9 +85,17 @@ fn read_order(bytes: &[u8], n: usize, adjacency: [u64; 64]) -> LayoutRead
     let Asked::Passed = once else {
         return refused(asked_code(once));
     };
+    read_weights(bytes, n, filled_up(body), adjacency)
+}
+
+// The body of an order, with 0 in the places behind it.
+fn filled_up(body: &[u8]) -> [u8; 64]
+    requires { length body.now ≤ 64 }
+    ensures { result ≡ padded body.now }
+{
     let mut order = [0u8; 64];
     order[..body.len()].copy_from_slice(body);
-    read_weights(bytes, n, order, adjacency)
+    order
 }
 
 // Questions 24 and 25, once the order is known, and the layout.

@@ -9,10 +9,10 @@ returns-in_default c =
     let e = c.in_default.is in
     c.refused.ensures
     ∙ asked_number e c.asked_code.ensures
-    ∙ read_repeated c.requires c.body_of.ensures e c.join_edges-different.ensures.0
+    ∙ read_repeated c.requires c.body_of.ensures e c.join_edges-different.ensures.result_value
 
 pub read_order-requires : goal.read_order-requires
 read_order-requires c =
     let said = c.join_edges-different.ensures in
-    let once = read_once c.requires c.body_of.ensures c.in-Passed.is said.0 in
-    (once, words_read once.passed _ c.body_of.ensures said.1)
+    let once = read_once c.requires c.body_of.ensures c.in-Passed.is said.result_value in
+    (once, words_read once.passed _ c.body_of.ensures said.adjacency_after)

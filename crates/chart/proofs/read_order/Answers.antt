@@ -1,5 +1,6 @@
 use borrow.Author.Rules.{rules}
-use mathlib.Core.Path.{◌∙◌}
+use mathlib.Core.Path.{sym, ◌∙◌}
+use Rattle.laws.specs.Charts.Padded.{padded_copy}
 use Rattle.laws.specs.Charts.Passes.{asked_number}
 use Rattle.chart.specs.Reading.{SizeRead, read_placed, read_misplaced, order_long, order_read}
 use Rattle.chart.proofs.read_order.Goals as goal
@@ -17,6 +18,11 @@ returns-in_default c =
     ∙ asked_number e c.asked_code.ensures
     ∙ read_misplaced c.requires.0 c.body_of-body.ensures e c.ask_order-once.ensures
 
+pub filled_up-requires : goal.filled_up-requires
+filled_up-requires c = order_long (placed (goal.at.filled_up-requires c).In-Passed).passed c.body_of-body.ensures
+
 pub read_weights-requires : goal.read_weights-requires
 read_weights-requires c =
-    (placed (goal.at.read_weights-requires c).In-Passed, order_read (placed (goal.at.read_weights-requires c).In-Passed).passed c.body_of-body.ensures c.before.copy.ensures.1, c.requires.1)
+    let there = placed (goal.at.read_weights-requires c).In-Passed in
+    let long = order_long there.passed c.body_of-body.ensures in
+    (there, order_read there.passed c.body_of-body.ensures (c.filled_up.ensures ∙ sym (padded_copy _ long)), c.requires.1)

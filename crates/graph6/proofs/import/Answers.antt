@@ -10,7 +10,7 @@ use Rattle.graph6.proofs.import.Goals as goal
 use Rattle.graph6.proofs.import.Goals.{After-size_length-start}
 
 abbrev input : After-size_length-start → List ℕ
-input c = c.before.before.before.before.before.before.args.bytes.now
+input c = c.args.bytes.now
 
 -- the number of vertices that was found
 sized : (c : After-size_length-start) → SizeRead (input c) c.in-Found.n

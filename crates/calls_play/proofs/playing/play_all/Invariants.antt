@@ -1,0 +1,13 @@
+use Prim.Native.Nat.{◌-◌}
+use native.Mathlib.Omega.{arith}
+use mathlib.Core.Path.{◌≡◌}
+use lib.ListN.{length}
+use Rattle.laws.specs.Buffers.Writing.{written_size}
+use Rattle.calls_play.specs.PlayLoops.{PlayedUpTo, played_start, played_next, played_all}
+use Rattle.calls_play.proofs.playing.play_all.Given as goal
+
+abbrev pub invariant-loop-i : goal.invariant-loop-i
+invariant-loop-i l = PlayedUpTo l.initial.layout l.calls l.initial.answers l.i l.layout l.answers
+
+abbrev pub decreases-loop-i : goal.decreases-loop-i
+decreases-loop-i l = l.count - l.i
