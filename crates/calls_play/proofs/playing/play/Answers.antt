@@ -18,15 +18,28 @@ told : {from : Origin} {chart numbers table : List ℕ} {r : Played} {after : Li
 told {from} {chart} {numbers} {table} a = (a.returned, (a.table_is, play_claim from chart numbers (length table)))
 
 pub returns-then-refusal-ne0 : goal.returns-then-refusal-ne0
-returns-then-refusal-ne0 c = told (play_unstarted _ _ _ _ c.start_of-start.ensures c.if-refusal-ne0.true)
+returns-then-refusal-ne0 c =
+    let s = c.args in
+    let t = told (play_unstarted s.origin s.bytes.now s.calls.now s.answers.now c.start_of-start.ensures c.if-refusal-ne0.true) in
+    record { returned = t.0; table = t.1.0; claim = t.1.1 }
 
 pub returns-then-answers-count : goal.returns-then-answers-count
 returns-then-answers-count c =
-    told (play_short _ _ _ _ c.start_of-start.ensures c.if-refusal-ne0.false (omega (arith, c.count_calls-count.ensures, c.if-answers-count.true)))
+    let s = c.args in
+    let t =
+        told
+        (play_short s.origin s.bytes.now s.calls.now s.answers.now c.start_of-start.ensures c.if-refusal-ne0.false
+        (omega (arith, c.count_calls-count.ensures, c.if-answers-count.true)))
+    in
+    record { returned = t.0; table = t.1.0; claim = t.1.1 }
 
 pub returns : goal.returns
 returns c =
     let ended = c.play_all.ensures in
-    told
-    (play_done _ _ _ _ c.start_of-start.ensures c.if-refusal-ne0.false c.count_calls-count.ensures (omega (arith, c.if-answers-count.false))
-    ended.0 ended.1)
+    let s = c.args in
+    let t =
+        told
+        (play_done s.origin s.bytes.now s.calls.now s.answers.now c.start_of-start.ensures c.if-refusal-ne0.false c.count_calls-count.ensures
+        (omega (arith, c.if-answers-count.false)) ended.value ended.answers_after)
+    in
+    record { returned = t.0; table = t.1.0; claim = t.1.1 }

@@ -22,10 +22,12 @@ pub loop-i-preserved : goal.loop-i-preserved
 loop-i-preserved c =
     let inside = c.loop-i-test.true in
     let done = c.play_next-layout.ensures in
-    played_next c.loop-i.invariant (omega (arith, c.requires, inside)) (omega (arith, c.requires, inside)) done.0 done.1
+    played_next c.loop-i.invariant (omega (arith, c.requires, inside)) (omega (arith, c.requires, inside)) done.value done.answers_after
 
 pub shape_of-answers : goal.shape_of-answers
 shape_of-answers c = same_size (goal.at.shape_of-answers c).At-loop-i
 
 pub returns : goal.returns
-returns c = played_all c.loop-i.invariant c.requires.0 c.loop-i-test.false
+returns c =
+    let t = played_all c.loop-i.invariant c.requires.0 c.loop-i-test.false in
+    record { value = t.0; answers_after = t.1 }

@@ -4,7 +4,7 @@ use Rattle.play_calls.proofs.Lines.{counted}
 use Rattle.play_calls.proofs.dispatch.play.Goals as goal
 
 pub returns-then-record-lt32 : goal.returns-then-record-lt32
-returns-then-record-lt32 c = counted _ _ c.end.ensures (c.end.auto.1.0 ∙ search rules)
+returns-then-record-lt32 c = counted _ _ c.end.ensures (c.end.auto.line ∙ search rules)
 
 pub returns : goal.returns
-returns c = counted _ _ c.play_op.ensures (c.play_op.auto.1.1.1.1.1.0 ∙ search rules)
+returns c = counted _ _ c.play_op.ensures (c.play_op.auto.line ∙ search rules)
