@@ -25,8 +25,7 @@ loop-i-init c = (omega arith, omega arith, written_none _ _)
 
 pub loop-i-preserved : goal.loop-i-preserved
 loop-i-preserved c =
-    let put = c.put_small-to.ensures in
-    (
+    let put = c.put_small-to.ensures in (
       omega (arith, c.loop-i-test.true),
       omega (arith, c.loop-i.invariant.1, put.bound),
       rw (flat_map_next spaced c.args.bytes.now c.loop-i.i c.loop-i-test.true)

@@ -27,9 +27,9 @@ pub returns-then-answers-count : goal.returns-then-answers-count
 returns-then-answers-count c =
     let s = c.args in
     let t =
-        told
-        (play_short s.origin s.bytes.now s.calls.now s.answers.now c.start_of-start.ensures c.if-refusal-ne0.false
-        (omega (arith, c.count_calls-count.ensures, c.if-answers-count.true)))
+    told
+    (play_short s.origin s.bytes.now s.calls.now s.answers.now c.start_of-start.ensures c.if-refusal-ne0.false
+    (omega (arith, c.count_calls-count.ensures, c.if-answers-count.true)))
     in
     record { returned = t.0; table = t.1.0; claim = t.1.1 }
 
@@ -38,8 +38,8 @@ returns c =
     let ended = c.play_all.ensures in
     let s = c.args in
     let t =
-        told
-        (play_done s.origin s.bytes.now s.calls.now s.answers.now c.start_of-start.ensures c.if-refusal-ne0.false c.count_calls-count.ensures
-        (omega (arith, c.if-answers-count.false)) ended.value ended.answers_after)
+    told
+    (play_done s.origin s.bytes.now s.calls.now s.answers.now c.start_of-start.ensures c.if-refusal-ne0.false c.count_calls-count.ensures
+    (omega (arith, c.if-answers-count.false)) ended.value ended.answers_after)
     in
     record { returned = t.0; table = t.1.0; claim = t.1.1 }

@@ -19,8 +19,8 @@ unfolding line text upto
 returns-then-refusal-ne0 c =
     let s = c.args.bytes.now in
     let t =
-        listed_as s c.args.out.now c.if-out-lt1024.false (listing_refused s c.read-read.ensures c.if-refusal-ne0.true)
-        (written_whole (c.put_line.ensures.fits (omega arith)))
+    listed_as s c.args.out.now c.if-out-lt1024.false (listing_refused s c.read-read.ensures c.if-refusal-ne0.true)
+    (written_whole (c.put_line.ensures.fits (omega arith)))
     in
     record { value = t.0; out_after = t.1 }
 
