@@ -67,9 +67,6 @@ static void reads(void)
     SIZE(rl_edges_counted);
     AT(rl_edges_counted, refusal);
     AT(rl_edges_counted, edges);
-    SIZE(rl_least_found);
-    AT(rl_least_found, refusal);
-    AT(rl_least_found, crossings);
     SIZE(rl_played);
     AT(rl_played, refusal);
     AT(rl_played, layout);
@@ -102,8 +99,6 @@ static void refusals(void)
     REFUSAL(CHART_WEIGHTS);
     REFUSAL(WEIGHT_OUT_OF_RANGE);
     REFUSAL(GRAPH6_WEIGHTS);
-    REFUSAL(TOO_MANY_VERTICES);
-    REFUSAL(NO_SUCH_ORDER);
 }
 
 int main(void)

@@ -144,17 +144,17 @@ static void play_converge(rl_layout *l, uint64_t limit)
            run.converged ? "yes" : "no", run.optima);
 }
 
-/* How many elements a record lends that asks for so many, up to the longest. */
-static size_t lent_length(size_t longest, uint64_t asked)
+/* How many elements the record lends, up to the longest. */
+static size_t lent_length(size_t longest, record r)
 {
-    return asked < longest ? asked : longest;
+    return r.a < longest ? r.a : longest;
 }
 
-/* Fills as much of the buffer as is lent; how many bytes that is. */
-static size_t fill_buffer(uint8_t *buffer, size_t longest, uint64_t asked, uint64_t fill)
+/* Fills as much of the buffer as the record lends; how many bytes that is. */
+static size_t fill_buffer(uint8_t *buffer, size_t longest, record r)
 {
-    size_t length = lent_length(longest, asked);
-    memset(buffer, (uint8_t)fill, length);
+    size_t length = lent_length(longest, r);
+    memset(buffer, (uint8_t)r.b, length);
     return length;
 }
 
@@ -167,25 +167,8 @@ static void print_buffer(const uint8_t *buffer, size_t length)
 static void play_order(const rl_layout *l, record r)
 {
     uint8_t buffer[LONGEST_ORDER];
-    size_t length = fill_buffer(buffer, sizeof buffer, r.a, r.b);
+    size_t length = fill_buffer(buffer, sizeof buffer, r);
     printf("order %u", rl_order(l, buffer, length));
-    print_buffer(buffer, length);
-}
-
-static void play_order_at(const rl_layout *l, record r)
-{
-    uint8_t buffer[LONGEST_ORDER];
-    size_t length = fill_buffer(buffer, sizeof buffer, r.b, r.c);
-    printf("nth %u", rl_order_at(l, r.a, buffer, length));
-    print_buffer(buffer, length);
-}
-
-static void play_least_crossings(const rl_layout *l, record r)
-{
-    uint8_t buffer[LONGEST_ORDER];
-    size_t length = fill_buffer(buffer, sizeof buffer, r.a, r.b);
-    rl_least_found least = rl_least_crossings(l, buffer, length);
-    printf("least %u %" PRIu64, least.refusal, least.crossings);
     print_buffer(buffer, length);
 }
 
@@ -193,7 +176,7 @@ static void play_least_crossings(const rl_layout *l, record r)
 static void play_write(const rl_layout *l, record r, const char *name, writer *write)
 {
     uint8_t buffer[LONGEST_WRITTEN];
-    size_t length = fill_buffer(buffer, sizeof buffer, r.a, r.b);
+    size_t length = fill_buffer(buffer, sizeof buffer, r);
     rl_written written = write(l, buffer, length);
     printf("%s %u %zu", name, written.refusal, written.length);
     print_buffer(buffer, length);
@@ -202,7 +185,7 @@ static void play_write(const rl_layout *l, record r, const char *name, writer *w
 static void play_edge_crossings(const rl_layout *l, record r)
 {
     uint64_t table[LONGEST_TABLE];
-    size_t length = lent_length(LONGEST_TABLE, r.a);
+    size_t length = lent_length(LONGEST_TABLE, r);
     for (size_t i = 0; i < length; i++)
         table[i] = r.b;
     rl_edges_counted counted = rl_edge_crossings(l, table, length);
@@ -284,12 +267,6 @@ static bool play_read(const rl_layout *l, record r)
         return true;
     case 30:
         play_edge_crossings(l, r);
-        return true;
-    case 31:
-        play_order_at(l, r);
-        return true;
-    case 32:
-        play_least_crossings(l, r);
         return true;
     default:
         return false;

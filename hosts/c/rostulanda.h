@@ -56,10 +56,6 @@ extern "C" {
 /* The largest limit of rl_converge. */
 #define RL_MOST_ROUNDS 1000
 
-/* The most vertices whose orders are listed, and the most orders that they have. */
-#define RL_LISTED_VERTICES 8
-#define RL_LISTED_ORDERS 5040
-
 /* The least buffer for rl_list_chart. */
 #define RL_LISTING_BYTES 1024
 
@@ -103,11 +99,7 @@ enum rl_refusal {
     /* Weights: of a chart, of a chart or a call, and of what is exported. */
     RL_CHART_WEIGHTS = 24,
     RL_WEIGHT_OUT_OF_RANGE = 25,
-    RL_GRAPH6_WEIGHTS = 26,
-
-    /* The list of all orders. */
-    RL_TOO_MANY_VERTICES = 27,
-    RL_NO_SUCH_ORDER = 28
+    RL_GRAPH6_WEIGHTS = 26
 };
 
 /* The question that a refused call answered "no". */
@@ -139,8 +131,6 @@ static inline const char *rl_refusal_text(uint8_t refusal)
     case RL_CHART_WEIGHTS: return "has the body of field 57 one byte for each edge?";
     case RL_WEIGHT_OUT_OF_RANGE: return "is each weight a whole number from 1 to 255?";
     case RL_GRAPH6_WEIGHTS: return "does each edge weigh 1 (a graph6 has no weights)?";
-    case RL_TOO_MANY_VERTICES: return "are there at most 8 vertices (the orders of more are not listed)?";
-    case RL_NO_SUCH_ORDER: return "is the index below the number of orders?";
     default: return "unknown";
     }
 }
@@ -235,12 +225,6 @@ typedef struct rl_edges_counted {
     size_t edges;
 } rl_edges_counted;
 
-/* The least crossings that any order has. */
-typedef struct rl_least_found {
-    uint8_t refusal;
-    uint64_t crossings;
-} rl_least_found;
-
 /* A list of calls played: the layout at the end, and how many calls it had. */
 typedef struct rl_played {
     uint8_t refusal;
@@ -300,9 +284,6 @@ RL_AT(rl_written, length, 8);
 RL_SIZE(rl_edges_counted, 16);
 RL_AT(rl_edges_counted, refusal, 0);
 RL_AT(rl_edges_counted, edges, 8);
-RL_SIZE(rl_least_found, 16);
-RL_AT(rl_least_found, refusal, 0);
-RL_AT(rl_least_found, crossings, 8);
 RL_SIZE(rl_played, 4704);
 RL_AT(rl_played, refusal, 0);
 RL_AT(rl_played, layout, 8);
@@ -398,22 +379,6 @@ rl_written rl_export_graph6(const rl_layout *l, uint8_t *buffer, size_t length);
  * they hold (document 02, Note 7). The carried count is not looked at: the numbers'
  * sum is twice the crossings. Refused: 23, for fewer entries than edges. */
 rl_edges_counted rl_edge_crossings(const rl_layout *l, uint64_t *table, size_t length);
-
-/* Writes the order with this index, counted from 0, to the first n bytes of the
- * buffer; the others keep what they hold (document 02, Note 10). The list has all
- * orders of n vertices in which vertex 0 stands first, in dictionary order: (n - 1)!
- * of them, and one for no vertices. Every other order is one of these, turned. The
- * layout's own order plays no part. Refused: 27 for more than RL_LISTED_VERTICES
- * vertices, 28 where the index is not below the number of orders, and then 18, for
- * fewer than n bytes. */
-uint8_t rl_order_at(const rl_layout *l, size_t index, uint8_t *buffer, size_t length);
-
-/* The least crossings that any order of the vertices has (document 02, Note 10).
- * Writes the first order that has them, in the list of rl_order_at, to the first n
- * bytes of the buffer; the others keep what they hold. The layout's own order and
- * its carried count play no part, and stay. Refused: 27 for more than
- * RL_LISTED_VERTICES vertices, and then 18, for fewer than n bytes. */
-rl_least_found rl_least_crossings(const rl_layout *l, uint8_t *buffer, size_t length);
 
 /* Whether the layout is valid (whole): all of the fields as rl_layout says,
  * weights too, but for the count. Of vertices that are not there the words and

@@ -18,7 +18,6 @@ STRUCTS = {
     "rl_crossing": rostulanda._Crossing,
     "rl_written": rostulanda._Written,
     "rl_edges_counted": rostulanda._EdgesCounted,
-    "rl_least_found": rostulanda._LeastFound,
     "rl_played": rostulanda._Played,
 }
 

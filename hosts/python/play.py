@@ -76,18 +76,6 @@ def order(layout: Layout, length: int, fill: int) -> str:
     return f"{told} buffer{numbers(list(buffer))}"
 
 
-def order_at(layout: Layout, index: int, length: int, fill: int) -> str:
-    buffer = filled(length, LONGEST_ORDER, fill)
-    told = answered("nth", "", lambda: layout.write_order_at(index, buffer))
-    return f"{told} buffer{numbers(list(buffer))}"
-
-
-def least_crossings(layout: Layout, length: int, fill: int) -> str:
-    buffer = filled(length, LONGEST_ORDER, fill)
-    told = answered("least", " 0", lambda: f" {layout.write_least_crossings(buffer)}")
-    return f"{told} buffer{numbers(list(buffer))}"
-
-
 def written(name: str, write: Callable[[bytearray], int], length: int, fill: int) -> str:
     """A call that writes a chart or graph6."""
     buffer = filled(length, LONGEST_WRITTEN, fill)
@@ -101,24 +89,21 @@ def edge_crossings(layout: Layout, length: int, fill: int) -> str:
     return f"{told} table{numbers(list(table))}"
 
 
-#: What each op but the starts plays, with its three numbers.
-OPS: Dict[int, Callable[[Layout, int, int, int], str]] = {
-    16: lambda l, a, b, c: answered("add", " 0", lambda: f" {l.add_vertex()}"),
-    17: lambda l, a, b, c: answered("link", "", lambda: l.add_edge(a, b, c % 256)),
-    18: lambda l, a, b, c: answered("unlink", "", lambda: l.remove_edge(a, b)),
-    19: lambda l, a, b, c: answered("move", "", lambda: l.move_after(a, b)),
-    20: lambda l, a, b, c: answered("lay", " 0", lambda: f" {l.greedy_append(a)}"),
-    21: lambda l, a, b, c: answered("sift", " 0 0", lambda: numbers(list(l.sift(a)))),
-    22: lambda l, a, b, c: answered("round", " 0 0 0", lambda: numbers(list(l.sifting_round()))),
-    23: lambda l, a, b, c: answered("settle", " 0 0 no 0", lambda: converge(l, a)),
-    24: lambda l, a, b, c: answered("count", " 0", lambda: f" {l.count()}"),
-    25: lambda l, a, b, c: order(l, a, b),
-    26: lambda l, a, b, c: answered("pair", " refused", lambda: first_crossing(l)),
-    27: lambda l, a, b, c: written("write", l.write_chart, a, b),
-    29: lambda l, a, b, c: written("export", l.export_graph6, a, b),
-    30: lambda l, a, b, c: edge_crossings(l, a, b),
-    31: order_at,
-    32: lambda l, a, b, c: least_crossings(l, a, b),
+#: What each op but the starts and link plays, with the numbers a and b.
+OPS: Dict[int, Callable[[Layout, int, int], str]] = {
+    16: lambda l, a, b: answered("add", " 0", lambda: f" {l.add_vertex()}"),
+    18: lambda l, a, b: answered("unlink", "", lambda: l.remove_edge(a, b)),
+    19: lambda l, a, b: answered("move", "", lambda: l.move_after(a, b)),
+    20: lambda l, a, b: answered("lay", " 0", lambda: f" {l.greedy_append(a)}"),
+    21: lambda l, a, b: answered("sift", " 0 0", lambda: numbers(list(l.sift(a)))),
+    22: lambda l, a, b: answered("round", " 0 0 0", lambda: numbers(list(l.sifting_round()))),
+    23: lambda l, a, b: answered("settle", " 0 0 no 0", lambda: converge(l, a)),
+    24: lambda l, a, b: answered("count", " 0", lambda: f" {l.count()}"),
+    25: order,
+    26: lambda l, a, b: answered("pair", " refused", lambda: first_crossing(l)),
+    27: lambda l, a, b: written("write", l.write_chart, a, b),
+    29: lambda l, a, b: written("export", l.export_graph6, a, b),
+    30: edge_crossings,
 }
 
 
@@ -157,7 +142,9 @@ class Player:
     def answer(self, op: int, a: int, b: int, c: int) -> str:
         """Plays one record that answers: its name, refusal code and answers."""
         if op in OPS:
-            return OPS[op](self.layout, a, b, c)
+            return OPS[op](self.layout, a, b)
+        if op == 17:
+            return answered("link", "", lambda: self.layout.add_edge(a, b, c % 256))
         if op == 0:
             self.layout = Layout()
             return "empty 0"

@@ -6,12 +6,6 @@ vertices goes in, as a networkx graph or as its edges:
     row = rostulanda.layout(G)
     row.order, row.after, row.converged
 
-Of up to eight vertices the least crossings that any order has are found too, and
-an order that has them:
-
-    least = rostulanda.least_crossings(G)
-    least.crossings, least.order
-
 A Layout is held here and lent to each call of the proved library, which changes
 it in place. A refused call leaves it as it was and raises Refused.
 
@@ -29,7 +23,6 @@ which ./build library makes.
 
 import ctypes
 import enum
-import math
 import operator
 import os
 from array import array
@@ -42,7 +35,6 @@ from typing import (
     Dict,
     Hashable,
     Iterable,
-    Iterator,
     List,
     NamedTuple,
     Optional,
@@ -76,9 +68,6 @@ ANSWER_NUMBERS = 5
 
 #: The largest limit of sifting rounds.
 MOST_ROUNDS = 1000
-
-#: The most vertices whose orders are listed.
-LISTED_VERTICES = 8
 
 #: The limit that the program ringlist takes.
 LIMIT = 50
@@ -122,8 +111,6 @@ class Refusal(enum.IntEnum):
     CHART_WEIGHTS = 24
     WEIGHT_OUT_OF_RANGE = 25
     GRAPH6_WEIGHTS = 26
-    TOO_MANY_VERTICES = 27
-    NO_SUCH_ORDER = 28
 
 
 #: The question that each refusal answers "no".
@@ -152,8 +139,6 @@ QUESTIONS: Dict[int, str] = {
     Refusal.CHART_WEIGHTS: "has the body of field 57 one byte for each edge?",
     Refusal.WEIGHT_OUT_OF_RANGE: "is each weight a whole number from 1 to 255?",
     Refusal.GRAPH6_WEIGHTS: "does each edge weigh 1 (a graph6 has no weights)?",
-    Refusal.TOO_MANY_VERTICES: "are there at most 8 vertices (the orders of more are not listed)?",
-    Refusal.NO_SUCH_ORDER: "is the index below the number of orders?",
 }
 
 
@@ -235,10 +220,6 @@ class _EdgesCounted(ctypes.Structure):
     _fields_ = [("refusal", c_uint8), ("edges", c_size_t)]
 
 
-class _LeastFound(ctypes.Structure):
-    _fields_ = [("refusal", c_uint8), ("crossings", c_uint64)]
-
-
 class _Played(ctypes.Structure):
     _fields_ = [("refusal", c_uint8), ("layout", Fields), ("calls", c_size_t)]
 
@@ -262,8 +243,6 @@ _FUNCTIONS: Dict[str, Tuple[Any, List[Any]]] = {
     "rl_write_chart": (_Written, [ctypes.POINTER(Fields), ctypes.POINTER(c_uint8), c_size_t]),
     "rl_export_graph6": (_Written, [ctypes.POINTER(Fields), ctypes.POINTER(c_uint8), c_size_t]),
     "rl_edge_crossings": (_EdgesCounted, [ctypes.POINTER(Fields), ctypes.POINTER(c_uint64), c_size_t]),
-    "rl_order_at": (c_uint8, [ctypes.POINTER(Fields), c_size_t, ctypes.POINTER(c_uint8), c_size_t]),
-    "rl_least_crossings": (_LeastFound, [ctypes.POINTER(Fields), ctypes.POINTER(c_uint8), c_size_t]),
     "rl_is_valid": (c_bool, [ctypes.POINTER(Fields)]),
     "rl_list_chart": (c_size_t, [c_char_p, c_size_t, ctypes.POINTER(c_uint8), c_size_t]),
     "rl_play": (
@@ -292,9 +271,6 @@ def _load() -> ctypes.CDLL:
         missing = " and ".join(str(path) for path in paths)
         raise ImportError(f"no shared library: {missing} not there; ./build library makes it")
     library = ctypes.CDLL(str(path.resolve()))
-    lacking = _lacking(library)
-    if lacking:
-        raise ImportError(f"{path} lacks {', '.join(lacking)}: it is of another version than this module")
     for name, (answer, arguments) in _FUNCTIONS.items():
         function = getattr(library, name)
         function.restype = answer
@@ -302,11 +278,6 @@ def _load() -> ctypes.CDLL:
     if not _fits(library):
         raise ImportError(f"{path} has layouts of another size: it is of another version than this module")
     return library
-
-
-def _lacking(library: Any) -> List[str]:
-    """The functions that the library lacks."""
-    return [name for name in _FUNCTIONS if not hasattr(library, name)]
 
 
 def _fits(library: Any) -> bool:
@@ -348,8 +319,7 @@ def _number(value: int, most: int) -> int:
     """A whole number as the library takes it.
 
     One that the library cannot take becomes the highest that it can, which no
-    call accepts: there is no such vertex and no such order, and the limit is out
-    of range.
+    call accepts: there is no such vertex, and the limit is out of range.
     """
     value = operator.index(value)
     return value if 0 <= value <= most else most
@@ -410,15 +380,6 @@ class Convergence(NamedTuple):
     converged: bool
     #: The summed optima of all rounds, the last one included.
     optima: int
-
-
-class Least(NamedTuple):
-    """The least crossings that any order has, and an order that has them."""
-
-    #: The crossings, each counted as the product of its two edges' weights. No order has fewer.
-    crossings: int
-    #: The first of Layout.orders() that has them.
-    order: List[Any]
 
 
 class Row(NamedTuple):
@@ -644,22 +605,22 @@ class Layout:
         """Writes the order to the first n bytes of the buffer; the others keep what they hold."""
         _accept(self._write(_library.rl_order, buffer))
 
-    def _write(self, call: Callable[..., Any], buffer: bytearray, *named: int) -> Any:
-        """What a call answers that writes to a lent buffer, with the numbers that it names."""
+    def _write(self, call: Callable[..., Any], buffer: bytearray) -> Any:
+        """What a call answers that writes to a lent buffer."""
         if not isinstance(buffer, bytearray):
             # Another kind of buffer might be part of the layout itself.
             raise TypeError("the buffer is to be a bytearray")
-        return self._lend(call, buffer, c_uint8, *named)
+        return self._lend(call, buffer, c_uint8)
 
-    def _lend(self, call: Callable[..., Any], held: _Lent, entry: Any, *named: int) -> Any:
-        """What a call answers that is lent a buffer or table of such entries, with the numbers that it names.
+    def _lend(self, call: Callable[..., Any], held: _Lent, entry: Any) -> Any:
+        """What a call answers that is lent a buffer or table of such entries.
 
         It is looked at when nothing holds the buffer any more: a traceback that
         did would keep the buffer from changing its size.
         """
         # The buffer of no entries may be at any address; a new one is aligned.
         lent = (entry * len(held)).from_buffer(held) if held else (entry * 0)()
-        return call(self.fields, *named, lent, len(held))
+        return call(self.fields, lent, len(held))
 
     def first_crossing(self) -> Optional[Tuple[Edge, Edge]]:
         """The first two edges that cross (document 01: shown crossing pair), or None.
@@ -734,47 +695,6 @@ class Layout:
         answer = self._lend(_library.rl_edge_crossings, table, c_uint64)
         _accept(answer.refusal)
         return answer.edges
-
-    def orders(self) -> Iterator[List[int]]:
-        """Every order in which vertex 0 stands first, in dictionary order (document 02, Note 10).
-
-        There are (n − 1)! of them, and one for no vertices. Every other order is one
-        of these, turned. More than LISTED_VERTICES vertices are refused. The layout's
-        own order plays no part, and the layout may change meanwhile.
-        """
-        held = self.copy()
-        # Where the first one is refused, all are: here, and not where the first one is taken.
-        held.order_at(0)
-        return map(held.order_at, range(math.factorial(max(held.fields.n - 1, 0))))
-
-    def order_at(self, index: int) -> List[int]:
-        """The order with this index, counted from 0, among orders()."""
-        buffer = bytearray(LISTED_VERTICES)
-        self.write_order_at(index, buffer)
-        return list(buffer[: self.fields.n])
-
-    def write_order_at(self, index: int, buffer: bytearray) -> None:
-        """Writes the order with this index to the first n bytes of the buffer; the others keep what they hold."""
-        _accept(self._write(_library.rl_order_at, buffer, _number(index, 2**64 - 1)))
-
-    def least_crossings(self) -> Least:
-        """The least crossings that any order has, and the first of orders() that has them.
-
-        More than LISTED_VERTICES vertices are refused. The layout's own order and
-        its carried count play no part, and stay.
-        """
-        buffer = bytearray(LISTED_VERTICES)
-        crossings = self.write_least_crossings(buffer)
-        return Least(crossings, list(buffer[: self.fields.n]))
-
-    def write_least_crossings(self, buffer: bytearray) -> int:
-        """Gives the least crossings, and writes the first order that has them to the first n bytes of the buffer.
-
-        The others keep what they hold.
-        """
-        answer = self._write(_library.rl_least_crossings, buffer)
-        _accept(answer.refusal)
-        return answer.crossings
 
     def is_valid(self) -> bool:
         """Whether the layout is valid (document 01: whole)."""
@@ -952,15 +872,6 @@ def _attributed(graph: Graph, name: str) -> List[Tuple[Hashable, Hashable, Any]]
     return [(a, b, 1 if weight is lacking else weight) for a, b, weight in edges]
 
 
-def _labels(
-    vertices: Iterable[Hashable], nodes: Iterable[Hashable], edges: Iterable[Tuple[Hashable, Hashable, Any]]
-) -> List[Hashable]:
-    """The vertices in the sequence of their numbers; asks whether there can be so many."""
-    labels = list(dict.fromkeys([*vertices, *nodes, *_ends(edges)]))
-    _ask_room(len(labels))
-    return labels
-
-
 def _numbered(
     labels: Sequence[Hashable], edges: Iterable[Tuple[Hashable, Hashable, Any]]
 ) -> List[Tuple[int, int, Any]]:
@@ -1016,7 +927,8 @@ def layout(
     graph has, or beside edges by themselves, and last for an edge of two weights.
     """
     nodes, edges = _parts(graph, weight)
-    labels = _labels(vertices, nodes, edges)
+    labels = list(dict.fromkeys([*vertices, *nodes, *_ends(edges)]))
+    _ask_room(len(labels))
     numbers = _numbered(labels, edges)
     _ask_run(labels, start, limit)
     held = _held(labels, numbers)
@@ -1028,28 +940,6 @@ def layout(
 
 #: Document 01's word for it.
 settle = layout
-
-
-def least_crossings(
-    graph: GraphOrEdges, vertices: Iterable[Hashable] = (), weight: Optional[str] = None
-) -> Least:
-    """The least crossings that any order of a graph's vertices has, of up to eight vertices.
-
-    The graph, `vertices` and `weight` are what `layout` takes. The order is the first
-    that has them among all in which the first vertex stands first, in dictionary order
-    of the vertices' numbers (document 02, Note 10); it holds the vertices as they were
-    given.
-
-    Raises Refused as `layout` does (16, 13), then for more than eight vertices (27) and
-    last for a weight (25); ValueError as `layout` does.
-    """
-    nodes, edges = _parts(graph, weight)
-    labels = _labels(vertices, nodes, edges)
-    numbers = _numbered(labels, edges)
-    if len(labels) > LISTED_VERTICES:
-        raise Refused(Refusal.TOO_MANY_VERTICES, f"({len(labels)} vertices)")
-    least = _held(labels, numbers).least_crossings()
-    return least._replace(order=[labels[v] for v in least.order])
 
 
 class Move(NamedTuple):

@@ -266,8 +266,6 @@ class LayoutTest(RefusedCalls):
             (layout.write_chart, bytearray(1)),
             (layout.export_graph6, bytearray(1)),
             (layout.write_edge_crossings, array("Q", [0])),
-            (lambda buffer: layout.write_order_at(0, buffer), bytearray(1)),
-            (layout.write_least_crossings, bytearray(1)),
         ):
             try:
                 write(short)
@@ -317,8 +315,6 @@ class LayoutTest(RefusedCalls):
             layout.chart,
             layout.graph6,
             layout.edge_crossings,
-            layout.orders,
-            layout.least_crossings,
             layout.row,
         ):
             self.refuses(Refusal.INVALID_LAYOUT, call)
@@ -328,9 +324,6 @@ class LayoutTest(RefusedCalls):
         self.refuses(Refusal.INVALID_LAYOUT, layout.write_chart, bytearray())
         self.refuses(Refusal.INVALID_LAYOUT, layout.export_graph6, bytearray())
         self.refuses(Refusal.INVALID_LAYOUT, layout.write_edge_crossings, array("Q"))
-        self.refuses(Refusal.INVALID_LAYOUT, layout.order_at, 0)
-        self.refuses(Refusal.INVALID_LAYOUT, layout.write_order_at, 0, bytearray())
-        self.refuses(Refusal.INVALID_LAYOUT, layout.write_least_crossings, bytearray())
         self.assertEqual(layout, before)
 
     def test_a_copy_is_another_layout(self):
@@ -790,184 +783,6 @@ class WeightTest(RefusedCalls):
         self.assertEqual(rostulanda.layout(graph, weight="wieght").edges, 0)
 
 
-def every_order(n):
-    """Every order of n vertices with vertex 0 first, in dictionary order."""
-    return [[*range(min(n, 1)), *rest] for rest in itertools.permutations(range(1, n))]
-
-
-def least_of(n, weights):
-    """The least crossings and the first order that has them, from the definition."""
-    return min(((crossings(order, weights), order) for order in every_order(n)), key=lambda found: found[0])
-
-
-def bipartite(a, b):
-    """All pairs of one of a vertices and one of b others."""
-    return list(itertools.product(range(a), range(a, a + b)))
-
-
-class SmallLayoutTest(RefusedCalls):
-    def isolated(self, n):
-        return Layout.from_edges([], n=n)
-
-    def test_every_order_is_listed(self):
-        numbers = (1, 1, 1, 2, 6, 24, 120, 720, 5040)
-        self.assertEqual(len(numbers), rostulanda.LISTED_VERTICES + 1)
-        for n, number in enumerate(numbers):
-            layout = Layout.from_edges([], order=range(n)[::-1])
-            orders = list(layout.orders())
-            self.assertEqual(len(orders), number)
-            self.assertEqual(orders, every_order(n))
-            self.assertTrue(all(one < other for one, other in zip(orders, orders[1:])))
-            self.assertEqual(layout.order_at(number - 1), orders[-1])
-            self.refuses(Refusal.NO_SUCH_ORDER, layout.order_at, number)
-
-    def test_orders_are_those_of_the_vertices_at_the_call(self):
-        layout = Layout.from_edges([(0, 2), (1, 3)], order=[3, 1, 0, 2])
-        orders = layout.orders()
-        self.assertEqual(next(orders), [0, 1, 2, 3])
-        layout.add_vertex()
-        layout.fields.order[0] = 77
-        self.assertEqual(list(orders), every_order(4)[1:])
-
-    def test_an_index_that_the_library_cannot_take(self):
-        layout = self.isolated(4)
-        invalid = self.isolated(9)
-        invalid.fields.order[0] = 8
-        for index in (-1, -6, 6, 2**32, 2**64 - 1, 2**64, 2**64 + 5, -(2**64)):
-            for refusal, held in (
-                (Refusal.NO_SUCH_ORDER, layout),
-                (Refusal.TOO_MANY_VERTICES, self.isolated(9)),
-                (Refusal.INVALID_LAYOUT, invalid),
-            ):
-                self.refuses(refusal, held.order_at, index)
-                self.refuses(refusal, held.write_order_at, index, bytearray())
-        for index in (1.5, "0", None):
-            with self.assertRaises(TypeError):
-                layout.order_at(index)
-
-    def test_questions_come_in_their_sequence(self):
-        for n in (rostulanda.LISTED_VERTICES + 1, rostulanda.PLACES):
-            layout = self.isolated(n)
-            for call in (layout.orders, layout.least_crossings):
-                self.refuses(Refusal.TOO_MANY_VERTICES, call, words="at most 8 vertices")
-            for length, index in itertools.product((0, n), (0, 2**64 - 1)):
-                self.refuses(Refusal.TOO_MANY_VERTICES, layout.write_order_at, index, bytearray(length))
-                self.refuses(Refusal.TOO_MANY_VERTICES, layout.write_least_crossings, bytearray(length))
-            self.assertEqual(layout, self.isolated(n))
-            layout.fields.order[0] = 1
-            self.refuses(Refusal.INVALID_LAYOUT, layout.write_order_at, 2**64 - 1, bytearray())
-            self.refuses(Refusal.INVALID_LAYOUT, layout.write_least_crossings, bytearray())
-        layout = self.isolated(4)
-        for length in range(4):
-            short = bytearray([77] * length)
-            self.refuses(Refusal.NO_SUCH_ORDER, layout.write_order_at, 6, short)
-            self.refuses(Refusal.BUFFER_TOO_SHORT, layout.write_order_at, 5, short)
-            self.refuses(Refusal.BUFFER_TOO_SHORT, layout.write_least_crossings, short)
-            self.assertEqual(short, bytes([77] * length))
-
-    def test_orders_go_into_a_lent_buffer(self):
-        layout = Layout.from_chart(CHART)
-        for beyond in ([], [77]):
-            buffer = bytearray([77] * 4 + beyond)
-            layout.write_order_at(3, buffer)
-            self.assertEqual(buffer, bytes([0, 2, 3, 1, *beyond]))
-            self.assertEqual(layout.write_least_crossings(buffer), 0)
-            self.assertEqual(buffer, bytes([0, 1, 3, 2, *beyond]))
-        Layout().write_order_at(0, bytearray())
-        self.assertEqual(Layout().write_least_crossings(bytearray()), 0)
-        for write in (layout.write_least_crossings, lambda buffer: layout.write_order_at(0, buffer)):
-            with self.assertRaises(TypeError):
-                write(memoryview(layout.fields.order))
-
-    def test_the_least_of_known_graphs(self):
-        # Each four vertices of a complete graph make one crossing, whatever the order.
-        for n, fours in enumerate((0, 0, 0, 0, 1, 5, 15, 35, 70)):
-            pairs = list(itertools.combinations(range(n), 2))
-            for weight in (1, 3, 255):
-                layout = Layout.from_edges([(a, b, weight) for a, b in pairs], n=n)
-                self.assertEqual(layout.least_crossings(), (fours * weight**2, list(range(n))))
-        for a, b, least in ((3, 3, 3), (4, 4, 16), (2, 4, 2), (2, 6, 6), (1, 7, 0)):
-            weights = dict.fromkeys(bipartite(a, b), 1)
-            due = least_of(a + b, weights)
-            self.assertEqual(due[0], least)
-            self.assertEqual(Layout.from_edges(list(weights)).least_crossings(), due)
-            heavy = Layout.from_edges([(v, w, 255) for v, w in weights])
-            self.assertEqual(heavy.least_crossings(), (least * 255**2, due[1]))
-
-    def test_the_least_goes_by_weights(self):
-        # In each order one pair of edges without a common end crosses.
-        edges = [(0, 2, 9), (1, 3, 2), (0, 1, 9), (2, 3, 9), (0, 3, 9), (1, 2, 1)]
-        layout = Layout.from_edges(edges)
-        self.assertEqual((layout.count(), layout.least_crossings()), (18, (9, [0, 1, 3, 2])))
-        self.assertEqual(Layout.from_edges(layout.edges()).least_crossings(), (1, [0, 1, 2, 3]))
-
-    def test_the_least_of_random_graphs(self):
-        chance = random.Random(10)
-        reached = Counter()
-        for n in (2, 3, 4, *[5, 6] * 8, *[7] * 4, 8):
-            weights = random_weights(chance, n, 0.5)
-            due = least_of(n, weights)
-            order = chance.sample(range(n), n)
-            layout = Layout.from_edges(triples(weights), n=n, order=order)
-            layout.fields.count = chance.choice((0, 2**64 - 1))
-            before = layout.copy()
-            self.assertEqual(layout.least_crossings(), due)
-            self.assertEqual(layout, before)
-            # It cannot be bettered, and settling never gives fewer.
-            checked = rostulanda.check_row(triples(weights), due[1], due[0])
-            self.assertEqual(checked, (due[0], True, None))
-            row = layout.row()
-            self.assertGreaterEqual(row.after, due[0])
-            reached[row.after == due[0]] += 1
-        self.assertGreater(min(reached[True], reached[False]), 0)
-
-    def test_the_least_of_a_graph(self):
-        edges = [("a", "c"), ("b", "d"), ("c", "a")]
-        self.assertEqual(rostulanda.least_crossings(edges), (0, ["a", "c", "b", "d"]))
-        self.assertEqual(rostulanda.least_crossings(edges, vertices="abcd"), (0, ["a", "b", "d", "c"]))
-        self.assertEqual(rostulanda.least_crossings([]), (0, []))
-        self.assertEqual(rostulanda.least_crossings([], vertices="a"), (0, ["a"]))
-        heavy = [("a", "c", 9), ("b", "d", 2), ("a", "b", 9), ("c", "d", 9), ("a", "d", 9), ("b", "c")]
-        self.assertEqual(rostulanda.least_crossings(heavy, "abcd"), (9, ["a", "b", "d", "c"]))
-
-    def test_what_is_refused_of_a_graph(self):
-        nine = [(i, i + 1, 0) for i in range(8)]
-        for edges, refusal, words in (
-            ([*nine, *[(i, i + 1) for i in range(64)], (0, 0)], Refusal.NO_ROOM, "(65 vertices)"),
-            ([*nine, (0, 0)], Refusal.SAME_VERTEX, "0 is joined to itself"),
-            (nine, Refusal.TOO_MANY_VERTICES, "(9 vertices)"),
-            (nine[1:], Refusal.WEIGHT_OUT_OF_RANGE, "(edge 1-2 weighs 0)"),
-        ):
-            self.refuses(refusal, rostulanda.least_crossings, edges, words=words)
-        for edges, weight, words in (
-            ([(0, 1)], "weight", "triples with a weight"),
-            ([(0, 1, 2), (1, 0, 3)], None, "comes with two weights, 2 and 3"),
-        ):
-            with self.assertRaises(ValueError) as caught:
-                rostulanda.least_crossings(edges, weight=weight)
-            self.assertIn(words, str(caught.exception))
-
-    @unittest.skipIf(networkx is None, "networkx is not installed")
-    def test_the_least_of_a_networkx_graph(self):
-        graph = networkx.complete_bipartite_graph(3, 3)
-        due = least_of(6, dict.fromkeys(bipartite(3, 3), 1))
-        self.assertEqual(rostulanda.least_crossings(graph), due)
-        named = networkx.relabel_nodes(graph, dict(enumerate("uvwxyz")))
-        least = rostulanda.least_crossings(named)
-        self.assertEqual(least, (3, ["uvwxyz"[v] for v in due[1]]))
-        graph.add_nodes_from(["s", "t"])
-        self.assertEqual(rostulanda.least_crossings(graph).crossings, 3)
-        for a, b in bipartite(3, 3):
-            graph[a][b]["cost"] = 1 + (a + b) % 5
-        weights = {edge: 1 + sum(edge) % 5 for edge in bipartite(3, 3)}
-        least = rostulanda.least_crossings(graph, weight="cost")
-        self.assertEqual(least.crossings, least_of(6, weights)[0])
-        checked = rostulanda.check_row(graph, least.order, least.crossings, weight="cost")
-        self.assertEqual(checked, (least.crossings, True, None))
-        graph.add_node("u")
-        self.refuses(Refusal.TOO_MANY_VERTICES, rostulanda.least_crossings, graph, words="(9 vertices)")
-
-
 class GraphTest(unittest.TestCase):
     def test_any_hashable_vertex(self):
         row = rostulanda.layout([("a", ("c", 1)), ("b", 4.5), (("c", 1), "a")])
@@ -1216,17 +1031,6 @@ class ChartAndListTest(unittest.TestCase):
 
 
 class LibraryTest(unittest.TestCase):
-    def test_a_library_that_lacks_a_function_is_noticed(self):
-        class Library:
-            """It has all functions but one."""
-
-            def __getattr__(self, name):
-                if name == "rl_order_at" or name not in rostulanda._FUNCTIONS:
-                    raise AttributeError(name)
-
-        self.assertEqual(rostulanda._lacking(Library()), ["rl_order_at"])
-        self.assertEqual(rostulanda._lacking(rostulanda._library), [])
-
     def test_a_library_with_layouts_of_another_size_is_noticed(self):
         size = ctypes.sizeof(rostulanda.Fields)
         for held, fits in ((size - 4096, False), (size, True), (size + 8, False)):

@@ -5,8 +5,7 @@ use std::fmt::Write;
 use std::mem::{offset_of, size_of};
 
 use crate::ffi::{
-    Convergence, Counted, Crossing, EdgesCounted, LeastFound, Played, Round, Sifted, Tally, Vertex,
-    Written,
+    Convergence, Counted, Crossing, EdgesCounted, Played, Round, Sifted, Tally, Vertex, Written,
 };
 use crate::refusal::REFUSALS;
 use crate::{Edge, Fields};
@@ -36,7 +35,6 @@ pub fn text() -> String {
     lines_of!(lines, "rl_crossing", Crossing, refusal found first second);
     lines_of!(lines, "rl_written", Written, refusal length);
     lines_of!(lines, "rl_edges_counted", EdgesCounted, refusal edges);
-    lines_of!(lines, "rl_least_found", LeastFound, refusal crossings);
     lines_of!(lines, "rl_played", Played, refusal layout calls);
     for refusal in REFUSALS {
         let name = c_name(&format!("{refusal:?}"));

@@ -22,9 +22,6 @@ pub const MOST_EDGES: usize = 2016;
 /// The largest limit of sifting rounds.
 pub const MOST_ROUNDS: u32 = 1000;
 
-/// The most vertices whose orders are listed.
-pub const LISTED_VERTICES: usize = 8;
-
 /// The numbers of each call of a list: which it is, and what it names.
 pub const CALL_NUMBERS: usize = 4;
 
@@ -95,12 +92,6 @@ pub struct EdgesCounted {
 }
 
 #[repr(C)]
-pub struct LeastFound {
-    pub refusal: u8,
-    pub crossings: u64,
-}
-
-#[repr(C)]
 pub struct Played {
     pub refusal: u8,
     pub layout: Fields,
@@ -127,8 +118,6 @@ unsafe extern "C" {
     pub unsafe fn rl_write_chart(l: &Fields, buffer: *mut u8, length: usize) -> Written;
     pub unsafe fn rl_export_graph6(l: &Fields, buffer: *mut u8, length: usize) -> Written;
     pub unsafe fn rl_edge_crossings(l: &Fields, table: *mut u64, length: usize) -> EdgesCounted;
-    pub unsafe fn rl_order_at(l: &Fields, index: usize, buffer: *mut u8, length: usize) -> u8;
-    pub unsafe fn rl_least_crossings(l: &Fields, buffer: *mut u8, length: usize) -> LeastFound;
     unsafe fn rl_list_chart(
         chart: *const u8,
         length: usize,
@@ -176,16 +165,6 @@ pub fn export_graph6(l: &Fields, buffer: &mut [u8]) -> Written {
 pub fn edge_crossings(l: &Fields, table: &mut [u64]) -> EdgesCounted {
     // SAFETY: pointer and length are those of a slice.
     unsafe { rl_edge_crossings(l, table.as_mut_ptr(), table.len()) }
-}
-
-pub fn order_at(l: &Fields, index: usize, buffer: &mut [u8]) -> u8 {
-    // SAFETY: pointer and length are those of a slice.
-    unsafe { rl_order_at(l, index, buffer.as_mut_ptr(), buffer.len()) }
-}
-
-pub fn least_crossings(l: &Fields, buffer: &mut [u8]) -> LeastFound {
-    // SAFETY: pointer and length are those of a slice.
-    unsafe { rl_least_crossings(l, buffer.as_mut_ptr(), buffer.len()) }
 }
 
 pub fn list_chart(chart: &[u8], out: &mut [u8]) -> usize {

@@ -286,7 +286,8 @@ impl Layout {
     pub fn order(&self) -> Result<Vec<usize>, Refusal> {
         let mut buffer = [0; PLACES];
         self.write_order(&mut buffer)?;
-        Ok(vertices(&buffer[..self.fields.n]))
+        let used = &buffer[..self.fields.n];
+        Ok(used.iter().map(|&v| usize::from(v)).collect())
     }
 
     /// Writes the order to the first n bytes of the buffer; the others keep
@@ -416,11 +417,6 @@ pub(crate) fn with_unit_weights(edges: &[(usize, usize)]) -> Vec<(usize, usize, 
     edges.iter().map(|&(a, b)| (a, b, 1)).collect()
 }
 
-/// The vertices that bytes hold.
-pub(crate) fn vertices(bytes: &[u8]) -> Vec<usize> {
-    bytes.iter().map(|&v| usize::from(v)).collect()
-}
-
 /// A number of vertices, or vertices, as bytes: 255, which neither can be, for
 /// one that is no byte.
 fn bytes(numbers: &[usize]) -> Vec<u8> {
@@ -458,7 +454,7 @@ mod tests {
     use std::fmt::Debug;
 
     use super::*;
-    use crate::{complete, scattered, FIRST_CHART, FIRST_GRAPH6};
+    use crate::{scattered, FIRST_CHART, FIRST_GRAPH6};
 
     fn first() -> Layout {
         Layout::from_chart(FIRST_CHART).unwrap()
@@ -467,6 +463,13 @@ mod tests {
     /// The first layout, with the weights 200 and 100.
     fn heavy() -> Layout {
         Layout::from_weighted_edges(4, &[(2, 0, 200), (1, 3, 100)]).unwrap()
+    }
+
+    /// n vertices and all edges, each of one weight.
+    fn complete(n: usize, weight: u8) -> Layout {
+        let pairs = |a| (a + 1..n).map(move |b| (a, b, weight));
+        let edges: Vec<_> = (0..n).flat_map(pairs).collect();
+        Layout::from_weighted_edges(n, &edges).unwrap()
     }
 
     #[test]
@@ -1047,11 +1050,6 @@ mod tests {
         assert_eq!(layout.export_graph6(&mut []).map(drop), refused);
         assert_eq!(layout.edge_crossings().map(drop), refused);
         assert_eq!(layout.write_edge_crossings(&mut []).map(drop), refused);
-        assert_eq!(layout.order_at(0).map(drop), refused);
-        assert_eq!(layout.write_order_at(0, &mut []).map(drop), refused);
-        assert_eq!(layout.orders().map(drop), refused);
-        assert_eq!(layout.least_crossings().map(drop), refused);
-        assert_eq!(layout.write_least_crossings(&mut []).map(drop), refused);
         assert_eq!(layout.edges().len(), 64 * 63 / 2);
         assert_eq!(layout, before);
     }

@@ -31,19 +31,6 @@
 //! # Ok::<(), rostulanda::Refusal>(())
 //! ```
 //!
-//! Of up to eight vertices every order is listed, and the true minimum found
-//! (document 02, Note 10).
-//!
-//! ```
-//! use rostulanda::Layout;
-//!
-//! let layout = Layout::from_edges(4, &[(0, 2), (1, 3)])?;
-//! assert_eq!(layout.orders()?.len(), 6);
-//! let least = layout.least_crossings()?;
-//! assert_eq!((least.crossings, least.order), (0, vec![0, 1, 3, 2]));
-//! # Ok::<(), rostulanda::Refusal>(())
-//! ```
-//!
 //! The words are those of graph drawing; document 01's stand beside them once.
 
 #[doc(hidden)]
@@ -53,27 +40,15 @@ mod check;
 pub mod ffi;
 mod layout;
 mod list;
-mod orders;
 mod refusal;
 mod row;
 
 pub use check::{check_row, check_weighted_row, Checked, Move};
-pub use ffi::{
-    GRAPH6_BYTES, LISTED_VERTICES, MOST_EDGES, MOST_ROUNDS, PLACES, WRITTEN_CHART_BYTES,
-};
+pub use ffi::{GRAPH6_BYTES, MOST_EDGES, MOST_ROUNDS, PLACES, WRITTEN_CHART_BYTES};
 pub use layout::{Convergence, Edge, Fields, Layout, Round, Sifted};
 pub use list::{play, Answer, Call, Played, Start};
-pub use orders::Least;
 pub use refusal::Refusal;
 pub use row::{list_chart, Row};
-
-/// n vertices and all edges, each of one weight.
-#[cfg(test)]
-fn complete(n: usize, weight: u8) -> Layout {
-    let pairs = |a| (a + 1..n).map(move |b| (a, b, weight));
-    let edges: Vec<_> = (0..n).flat_map(pairs).collect();
-    Layout::from_weighted_edges(n, &edges).unwrap()
-}
 
 /// One edge in so many of n vertices, with weights from 1 to 255.
 #[cfg(test)]

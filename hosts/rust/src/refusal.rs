@@ -71,8 +71,6 @@ refusals! {
     ChartWeights 24 "has the body of field 57 one byte for each edge?"
     WeightOutOfRange 25 "is each weight a whole number from 1 to 255?"
     Graph6Weights 26 "does each edge weigh 1 (a graph6 has no weights)?"
-    TooManyVertices 27 "are there at most 8 vertices (the orders of more are not listed)?"
-    NoSuchOrder 28 "is the index below the number of orders?"
 }
 
 /// The value, unless the code says that the call was refused.

@@ -116,7 +116,6 @@ mod tests {
     use crate::naive::list::listing;
     use crate::naive::play::play;
     use crate::sifted;
-    use crate::small;
     use crate::written;
 
     /// Document 01's first ring.
@@ -144,8 +143,7 @@ mod tests {
                     check_line(step)?;
                     written::check_line(step)?;
                     imported::check_line(step)?;
-                    sifted::check_line(step)?;
-                    small::check_line(step)
+                    sifted::check_line(step)
                 };
                 assert_eq!(check_lines(&made.bytes, &lines, check), Ok(()));
                 let again = |last: &Step, step: &Step| {
@@ -303,21 +301,6 @@ mod tests {
                 "order 18 buffer 7 7 7 n 4",
                 "order 18 buffer 0 1 2 n 4",
             ),
-            (
-                [NTH, 6, 3, 7],
-                "nth 28 buffer 7 7 7 n 4",
-                "nth 18 buffer 7 7 7 n 4",
-            ),
-            (
-                [NTH, 5, 3, 7],
-                "nth 18 buffer 7 7 7 n 4",
-                "nth 18 buffer 0 3 2 n 4",
-            ),
-            (
-                [LEAST, 3, 7, 0],
-                "least 18 0 buffer 7 7 7 n 4",
-                "least 18 6 buffer 7 7 7 n 4",
-            ),
         ] {
             let (list, lines) = played(&heavy(&[2, 3]), &[call]);
             let turned = format!("{refused} order 1 2 3 0");
@@ -339,25 +322,17 @@ mod tests {
             [COUNT, 0, 0, 0],
             [ORDER, 5, 7, 0],
             [PAIR, 0, 0, 0],
-            [NTH, 3, 5, 7],
-            [LEAST, 5, 7, 0],
             [SET_N, 5, 0, 0],
             [ROUND, 0, 0, 0],
-            [34, 0, 0, 0],
+            [31, 0, 0, 0],
         ];
         let (list, lines) = played(&square(), &calls);
         for change in [
             (2, "count 0 1 n", "count 0 0 n"),
             (3, "buffer 0 1 2 3 7 n", "buffer 0 1 2 3 0 n"),
             (4, "pair 0 pair 0 2 1 3 n", "pair 0 none n"),
-            (5, "buffer 0 2 3 1 7 n", "buffer 0 2 1 3 7 n"),
-            (5, "buffer 0 2 3 1 7 n", "buffer 0 2 3 1 0 n"),
-            (6, "least 0 0 buffer", "least 0 1 buffer"),
-            (6, "buffer 0 1 3 2 7 n", "buffer 0 3 1 2 7 n"),
-            (6, "buffer 0 1 3 2 7 n", "buffer 0 2 1 3 7 n"),
-            (6, "buffer 0 1 3 2 7 n", "buffer 0 1 3 2 0 n"),
-            (7, "round 11 0 0 0 n", "round 0 0 0 8 n"),
-            (8, "end\n", "empty 0 n 5\n"),
+            (5, "round 11 0 0 0 n", "round 0 0 0 8 n"),
+            (6, "end\n", "empty 0 n 5\n"),
         ] {
             change_found(&list, &lines, check_line, change);
         }

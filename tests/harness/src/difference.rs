@@ -244,28 +244,6 @@ mod tests {
     }
 
     #[test]
-    fn least_crossings_and_an_order_are_told() {
-        let one = "least 0 3 buffer 0 3 1 7 n 3 order 0 1 2 count 1 words\n";
-        let other = one.replace("3 buffer 0 3 1", "4 buffer 0 1 3");
-        let due = [
-            "word 3, the least crossings: 3 against 4",
-            "word 6, byte 1 of the buffer: 3 against 1",
-            "word 7, byte 2 of the buffer: 1 against 3",
-        ];
-        assert_eq!(
-            found(Answers, one, &other),
-            (1, due.map(String::from).to_vec())
-        );
-        let one = "nth 0 buffer 0 2 1 n 3 order 0 1 2 count 1 words\n";
-        let other = one.replace("nth 0", "nth 28").replace(" 1 n", " n");
-        let due = [
-            "word 2, the refusal number: 0 against 28",
-            "word 6, byte 2 of the buffer: 1 against nothing",
-        ];
-        assert_eq!(found(Answers, one, &other).1, due);
-    }
-
-    #[test]
     fn another_import_is_told() {
         let one = "import 0 n 4 order 0 1 2 3 count 1 words 0 4 1 8 2 1 3 2\n";
         for (to, due) in [
@@ -391,19 +369,6 @@ mod tests {
             "word 15, weight of 0 towards 1: 2 against 3",
         ];
         are_planted(output, &due.map(|due| (1, due)));
-    }
-
-    #[test]
-    fn planted_orders_and_least_crossings_are_found() {
-        let output = "nth 0 buffer 0 2 1 n 3\nleast 0 9 buffer 0 1 7 n 2\nleast 27 0 buffer n 9\n";
-        let due = [
-            (1, "word 2, the refusal number: 0 against 1"),
-            (1, "word 5, byte 1 of the buffer: 2 against 3"),
-            (2, "word 3, the least crossings: 9 against 10"),
-            (2, "word 7, byte 2 of the buffer: 7 against 8"),
-            (3, "word 3, the least crossings: 0 against 1"),
-        ];
-        are_planted(output, &due);
     }
 
     #[test]

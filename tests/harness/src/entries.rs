@@ -47,7 +47,7 @@ fn take<'a>(list: &mut &'a [u8]) -> Entry<'a> {
     match record[0] {
         CHART => take_padded(list, record[1]).map_or(cut("chart", record), Entry::Chart),
         IMPORT => take_padded(list, record[1]).map_or(cut("import", record), Entry::Import),
-        EMPTY | SET_N..=SET_WEIGHT | ADD..=WRITE | EXPORT..=LEAST => Entry::Record(record),
+        EMPTY | SET_N..=SET_WEIGHT | ADD..=WRITE | EXPORT..=PERLINK => Entry::Record(record),
         op => Entry::Unknown(op),
     }
 }
@@ -119,9 +119,7 @@ fn record_text([op, a, b, c]: Record) -> String {
         PAIR => "pair".to_string(),
         WRITE => format!("write into {a} bytes of {b}"),
         EXPORT => format!("export into {a} bytes of {b}"),
-        PERLINK => format!("perlink into {a} entries of {b}"),
-        NTH => format!("nth {a} into {b} bytes of {c}"),
-        _ => format!("least into {a} bytes of {b}"),
+        _ => format!("perlink into {a} entries of {b}"),
     }
 }
 
@@ -146,8 +144,6 @@ mod tests {
             [WRITE, 18, 0, 0],
             [EXPORT, 2, 7, 0],
             [PERLINK, 3, 7, 0],
-            [NTH, 719, 7, 256],
-            [LEAST, 8, 9, 0],
         ];
         let mut list = records.map(bytes).concat();
         list.extend(chart(&[0x44, 0, 1]));
@@ -161,8 +157,6 @@ mod tests {
             "write into 18 bytes of 0",
             "export into 2 bytes of 7",
             "perlink into 3 entries of 7",
-            "nth 719 into 7 bytes of 256",
-            "least into 8 bytes of 9",
             "chart of 3 bytes",
             "import of 2 bytes",
             "settle with limit 1000",
@@ -176,10 +170,10 @@ mod tests {
     #[test]
     fn nothing_is_read_behind_the_end() {
         let add = bytes([ADD, 0, 0, 0]);
-        let unknown = bytes([34, 0, 0, 0]);
+        let unknown = bytes([31, 0, 0, 0]);
         assert_eq!(
             texts(&[&add[..], &unknown, &add].concat()),
-            ["add", "unknown op 34"]
+            ["add", "unknown op 31"]
         );
         assert_eq!(texts(&add[..31]), ["a record cut short"]);
         let long = bytes([CHART, u64::MAX, 0, 0]);

@@ -20,7 +20,7 @@ pub struct Labelled<'a> {
 const OPTIMA: &str = "the best places";
 
 /// The answers of each call.
-const ANSWERS: [(&str, &[&str]); 11] = [
+const ANSWERS: [(&str, &[&str]); 10] = [
     ("add", &["the new vertex"]),
     ("lay", &["the tally"]),
     ("sift", &["the saving", OPTIMA]),
@@ -43,7 +43,6 @@ const ANSWERS: [(&str, &[&str]); 11] = [
     ("write", &["the length"]),
     ("export", &["the length"]),
     ("perlink", &["the number of edges"]),
-    ("least", &["the least crossings"]),
 ];
 
 /// The words of a line with what they are. The numbers of neighbour words and
@@ -178,11 +177,6 @@ mod tests {
         ];
         let table = labels(Output::Answers, "perlink 0 1 table 3 7 n 2 order 1 0");
         assert_eq!(table[2..7], due);
-        let least = labels(Output::Answers, "least 0 9 buffer 0 7 n 1 order 0");
-        let due = ["the least crossings", "`buffer`", "byte 0 of the buffer"];
-        assert_eq!(least[2..5], due);
-        let nth = labels(Output::Answers, "nth 0 buffer 0 7 n 1 order 0");
-        assert_eq!(nth[2..4], due[1..]);
         let pair = labels(Output::Answers, "pair 0 pair 1 2 3 4 n 5");
         let due = ["what is found", "the first edge's lower end"];
         assert_eq!(pair[2..4], due);

@@ -17,15 +17,13 @@ mod rng;
 mod run;
 mod side;
 mod sifted;
-mod small;
 mod tally;
 mod written;
 
 use std::io::Write;
 use std::process::ExitCode;
 
-use make::ops::NTH;
-use make::{collections, few, five, stored};
+use make::{collections, five, stored};
 use options::Options;
 use tally::{Tally, ENOUGH};
 
@@ -70,14 +68,11 @@ fn finish(options: &Options, tally: &Tally) -> ExitCode {
     ExitCode::SUCCESS
 }
 
-/// The graphs and orders that every run has, if its calls allow it.
+/// The graphs that every run has, if its calls allow it.
 fn always(options: &Options) -> String {
     let mut always = String::new();
     if five::open(&options.known) {
         always += &format!(" and all {} graphs on five vertices", five::GRAPHS);
-    }
-    if options.known.has(NTH) {
-        always += &format!(" and all orders of up to {} vertices", few::EVERY);
     }
     if collections::open(&options.known) {
         let graphs = collections::graph_count();

@@ -8,18 +8,16 @@ use crate::input::{record_of, Failure, Input, Model};
 use crate::label::Output;
 use crate::laid;
 use crate::make::collections::{self, Collection, COLLECTIONS};
-use crate::make::{charts, few, five, lists};
+use crate::make::{charts, five, lists};
 use crate::naive;
 use crate::options::Options;
 use crate::rng::Rng;
 use crate::sifted;
-use crate::small;
 use crate::tally::Tally;
 use crate::written;
 
 /// Compares all sides on all charts, unless lists are to be of some calls only,
-/// on all lists, on all graphs on five vertices, on all orders of a few vertices,
-/// and on the collections.
+/// on all lists, on all graphs on five vertices, and on the collections.
 pub fn compare(options: &Options) -> Result<Tally, Failure> {
     let mut tally = Tally::default();
     if options.only.is_none() {
@@ -37,9 +35,6 @@ pub fn compare(options: &Options) -> Result<Tally, Failure> {
         for number in 0..five::LISTS {
             compare_five(options, number)?;
         }
-    }
-    for (number, (name, list)) in few::lists(&options.known).iter().enumerate() {
-        compare_small(options, Input::list(name, number, list))?;
     }
     if collections::open(&options.known) {
         for (number, file) in COLLECTIONS.iter().enumerate() {
@@ -108,8 +103,7 @@ fn compare_list(
         }
         laid::check_tally(step)?;
         laid::check_line(step)?;
-        sifted::check_line(step)?;
-        small::check_line(step)
+        sifted::check_line(step)
     };
     let check_pair = |last: &Step, step: &Step| {
         sifted::check_again(last, step)?;
@@ -131,15 +125,10 @@ fn failed(input: &Input, (line, text): (usize, String)) -> Failure {
 
 fn compare_five(options: &Options, number: usize) -> Result<(), Failure> {
     let list = five::list(number);
-    compare_small(options, Input::list("list-of-five-vertices", number, &list))
-}
-
-/// Compares all sides and the naive model on a list of small layouts.
-fn compare_small(options: &Options, input: Input) -> Result<(), Failure> {
+    let input = Input::list("list-of-five-vertices", number, &list);
     let model: Model = naive::play::play;
-    let lines = input.compare(&options.play, Some(model), None)?;
-    let checked = check_lines(input.bytes, &lines, small::check_line);
-    checked.map_err(|found| failed(&input, found))
+    input.compare(&options.play, Some(model), None)?;
+    Ok(())
 }
 
 fn compare_collection(options: &Options, number: usize, file: &Collection) -> Result<(), Failure> {

@@ -7,7 +7,6 @@ use crate::crossings;
 use crate::graph6;
 use crate::layout::{Layout, PLACES};
 use crate::sifting::{self, Convergence, Round, Sift};
-use crate::small;
 
 /// What a call gives back.
 #[derive(Clone, Debug, PartialEq, Eq)]
@@ -149,52 +148,13 @@ pub fn count(layout: Layout) -> Answer<u64> {
     answer(layout, &[], |layout| layout.count)
 }
 
-/// The check that a lent buffer has a byte for each vertex.
-fn room_for_order(layout: &Layout, buffer: &[u8]) -> Check {
-    (buffer.len() as u64 >= layout.n, 18)
-}
-
 /// The order, written to the first n bytes of a lent buffer.
 pub fn order(layout: Layout, buffer: &mut [u8]) -> Answer<()> {
-    let room = room_for_order(&layout, buffer);
-    answer(layout, &[room], |layout| {
+    let long_enough = buffer.len() as u64 >= layout.n;
+    answer(layout, &[(long_enough, 18)], |layout| {
         let n = layout.n as usize;
         buffer[..n].copy_from_slice(&layout.order[..n]);
     })
-}
-
-/// The check that a layout is small enough for its orders to be listed.
-fn small(layout: &Layout) -> Check {
-    (layout.n <= small::MOST_VERTICES, 27)
-}
-
-/// The order with some index among all with vertex 0 first (document 02, Note
-/// 10), counted from 0, written to the first n bytes of a lent buffer.
-pub fn order_at(layout: Layout, index: u64, buffer: &mut [u8]) -> Answer<()> {
-    let listed = (index < small::number_of_orders(layout.n), 28);
-    let checks = [small(&layout), listed, room_for_order(&layout, buffer)];
-    answer(layout, &checks, |layout| {
-        let order = small::orders(layout.n as usize).nth(index as usize);
-        write_order(&order.expect("the index is below their number"), buffer);
-    })
-}
-
-/// The least crossings over all these orders, and the first of them that has
-/// these, written to the first n bytes of a lent buffer.
-pub fn least_crossings(layout: Layout, buffer: &mut [u8]) -> Answer<u64> {
-    let checks = [small(&layout), room_for_order(&layout, buffer)];
-    answer(layout, &checks, |layout| {
-        let (least, circle) = small::least_crossings(&Circle::new(layout));
-        write_order(circle.order(), buffer);
-        least
-    })
-}
-
-/// Writes an order to the first bytes of a buffer.
-fn write_order(order: &[usize], buffer: &mut [u8]) {
-    for (byte, &v) in buffer.iter_mut().zip(order) {
-        *byte = v as u8;
-    }
 }
 
 /// What is made of a layout, written to the first entries of what is lent, if

@@ -16,4 +16,3 @@ pub mod layout;
 pub mod list;
 pub mod play;
 pub mod sifting;
-pub mod small;

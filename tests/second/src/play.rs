@@ -137,38 +137,20 @@ fn call(layout: Layout, [op, a, b, c]: Record) -> Option<Told> {
             format!(" {} {} {converged} {}", c.reduction, c.rounds, c.optima)
         }),
         24 => told("count", calls::count(layout), |c| format!(" {c}")),
-        25 => read_order("order", a, b, |buffer| calls::order(layout, buffer)),
+        25 => read_order(layout, a, b),
         26 => told("pair", calls::first_crossing(layout), pair_text),
         27 => write("write", a, b, |buffer| calls::write_chart(layout, buffer)),
         29 => write("export", a, b, |buffer| calls::write_graph6(layout, buffer)),
         30 => count_each(layout, a, b),
-        31 => read_order("nth", b, c, |buffer| calls::order_at(layout, a, buffer)),
-        32 => search_least(layout, a, b),
         _ => return None,
     })
 }
 
-/// A buffer for an order, of at most 255 bytes.
-fn order_buffer(length: u64, fill: u64) -> Vec<u8> {
-    vec![fill as u8; length.min(255) as usize]
-}
-
-/// A call that writes an order and answers nothing else.
-fn read_order(
-    name: &'static str,
-    length: u64,
-    fill: u64,
-    call: impl FnOnce(&mut [u8]) -> Answer<()>,
-) -> Told {
-    let buffer = order_buffer(length, fill);
-    lent(name, " buffer", buffer, call, |()| String::new())
-}
-
-/// The call `least`, which writes the first order with the least crossings.
-fn search_least(layout: Layout, length: u64, fill: u64) -> Told {
-    let search = |buffer: &mut [u8]| calls::least_crossings(layout, buffer);
-    let buffer = order_buffer(length, fill);
-    lent("least", " buffer", buffer, search, |l| format!(" {l}"))
+/// The call `order`, into a buffer of at most 255 bytes.
+fn read_order(layout: Layout, length: u64, fill: u64) -> Told {
+    let buffer = vec![fill as u8; length.min(255) as usize];
+    let read = |buffer: &mut [u8]| calls::order(layout, buffer);
+    lent("order", " buffer", buffer, read, |()| String::new())
 }
 
 /// A call that writes the layout into a buffer and answers a length.

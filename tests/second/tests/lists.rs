@@ -95,20 +95,6 @@ fn the_worked_example_of_crossings_of_each_edge() {
 }
 
 #[test]
-fn the_worked_example_of_every_order() {
-    let calls = records(&[&[31, 4, 5, 7], &[32, 5, 7]]);
-    let list = [first_ring(), calls].concat();
-    assert_eq!(list.len(), 128);
-    let rest = format!("n 4 order {} count 1 words", places("0 1 2 3"));
-    let due = format!(
-        "chart 0 {rest} 0 4 1 8 2 1 3 2 {SQUARE}\n\
-         nth 0 buffer 0 3 1 2 7 {rest} weights\n\
-         least 0 0 buffer 0 1 3 2 7 {rest} weights\n"
-    );
-    assert_eq!(play(&list), due);
-}
-
-#[test]
 fn the_worked_example_of_weights() {
     let weighted = common::weighted_chart(&[4], &[0, 2, 1, 3], &rising(4), &[2, 3]);
     let calls = [&[17, 0, 1, 5][..], &[30, 3, 7], &[6, 0, 1, 1], &[24]];
@@ -167,15 +153,6 @@ fn a_call_that_reads_has_its_answers() {
     let refused = last_line(&[&[30, 1, u64::MAX]]);
     assert_eq!(refused, line("perlink 23 0 table 18446744073709551615"));
     assert_eq!(last_line(&[&[30, 0, 7]]), line("perlink 23 0 table"));
-    let listed = last_line(&[&[31, 3, 6, 0x1FF]]);
-    assert_eq!(listed, line("nth 0 buffer 0 2 3 1 255 255"));
-    assert_eq!(last_line(&[&[31, 6, 3, 7]]), line("nth 28 buffer 7 7 7"));
-    assert_eq!(last_line(&[&[31, 5, 3, 7]]), line("nth 18 buffer 7 7 7"));
-    assert_eq!(last_line(&[&[31, 0, 0, 7]]), line("nth 18 buffer"));
-    let searched = last_line(&[&[32, 5, 0x1FF]]);
-    assert_eq!(searched, line("least 0 0 buffer 0 1 3 2 255"));
-    assert_eq!(last_line(&[&[32, 3, 7]]), line("least 18 0 buffer 7 7 7"));
-    assert_eq!(last_line(&[&[32, 0, 7]]), line("least 18 0 buffer"));
 }
 
 #[test]
@@ -202,12 +179,7 @@ fn a_call_that_changes_the_ring_has_its_answers() {
 
 /// How many entries are shown of what a call with some op is lent.
 fn lent_length(op: u64, length: u64) -> usize {
-    shown_length(&[op, length, 5])
-}
-
-/// The same of any record.
-fn shown_length(record: &[u64]) -> usize {
-    let line = last_line(&[record]);
+    let line = last_line(&[&[op, length, 5]]);
     let mut words = line.split(' ');
     let lent = words.find(|word| ["buffer", "table"].contains(word));
     assert!(lent.is_some(), "{line}");
@@ -215,14 +187,9 @@ fn shown_length(record: &[u64]) -> usize {
 }
 
 #[test]
-fn orders_get_a_buffer_of_at_most_255_bytes() {
-    let lengths = [254, 255, 256, u64::MAX];
-    for op in [25, 32] {
-        let shown = lengths.map(|length| lent_length(op, length));
-        assert_eq!(shown, [254, 255, 255, 255]);
-    }
-    let shown = lengths.map(|length| shown_length(&[31, 5, length, 5]));
-    assert_eq!(shown, [254, 255, 255, 255]);
+fn an_order_gets_a_buffer_of_at_most_255_bytes() {
+    let lengths = [254, 255, 256, u64::MAX].map(|length| lent_length(25, length));
+    assert_eq!(lengths, [254, 255, 255, 255]);
 }
 
 #[test]
@@ -342,8 +309,8 @@ fn a_start_shows_the_words_and_weights_that_differ_from_those_before() {
 #[test]
 fn a_list_ends_at_an_unknown_op_or_where_it_is_cut() {
     assert_eq!(play(&[]), "");
-    assert_eq!(play(&record(&[15])), "end\n");
-    assert_eq!(play(&records(&[&[34], &[24]])), "end\n");
+    assert_eq!(play(&record(&[7])), "end\n");
+    assert_eq!(play(&records(&[&[31], &[24]])), "end\n");
     assert_eq!(play(&record(&[256 + 24])), "end\n");
     assert_eq!(play(&record(&[24])[..31]), "end\n");
     for op in [1, 28] {

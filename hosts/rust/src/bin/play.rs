@@ -126,7 +126,7 @@ fn change(layout: &mut Layout, [op, a, b, c]: Record) -> Option<String> {
 
 /// A call that only reads the layout. None if the record is no such call.
 fn read(layout: &Layout, record: Record) -> Option<String> {
-    let [op, a, b, c] = record;
+    let [op, a, b, _] = record;
     Some(match op {
         24 => told("count", " 0", layout.count().map(|c| format!(" {c}"))),
         25 => {
@@ -138,16 +138,6 @@ fn read(layout: &Layout, record: Record) -> Option<String> {
         27 => write(layout, "write", Layout::write_chart, record),
         29 => write(layout, "export", Layout::export_graph6, record),
         30 => edge_crossings(layout, record),
-        31 => {
-            let mut buffer = filled(b, LONGEST_ORDER, c as u8);
-            let written = layout.write_order_at(a as usize, &mut buffer);
-            told("nth", "", written.map(|()| String::new())) + &buffer_text(&buffer)
-        }
-        32 => {
-            let mut buffer = filled(a, LONGEST_ORDER, b as u8);
-            let least = layout.write_least_crossings(&mut buffer);
-            told("least", " 0", least.map(|l| format!(" {l}"))) + &buffer_text(&buffer)
-        }
         _ => return None,
     })
 }

@@ -14,7 +14,7 @@ impl Maker {
             UNLINK | MOVE => self.two_vertices(),
             LAY | SIFT => (self.vertex(), 0),
             SETTLE => (self.limit(), 0),
-            ORDER | LEAST => (self.buffer(), self.fill(op)),
+            ORDER => (self.buffer(), self.fill(op)),
             WRITE | EXPORT | PERLINK => (self.any_length(op), self.fill(op)),
             _ => (0, 0),
         }
@@ -127,8 +127,7 @@ impl Maker {
         ])
     }
 
-    /// The length of a buffer for an order.
-    pub fn buffer(&mut self) -> u64 {
+    fn buffer(&mut self) -> u64 {
         let n = self.n as u64;
         let any = self.rng.below(66) as u64;
         let odd = self.rng.pick(&[64, 255, 256, 1 << 32, u64::MAX]);

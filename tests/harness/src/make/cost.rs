@@ -41,16 +41,6 @@ pub fn settle(n: usize, m: usize) -> u64 {
     rounds(n, m, ROUNDS)
 }
 
-/// Listing so many orders.
-pub fn list(orders: u64) -> u64 {
-    2048 * orders
-}
-
-/// Listing so many orders, and counting the crossings of m edges in each.
-pub fn search(orders: u64, m: usize) -> u64 {
-    list(orders) + orders * count(m)
-}
-
 /// The most edges with which n vertices can be settled for so much.
 pub fn most_edges(n: usize, budget: u64) -> usize {
     let dear = |m: &usize| settle(n, *m) > budget;

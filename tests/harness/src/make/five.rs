@@ -1,6 +1,5 @@
 //! All graphs on five vertices, without weights and with some, each laid from
-//! every vertex and settled, its edges' crossings counted before, and each with
-//! its least crossings.
+//! every vertex and settled, its edges' crossings counted before.
 
 use super::charts::Chart;
 use super::graph::{all_pairs, vertices, Graph};
@@ -18,7 +17,7 @@ const TOGETHER: usize = 32;
 pub const LISTS: usize = GRAPHS / TOGETHER;
 
 /// The calls that such lists are made of.
-const CALLS: [u64; 7] = [CHART, LAY, SETTLE, COUNT, PAIR, PERLINK, LEAST];
+const CALLS: [u64; 6] = [CHART, LAY, SETTLE, COUNT, PAIR, PERLINK];
 
 /// Whether the lists can be made of known calls.
 pub fn open(known: &Known) -> bool {
@@ -33,12 +32,11 @@ pub fn list(number: usize) -> Vec<u8> {
 }
 
 /// A graph, settled as it is read and as it is laid from every vertex, its edges'
-/// crossings counted into a table for all ten, and its least crossings searched.
+/// crossings counted into a table for all ten.
 fn calls(graph: &Graph) -> Vec<u8> {
     let start = records::chart(&Chart::of(graph).bytes());
     let settle = [[PERLINK, 10, 7, 0], [SETTLE, 1000, 0, 0], [PAIR, 0, 0, 0]].map(records::bytes);
-    let least = records::bytes([LEAST, VERTICES as u64, 7, 0]);
-    let mut list = [start.clone(), settle.concat(), least].concat();
+    let mut list = [start.clone(), settle.concat()].concat();
     for v in 0..VERTICES as u64 {
         let lay = [[LAY, v, 0, 0], [COUNT, 0, 0, 0]].map(records::bytes);
         list.extend([start.clone(), lay.concat(), settle.concat()].concat());
@@ -85,7 +83,6 @@ mod tests {
             assert_eq!(answers("lay 0 "), 10 * TOGETHER);
             assert_eq!(answers("settle 0 "), 12 * TOGETHER);
             assert_eq!(answers("perlink 0 "), 12 * TOGETHER);
-            assert_eq!(answers("least 0 "), 2 * TOGETHER);
             assert_eq!(
                 answers("chart") + answers("lay") + answers("settle"),
                 34 * TOGETHER

@@ -28,7 +28,7 @@ impl Held {
     pub fn record(&mut self, record: Record, cost: u64) {
         match record[0] {
             EMPTY => self.layout = Some(empty()),
-            COUNT..=WRITE | EXPORT..=LEAST => {}
+            COUNT..=WRITE | EXPORT..=PERLINK => {}
             _ if cost <= self.left => {
                 self.left -= cost;
                 let play = |layout| after(layout, &records::bytes(record));
@@ -74,8 +74,6 @@ mod tests {
         held.record([WRITE, 9, 0, 0], 1);
         held.record([EXPORT, 9, 0, 0], 1);
         held.record([PERLINK, 9, 0, 0], 1);
-        held.record([NTH, 0, 9, 0], 1);
-        held.record([LEAST, 9, 0, 0], 1);
         let due = [0x44, 0, 1, 3, 0x4C, 0, 2, 0, 2, 0x52, 0, 3, 1, 2, 0];
         assert_eq!(held.written(WRITE), Some(due.to_vec()));
         assert_eq!(held.written(EXPORT), Some(b"BO".to_vec()));

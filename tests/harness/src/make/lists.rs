@@ -128,7 +128,7 @@ impl Maker {
                 self.call(LAY);
                 self.some_calls(&[SIFT, SIFT, ROUND, SETTLE]);
                 let edit = self.rng.pick(&[ADD, LINK, UNLINK, MOVE]);
-                self.some_calls(&[edit, COUNT, PAIR, WRITE, EXPORT, PERLINK, LEAST]);
+                self.some_calls(&[edit, COUNT, PAIR, WRITE, EXPORT, PERLINK]);
             }
         }
     }
@@ -205,8 +205,7 @@ impl Maker {
     /// What takes its turn from list to list: each size with some density, a
     /// vertex of which is sifted twice, each length of a buffer or a table, each
     /// number of edges that is written, each family, each way to spoil a layout,
-    /// each refusal number of each call, each special chart and graph6, and each
-    /// number of a few vertices whose orders are listed.
+    /// each refusal number of each call, and each special chart and graph6.
     fn in_turn(&mut self, seed: u64, index: usize) {
         let n = ((seed % 65) as usize + 7 * index) % 65;
         let mut graph = Graph::in_quarter(&mut self.rng, n, index % QUARTERS);
@@ -218,7 +217,6 @@ impl Maker {
         self.write_alike(&graph);
         self.call_lent_in_turn(&graph, index);
         self.import_in_turn(&graph, index);
-        self.small_in_turn(index);
         self.lay_in_turn(index);
         self.spoilt_in_turn(index);
         let refused = self.known.refused();
@@ -249,7 +247,7 @@ impl Maker {
     fn end(&mut self) {
         match self.rng.below(8) {
             0 => {
-                let ops = [15, 34, 255, 256 + ADD, (1 << 32) + COUNT, u64::MAX];
+                let ops = [7, 15, 31, 255, 256 + ADD, (1 << 32) + COUNT, u64::MAX];
                 let op = self.rng.pick(&ops);
                 self.record([op, 0, 0, 0]);
                 self.record([ADD, 0, 0, 0]);

@@ -7,15 +7,14 @@ use super::graph6::Graph6;
 use super::held::Held;
 use super::ops::*;
 use super::records;
-use super::small::number_of_orders;
 use super::weights;
 use crate::rng::Rng;
 
 /// The calls, those oftener that are to come oftener.
-const CALLS: [u64; 33] = [
+const CALLS: [u64; 31] = [
     ADD, ADD, LINK, LINK, LINK, LINK, LINK, UNLINK, UNLINK, UNLINK, MOVE, MOVE, MOVE, LAY, LAY,
     SIFT, SIFT, SIFT, ROUND, SETTLE, SETTLE, COUNT, ORDER, ORDER, PAIR, WRITE, WRITE, EXPORT,
-    EXPORT, PERLINK, PERLINK, NTH, LEAST,
+    EXPORT, PERLINK, PERLINK,
 ];
 
 /// What the naive model may do for the calls of one list that are chosen by it.
@@ -212,9 +211,6 @@ impl Maker {
     /// A call with any arguments, if it is known. What is written is often read
     /// back.
     pub fn call(&mut self, op: u64) {
-        if op == NTH {
-            return self.call_nth();
-        }
         let (a, b) = self.arguments(op);
         if op == LINK {
             return self.link(a, b);
@@ -285,8 +281,6 @@ impl Maker {
             SETTLE if a <= 1000 => cost::rounds(n, m, a),
             WRITE => 2 * cost::read(m),
             PERLINK => 2 * cost::count_each(m),
-            NTH => cost::list(number_of_orders(n)),
-            LEAST => cost::search(number_of_orders(n), m),
             _ => 0,
         }
     }

@@ -26,8 +26,6 @@ pub const WRITE: u64 = 27;
 pub const IMPORT: u64 = 28;
 pub const EXPORT: u64 = 29;
 pub const PERLINK: u64 = 30;
-pub const NTH: u64 = 31;
-pub const LEAST: u64 = 32;
 
 /// The starts from bytes that follow the record.
 pub const READERS: [u64; 2] = [CHART, IMPORT];
@@ -39,16 +37,13 @@ pub const WRITERS: [(u64, u64); 2] = [(WRITE, CHART), (EXPORT, IMPORT)];
 /// that write a layout, and the one that counts each edge's crossings.
 pub const LENT: [u64; 3] = [WRITE, EXPORT, PERLINK];
 
-/// The calls that list every order of a small layout.
-pub const SMALL: [u64; 2] = [NTH, LEAST];
-
 /// The refusal numbers of charts, in the sequence in which they are asked.
 pub const CHART_REFUSALS: [u8; 10] = [1, 2, 3, 4, 5, 6, 7, 8, 24, 25];
 
 /// A call's name, its op, and the refusal numbers that it can answer.
 type Call = (&'static str, u64, &'static [u8]);
 
-const CALLS: [Call; 18] = [
+const CALLS: [Call; 16] = [
     ("chart", CHART, &CHART_REFUSALS),
     ("add", ADD, &[11, 16]),
     ("link", LINK, &[11, 12, 13, 14, 25]),
@@ -65,12 +60,10 @@ const CALLS: [Call; 18] = [
     ("import", IMPORT, &[20, 21, 22]),
     ("export", EXPORT, &[11, 19, 26]),
     ("perlink", PERLINK, &[11, 23]),
-    ("nth", NTH, &[11, 18, 27, 28]),
-    ("least", LEAST, &[11, 18, 27]),
 ];
 
 /// Names for several calls at once.
-const SETS: [(&str, &[&str]); 5] = [
+const SETS: [(&str, &[&str]); 4] = [
     (
         "layout",
         &[
@@ -79,12 +72,11 @@ const SETS: [(&str, &[&str]); 5] = [
     ),
     ("sifting", &["sift", "round", "settle"]),
     ("graph6", &["import", "export"]),
-    ("small", &["nth", "least"]),
     (
         "all",
         &[
             "chart", "add", "link", "unlink", "move", "lay", "sift", "round", "settle", "count",
-            "order", "pair", "write", "import", "export", "perlink", "nth", "least",
+            "order", "pair", "write", "import", "export", "perlink",
         ],
     ),
 ];
@@ -169,7 +161,7 @@ mod tests {
     #[test]
     fn sets_name_every_call() {
         let all = Known::all().answers();
-        for names in ["all", "chart,layout,lay,sifting,graph6,small"] {
+        for names in ["all", "chart,layout,lay,sifting,graph6"] {
             let known = Known::parse(names).expect("known names");
             assert_eq!(known.answers(), all, "{names}");
         }
@@ -178,10 +170,10 @@ mod tests {
     #[test]
     fn all_calls_have_all_refusal_numbers() {
         let answers = Known::all().answers();
-        for number in (0..=8).chain(11..=28) {
+        for number in (0..=8).chain(11..=26) {
             assert!(answers.iter().any(|answer| answer.1 == number), "{number}");
         }
-        assert_eq!(answers.len(), 18 + 10 + 28 + 5 + 2 + 7);
+        assert_eq!(answers.len(), 16 + 10 + 28 + 5 + 2);
     }
 
     #[test]

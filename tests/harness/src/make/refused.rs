@@ -3,7 +3,6 @@
 use super::graph::Graph;
 use super::maker::Maker;
 use super::ops::*;
-use super::small::MOST;
 use super::spoil::{n_over_64, Way, SPOILS};
 
 /// So often a way to spoil is tried that goes by what is chosen at random.
@@ -17,10 +16,6 @@ impl Maker {
         if number == 11 {
             self.spoil(&graph);
         }
-        if op == NTH {
-            let record = self.refused_nth(number);
-            return self.emit_record(record);
-        }
         let (a, b) = self.refused_arguments(op, number, &graph);
         let weight = match (op, number) {
             (LINK, 25) => 256 * self.rng.pick(&[0, 0, 1, 1 << 24, 1 << 55]),
@@ -31,16 +26,11 @@ impl Maker {
     }
 
     /// A graph with two vertices that are joined and two that aren't; a full
-    /// one for what only that refuses, a small one or one that isn't for what
-    /// lists its orders, and one with weights or without where they decide.
+    /// one for what only that refuses, and one with weights or without where
+    /// they decide.
     fn graph_to_refuse(&mut self, op: u64, number: u8) -> Graph {
         let n = match number {
             16 => 64,
-            27 => {
-                let any = self.rng.within(MOST + 1, 64);
-                self.rng.pick(&[MOST + 1, any])
-            }
-            _ if SMALL.contains(&op) => self.rng.within(3, MOST),
             _ => self.rng.within(3, 12),
         };
         let m = self.rng.within(1, n - 1);
@@ -107,7 +97,6 @@ impl Maker {
             18 => (self.rng.below(graph.n()) as u64, 7),
             19 | 23 => (self.rng.below(self.filled_length(op) as usize) as u64, 7),
             26 => (self.any_length(op), 7),
-            27 => (self.buffer(), 7),
             _ => (v, (v + 1) % n),
         }
     }

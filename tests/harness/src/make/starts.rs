@@ -7,13 +7,12 @@ use super::graph6;
 use super::maker::Maker;
 use super::ops::*;
 use super::settled::{self, settled};
-use super::small::MOST;
 use super::special::Special;
 
 /// A way to start: its name, an op that it cannot do without, and what it does.
 pub type Start = (&'static str, u64, fn(&mut Maker));
 
-const STARTS: [Start; 13] = [
+const STARTS: [Start; 12] = [
     ("empty", EMPTY, Maker::start_empty),
     ("chart", CHART, |maker| {
         maker.start_graph(Maker::write_chart)
@@ -37,7 +36,6 @@ const STARTS: [Start; 13] = [
     }),
     ("64 vertices, and add", ADD, Maker::start_full),
     ("settled already", EMPTY, Maker::start_settled),
-    ("few vertices", EMPTY, Maker::start_few),
     FAMILY,
 ];
 
@@ -174,21 +172,6 @@ impl Maker {
         self.any_count();
         self.some_calls(&[SIFT, SIFT, ROUND, SETTLE]);
         self.any_calls(2, 12);
-    }
-
-    /// A graph of about as many vertices as there may be where orders are listed,
-    /// often of so many that edges cross, with calls for that between others.
-    fn start_few(&mut self) {
-        let (any, many) = (self.rng.below(MOST + 2), self.rng.within(5, MOST));
-        let n = self.rng.pick(&[any, many]);
-        let mut graph = Graph::random(&mut self.rng, n, usize::MAX);
-        self.weigh(&mut graph);
-        self.write_graph_in_any_order(&graph);
-        self.any_count();
-        for _ in 0..self.rng.within(2, 5) {
-            self.some_calls(&SMALL);
-            self.any_calls(1, 4);
-        }
     }
 
     fn start_full(&mut self) {

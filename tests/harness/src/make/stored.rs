@@ -6,7 +6,6 @@ use super::graph::{all_pairs, vertices, Graph};
 use super::graph6::Graph6;
 use super::ops::*;
 use super::records::{both_ways, bytes, chart, fields, import};
-use super::small::{number_of_orders, MOST};
 use super::special::SPECIALS;
 use crate::rng::Rng;
 
@@ -50,8 +49,6 @@ pub fn list(known: &Known) -> Vec<u8> {
     list.heaviest_layout();
     list.weighted_layouts();
     list.weighted_links();
-    list.small_layouts();
-    list.searched_layouts();
     list.invalid_layouts();
     list.invalid_weights();
     list.any_count();
@@ -106,8 +103,6 @@ impl List<'_> {
             [WRITE, 20, 7, 0],
             [EXPORT, 3, 7, 0],
             [PERLINK, 4, 7, 0],
-            [NTH, 4, 6, 7],
-            [LEAST, 6, 7, 0],
         ]);
     }
 
@@ -135,11 +130,6 @@ impl List<'_> {
             [PERLINK, 0, 7, 0],
             [PERLINK, 1, 256 + 7, 0],
             [PERLINK, 2, (1 << 32) + 7, 0],
-            [NTH, 0, 0, 7],
-            [NTH, 0, 2, 256 + 7],
-            [NTH, 1, 0, 7],
-            [LEAST, 0, 7, 0],
-            [LEAST, 2, 256 + 7, 0],
         ]);
     }
 
@@ -410,64 +400,6 @@ impl List<'_> {
         ]);
     }
 
-    /// Layouts of one vertex to nine, against the sun: the first order, the last,
-    /// an index behind it and some far from it, into a buffer long enough and one
-    /// too short; nine vertices are too many. Of three and four every order.
-    fn small_layouts(&mut self) {
-        for n in 1..=MOST + 1 {
-            let order = (0..n as u8).rev().collect();
-            self.play(&fields(&Graph::of(all_pairs(n), order)));
-            let (n, number) = (n as u64, number_of_orders(n));
-            let last = number.saturating_sub(1);
-            self.play(&[
-                [NTH, 0, n, 7],
-                [NTH, last, n + 1, 256 + 7],
-                [NTH, last / 2, n, 7],
-                [NTH, last, n - 1, 7],
-                [NTH, number, n, 7],
-                [NTH, number, n - 1, 7],
-                [NTH, 1 << 32, n, 7],
-                [NTH, u64::MAX, 0, 7],
-                [LEAST, n, 7, 0],
-                [LEAST, n + 1, 256 + 7, 0],
-                [LEAST, n - 1, 7, 0],
-                [LEAST, 0, 7, 0],
-            ]);
-        }
-        for n in 3..=4 {
-            self.play(&fields(&Graph::of(vec![], vertices(n))));
-            let calls = (0..=number_of_orders(n)).map(|index| [NTH, index, n as u64, 7]);
-            self.play(&calls.collect::<Vec<Record>>());
-        }
-        self.start(&Graph::of(all_pairs(64), vertices(64)));
-        self.play(&[[NTH, 0, 64, 7], [NTH, u64::MAX, 256, 7], [LEAST, 64, 7, 0]]);
-        self.play(&[[NTH, 0, 63, 7], [LEAST, 0, 7, 0]]);
-    }
-
-    /// Graphs whose least crossings are known, in an order that has more: a cycle,
-    /// and complete bipartite graphs, each without weights and with some; and the
-    /// same with another count than the true one.
-    fn searched_layouts(&mut self) {
-        let cycle = vec![(0, 3), (3, 1), (1, 4), (4, 2), (2, 0)];
-        let sides = |m: u8, n: u8| (0..m).flat_map(move |v| (m..m + n).map(move |w| (v, w)));
-        for (n, edges) in [
-            (5, cycle),
-            (5, sides(2, 3).collect()),
-            (6, sides(3, 3).collect()),
-            (8, sides(4, 4).collect()),
-        ] {
-            let weights: Vec<u8> = (0..edges.len())
-                .map(|i| WEIGHTS[i % WEIGHTS.len()])
-                .collect();
-            let graph = Graph::of(edges, vertices(n));
-            for graph in [graph.clone(), graph.with_weights(weights)] {
-                self.play(&fields(&graph));
-                self.play(&[[LEAST, n as u64 + 1, 7, 0], [SET_COUNT, u64::MAX, 0, 0]]);
-                self.play(&[[MOVE, 0, 2, 0], [LEAST, n as u64, 0, 0]]);
-            }
-        }
-    }
-
     /// Each clause of validity broken by itself.
     fn invalid_layouts(&mut self) {
         self.play(&fields(&square()));
@@ -677,7 +609,7 @@ impl List<'_> {
 
     /// An unknown op, with a record behind it that isn't played.
     fn end(&mut self) {
-        self.bytes.extend(bytes([34, 0, 0, 0]));
+        self.bytes.extend(bytes([31, 0, 0, 0]));
         self.bytes.extend(bytes([ADD, 0, 0, 0]));
     }
 }
@@ -775,45 +707,6 @@ mod tests {
         let full = lines.lines().filter(|l| l.starts_with("perlink 0 2016 "));
         let lengths: Vec<usize> = full.map(|line| lent(line).len()).collect();
         assert_eq!(lengths, [2016, 2100, 2016]);
-    }
-
-    #[test]
-    fn orders_are_listed_and_searched_and_refused_calls_write_none() {
-        let lines = play(&list(&Known::all()));
-        for due in [
-            "nth 0 buffer n 0 ",
-            "nth 0 buffer 7 7 n 0 ",
-            "nth 28 buffer n 0 ",
-            "least 0 0 buffer n 0 ",
-            "nth 0 buffer 0 n 1 order 0 ",
-            "nth 18 buffer n 1 ",
-            "nth 28 buffer n 1 ",
-            "nth 0 buffer 0 3 2 1 7 n 4 order 3 2 1 0 ",
-            "nth 0 buffer 0 3 1 2 n 4 order 0 1 2 3 ",
-            "nth 28 buffer 7 7 7 7 n 4 order 0 1 2 3 ",
-            "nth 0 buffer 0 1 2 3 4 5 6 7 n 8 ",
-            "nth 0 buffer 0 7 6 5 4 3 2 1 7 n 8 ",
-            "nth 18 buffer 7 7 7 7 7 7 7 n 8 ",
-            "nth 28 buffer 7 7 7 7 7 7 7 7 n 8 ",
-            "nth 28 buffer 7 7 7 7 7 7 7 n 8 ",
-            "nth 28 buffer n 8 ",
-            "nth 27 buffer 7 7 7 7 7 7 7 7 n 9 ",
-            "nth 27 buffer n 9 ",
-            "nth 11 buffer 7 7 7 7 7 7 n 65 ",
-            "least 0 70 buffer 0 1 2 3 4 5 6 7 7 n 8 order 7 6 5 4 3 2 1 0 ",
-            "least 18 0 buffer 7 7 7 7 7 7 7 n 8 ",
-            "least 27 0 buffer 7 7 7 7 7 7 7 7 7 n 9 ",
-            "least 27 0 buffer n 9 ",
-            "least 27 0 buffer n 64 ",
-            "least 11 0 buffer 7 7 7 7 7 7 n 65 ",
-            "least 0 0 buffer 0 2 4 1 3 7 n 5 order 0 1 2 3 4 ",
-            "least 0 1 buffer 0 2 1 3 4 7 n 5 order 0 1 2 3 4 ",
-            "least 0 3 buffer 0 3 1 4 2 5 7 n 6 order 0 1 2 3 4 5 ",
-            "least 0 16 buffer 0 4 1 5 2 6 3 7 7 n 8 order 0 1 2 3 4 5 6 7 ",
-            "least 0 16 buffer 0 4 1 5 2 6 3 7 n 8 order 1 2 0 3 4 5 6 7 ",
-        ] {
-            assert!(lines.lines().any(|line| line.starts_with(due)), "{due}");
-        }
     }
 
     #[test]

@@ -6,7 +6,6 @@ use super::layout::{
     crossings, crossings_of_each, first_pair, is_weighted, isolated, join, joined, list, valid,
     weighted, Edge, Layout, Weighted,
 };
-use super::orders::orders;
 
 /// The refusal number and the answers. Only an accepted call changes the
 /// layout.
@@ -191,7 +190,7 @@ fn crossings_at_ends(layout: &Layout, placed: &[usize], v: usize) -> (u64, u64) 
     (front, back)
 }
 
-/// An order, and its crossings.
+/// A list that has u in some place, and its crossings.
 type Candidate = (Vec<usize>, u64);
 
 /// The candidates that have u directly after each of the others, clockwise from
@@ -297,62 +296,6 @@ pub fn order(layout: &Layout, buffer: &mut [u8]) -> u8 {
         buffer[i] = v as u8;
     }
     0
-}
-
-/// The most vertices of which every order is listed.
-const FEW: u64 = 8;
-
-/// The questions put to a call that lists every order, before its own.
-fn refuse_many(layout: &Layout) -> u8 {
-    if !valid(layout) {
-        11
-    } else if layout.n > FEW {
-        27
-    } else {
-        0
-    }
-}
-
-/// Writes the order with some index, counted from 0, among all with vertex 0
-/// first.
-pub fn nth(layout: &Layout, index: u64, buffer: &mut [u8]) -> u8 {
-    let refusal = refuse_many(layout);
-    if refusal != 0 {
-        return refusal;
-    }
-    let orders = orders(layout.n as usize);
-    if index >= orders.len() as u64 {
-        return 28;
-    }
-    put_order(&orders[index as usize], buffer)
-}
-
-/// Answers the least crossings that an order has, and writes the first order
-/// that has them.
-pub fn least(layout: &Layout, buffer: &mut [u8]) -> Reply<u64> {
-    let refusal = refuse_many(layout);
-    if refusal != 0 {
-        return (refusal, 0);
-    }
-    let edges = weighted(layout);
-    let mut best: Option<Candidate> = None;
-    for order in orders(layout.n as usize) {
-        let found = crossings(&order, &edges);
-        if best.as_ref().is_none_or(|(_, least)| found < *least) {
-            best = Some((order, found));
-        }
-    }
-    let (first, least) = best.expect("there is an order");
-    match put_order(&first, buffer) {
-        0 => (0, least),
-        refusal => (refusal, 0),
-    }
-}
-
-/// Puts an order into a lent buffer, which is refused if it is too short.
-fn put_order(order: &[usize], buffer: &mut [u8]) -> u8 {
-    let bytes: Vec<u8> = order.iter().map(|&v| v as u8).collect();
-    put(&bytes, buffer, 18).0
 }
 
 /// The shown crossing pair, none where no two edges cross.

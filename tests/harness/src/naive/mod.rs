@@ -7,7 +7,6 @@ pub mod chart;
 pub mod graph6;
 pub mod layout;
 pub mod list;
-pub mod orders;
 pub mod play;
 
 #[cfg(test)]

@@ -87,7 +87,7 @@ impl Player<'_> {
                 self.set(op, a, b, c);
                 Step::Quiet
             }
-            16..=27 | 29..=32 => Step::Said(self.call(op, a, b, c)),
+            16..=27 | 29..=30 => Step::Said(self.call(op, a, b, c)),
             _ => Step::End,
         }
     }
@@ -146,9 +146,7 @@ impl Player<'_> {
             26 => pair(layout),
             27 => write(layout, a, b),
             29 => export(layout, a, b),
-            30 => perlink(layout, a, b),
-            31 => nth(layout, a, b, c),
-            _ => least(layout, a, b),
+            _ => perlink(layout, a, b),
         }
     }
 }
@@ -158,25 +156,10 @@ fn one<T: Display>(name: &str, (refusal, answer): (u8, T)) -> String {
     format!("{name} {refusal} {answer}")
 }
 
-/// The most bytes of a buffer for an order.
-const ORDER: u64 = 255;
-
 fn order(layout: &Layout, length: u64, fill: u64) -> String {
-    let mut buffer = lent(length, ORDER, byte(fill));
+    let mut buffer = lent(length, 255, byte(fill));
     let refusal = calls::order(layout, &mut buffer);
     format!("order {refusal} {}", shown("buffer", &buffer))
-}
-
-fn nth(layout: &Layout, index: u64, length: u64, fill: u64) -> String {
-    let mut buffer = lent(length, ORDER, byte(fill));
-    let refusal = calls::nth(layout, index, &mut buffer);
-    format!("nth {refusal} {}", shown("buffer", &buffer))
-}
-
-fn least(layout: &Layout, length: u64, fill: u64) -> String {
-    let mut buffer = lent(length, ORDER, byte(fill));
-    let reply = calls::least(layout, &mut buffer);
-    format!("{} {}", one("least", reply), shown("buffer", &buffer))
 }
 
 /// What the call `write` says.

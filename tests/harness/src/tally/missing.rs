@@ -3,11 +3,8 @@
 use std::collections::BTreeSet;
 use std::ops::RangeInclusive;
 
-use super::{imports, lays, sifts, small, weights, writes, Counts, Quarters, Tally};
-use crate::make::ops::{
-    Known, CHART_REFUSALS, EXPORT, IMPORT, LEAST, NTH, ORDER, PERLINK, SMALL, WRITE,
-};
-use crate::make::small::MOST;
+use super::{imports, lays, sifts, weights, writes, Counts, Quarters, Tally};
+use crate::make::ops::{Known, CHART_REFUSALS, EXPORT, IMPORT, ORDER, PERLINK, WRITE};
 use crate::make::spoil::SPOILS;
 use crate::make::{charts, families, lists, starts};
 
@@ -52,18 +49,15 @@ impl Tally {
             ("export", EXPORT, &self.exports),
             ("import", IMPORT, &self.imports),
             ("perlink", PERLINK, &self.tables),
-            ("nth", NTH, &self.orders),
-            ("least", LEAST, &self.leasts),
         ] {
-            let (due, most) = match op {
-                IMPORT => (imports::due(known), 64),
-                NTH | LEAST => (small::due(known, op), MOST),
-                _ => (writes::due(known, op), 64),
+            let due = match op {
+                IMPORT => imports::due(known),
+                _ => writes::due(known, op),
             };
             missing.extend(absent(name, due, &transfers.met));
             if known.has(op) {
                 let title = format!("{name} of size");
-                missing.extend(without(&title, 0..=most, &transfers.sizes));
+                missing.extend(without(&title, 0..=64, &transfers.sizes));
             }
         }
         missing
@@ -94,12 +88,9 @@ impl Tally {
         missing.map(|(name, number)| answer(name, number)).collect()
     }
 
-    /// Each call must have been accepted on large graphs of every density, but
-    /// for those that small ones are for.
+    /// Each call must have been accepted on large graphs of every density.
     fn missing_quarters(&self, known: &Known) -> Vec<String> {
-        let calls = known.refused().into_iter();
-        let calls = calls.filter(|(_, op, _)| !SMALL.contains(op));
-        let names: BTreeSet<&str> = calls.map(|(name, ..)| name).collect();
+        let names: BTreeSet<&str> = known.refused().into_iter().map(|(name, ..)| name).collect();
         let missing = names.into_iter().flat_map(|name| {
             let quarters = self.call_quarters.get(name).copied().unwrap_or_default();
             empty_quarters(&format!("{name} on a large graph"), &quarters)
@@ -158,28 +149,25 @@ mod tests {
     /// start, of which one needs add, three chart and two import, ways to spoil,
     /// families of graphs, and kinds of weights.
     const LISTS: usize = 5;
-    const STARTS: usize = 13;
+    const STARTS: usize = 12;
     const SPOILT: usize = 19;
     const GRAPHS: usize = 16;
     const KINDS: usize = 8;
-    /// Calls on large graphs, and answers of all calls; those of charts.
+    /// Calls, and their answers; those of charts.
     const CALLS: usize = 14;
-    const ANSWERS: usize = 70;
+    const ANSWERS: usize = 61;
     const LISTINGS: usize = 11;
     /// What is to occur of lays, of sifts, of settlings, of weights, of charts
     /// that are written, one of which needs chart, of graph6 that are exported
-    /// and imported, one of which needs the other, of tables that are filled, of
-    /// orders by their index, and of least crossings.
+    /// and imported, one of which needs the other, and of tables that are filled.
     const LAYS: usize = 8;
     const SIFTS: usize = 8;
     const SETTLES: usize = 2;
-    const WEIGHTS: usize = 15 + 1 + 20;
+    const WEIGHTS: usize = 13 + 1 + 20;
     const WRITES: usize = 9;
     const EXPORTS: usize = 5;
     const IMPORTS: usize = 34;
     const TABLES: usize = 8;
-    const NTHS: usize = 13;
-    const LEASTS: usize = 12;
 
     fn list(records: &[[u64; 4]]) -> lists::Made {
         lists::Made {
@@ -228,8 +216,7 @@ mod tests {
         let of_lists = ANSWERS + 4 * CALLS + LISTS + STARTS + of_graphs + 66;
         let of_calls = LAYS + SIFTS + SETTLES + WEIGHTS;
         let of_transfers = WRITES + EXPORTS + IMPORTS + TABLES + 4 * 65;
-        let of_orders = NTHS + LEASTS + 2 * 9;
-        let of_all = of_charts + of_lists + of_calls + of_transfers + of_orders;
+        let of_all = of_charts + of_lists + of_calls + of_transfers;
         assert_eq!(missing(&Tally::default()).len(), of_all);
         let of_few = |names: &str| {
             let known = Known::parse(names).expect("known names");
@@ -246,10 +233,6 @@ mod tests {
         assert_eq!(of_few("export"), due);
         let due = 3 + 4 + of_any + (STARTS - 6) + TABLES + 65 + (1 + 1 + 1);
         assert_eq!(of_few("perlink"), due);
-        let due = 5 + of_any + (STARTS - 6) + NTHS + 9 + (1 + 1);
-        assert_eq!(of_few("nth"), due);
-        let due = 4 + of_any + (STARTS - 6) + LEASTS + 9 + (1 + 1);
-        assert_eq!(of_few("least"), due);
     }
 
     #[test]
@@ -480,47 +463,6 @@ mod tests {
             assert!(accepted.contains(&due.to_string()), "{due}");
         }
         assert!(!accepted.contains(&"perlink, no edges and no entries".to_string()));
-    }
-
-    #[test]
-    fn orders_are_met_with_their_size_and_room() {
-        let line = |said: &str| format!("{said} n 3 order 0 2 1 count 0 words weights\n");
-        let records = [[SET_N, 3, 0, 0], [SET_ORDER, 1, 2, 0], [SET_ORDER, 2, 1, 0]];
-        let met = |record: [u64; 4], said: &str| {
-            let list = list(&[&records[..], &[record]].concat());
-            let met = met(|tally| tally.list(&list, &line(said)));
-            let of_call = |name: &String| name.starts_with("nth") || name.starts_with("least");
-            met.into_iter().filter(of_call).collect::<Vec<String>>()
-        };
-        let due = [
-            "nth of size 3",
-            "nth, a buffer just long enough",
-            "nth, accepted",
-            "nth, the last of several orders",
-        ];
-        assert_eq!(met([NTH, 1, 3, 7], "nth 0 buffer 0 2 1"), due);
-        let due = [
-            "nth with refusal 28",
-            "nth, a buffer one byte too short",
-            "nth, an index that is the number of orders",
-            "nth, no order, and a buffer too short",
-        ];
-        assert_eq!(met([NTH, 2, 2, 7], "nth 28 buffer 7 7"), due);
-        let due = [
-            "least of size 3",
-            "least, a buffer one byte longer",
-            "least, accepted",
-            "least, no crossings",
-        ];
-        assert_eq!(met([LEAST, 4, 7, 0], "least 0 0 buffer 0 1 2 7"), due);
-        assert_eq!(
-            met([LEAST, 0, 7, 0], "least 18 0 buffer"),
-            ["least with refusal 18"]
-        );
-        assert_eq!(
-            met([LEAST, 0, 7, 0], "least 11 0 buffer"),
-            ["least with refusal 11"]
-        );
     }
 
     /// Exported and imported again, and imported and exported again.

@@ -4,7 +4,6 @@ mod imports;
 mod lays;
 mod missing;
 mod sifts;
-mod small;
 mod weights;
 mod writes;
 
@@ -16,7 +15,7 @@ use crate::imported::exported_again;
 use crate::make::charts;
 use crate::make::density::{quarter, LARGE, QUARTERS};
 use crate::make::lists;
-use crate::make::ops::{EXPORT, LEAST, NTH, PERLINK, WRITE};
+use crate::make::ops::{EXPORT, PERLINK, WRITE};
 use crate::written::is_read_back;
 
 /// From so many charts and lists on, everything must have occurred.
@@ -63,22 +62,19 @@ pub struct Tally {
     settles: Counts,
     /// What occurred of weights and of wide numbers.
     weights: Counts,
-    /// Charts that were written, graph6 that were exported and imported, tables
-    /// that were filled, orders that were asked for by their index, and least
-    /// crossings.
+    /// Charts that were written, graph6 that were exported and imported, and
+    /// tables that were filled.
     writes: Transfers,
     exports: Transfers,
     imports: Transfers,
     tables: Transfers,
-    orders: Transfers,
-    leasts: Transfers,
     /// How many charts and lists were too dear for the naive model.
     charts_without_naive: usize,
     lists_without_naive: usize,
 }
 
 /// What occurred of layouts that were written or imported, or of which a table
-/// was filled or an order written, and their numbers of vertices.
+/// was filled, and their numbers of vertices.
 #[derive(Default)]
 struct Transfers {
     met: Counts,
@@ -183,12 +179,6 @@ impl Tally {
             "perlink" => self
                 .tables
                 .line(step, refusal, writes::met(step, PERLINK, refusal)),
-            "nth" => self
-                .orders
-                .line(step, refusal, small::met(step, NTH, refusal)),
-            "least" => self
-                .leasts
-                .line(step, refusal, small::met(step, LEAST, refusal)),
             "import" => self
                 .imports
                 .line(step, refusal, imports::met(step, refusal)),
@@ -226,8 +216,6 @@ impl Tally {
             ("export", &self.exports.met),
             ("import", &self.imports.met),
             ("perlink", &self.tables.met),
-            ("nth", &self.orders.met),
-            ("least", &self.leasts.met),
         ] {
             for (name, times) in counts {
                 text += &format!("{title}, {name}: {times}\n");
@@ -242,11 +230,6 @@ impl Tally {
             ("sizes of exported layouts", &self.exports.sizes),
             ("sizes of imported layouts", &self.imports.sizes),
             ("sizes of layouts with a table", &self.tables.sizes),
-            (
-                "sizes of layouts with an order by index",
-                &self.orders.sizes,
-            ),
-            ("sizes of layouts with least crossings", &self.leasts.sizes),
             ("lengths of buffers for an order", &self.buffers),
         ] {
             text += &format!("{title}: {}\n", met.len());
@@ -264,15 +247,12 @@ impl Tally {
         table
     }
 
-    /// A line for charts and one for each call on large graphs: how often these
-    /// had edges in each quarter of all.
+    /// A line for charts and one for each call: how often a large graph had
+    /// edges in each quarter of all.
     fn quarter_table(&self) -> String {
         let mut table = quarter_line("accepted chart", &self.chart_quarters);
-        let large = |quarters: &Quarters| *quarters != Quarters::default();
-        for (name, quarters) in &self.call_quarters {
-            if is_call(name) && large(quarters) {
-                table += &quarter_line(&format!("accepted {name}"), quarters);
-            }
+        for (name, quarters) in self.call_quarters.iter().filter(|(name, _)| is_call(name)) {
+            table += &quarter_line(&format!("accepted {name}"), quarters);
         }
         table
     }

@@ -110,7 +110,7 @@ pub fn met(step: &Step, name: &str, refusal: u8) -> Vec<String> {
         _ => Vec::new(),
     };
     met.extend(sort.into_iter().map(String::from));
-    if refusal == 0 && matches!(step.entry, Entry::Record([ADD..=LEAST, ..])) {
+    if refusal == 0 && matches!(step.entry, Entry::Record([ADD..=PERLINK, ..])) {
         met.extend(met_by_count(step).map(String::from));
     }
     met

@@ -7,7 +7,7 @@ use crate::followed::{lent, Step};
 use crate::make::ops::{Known, PERLINK, WRITE, WRITERS};
 use crate::make::written::{filled_length, EDGES};
 
-pub const OTHER_COUNT: &str = "a count that is not the true one";
+const OTHER_COUNT: &str = "a count that is not the true one";
 
 pub const READ_BACK: &str = "read back";
 
@@ -15,7 +15,7 @@ const NO_ENTRIES: &str = "no edges and no entries";
 const BESIDE: &str = "an edge without crossings beside one with some";
 
 /// The lengths of what is lent that should occur, less that of what is filled.
-pub fn rooms(op: u64) -> [(i64, String); 3] {
+fn rooms(op: u64) -> [(i64, String); 3] {
     let (lent, entry) = match op {
         PERLINK => ("table", "entry"),
         _ => ("buffer", "byte"),
