@@ -1,19 +1,15 @@
 -- Neighbours counted as ones of an adjacency word: under a word that holds the placed vertices, and under its complement.
-use Rattle.std.specs.Prelude.{ℕ, zero, suc, ◌+◌, ◌*◌, ◌-◌, ◌^◌, ◌≤◌, ◌<◌, ◌≡◌, refl, Bool, not, List, [], ◌∷◌, ◌++◌, get_or, eqb, ltb}
+use Rattle.std.specs.Prelude.{ℕ, ◌+◌, ◌*◌, ◌-◌, ◌^◌, ◌≤◌, ◌<◌, ◌≡◌, not, List, get_or}
 use Rattle.std.proofs.Math.Nat.{mul_comm, add-zero, lt_of_lt_of_le}
-use Rattle.std.proofs.Common.{add-sub_of_le, zero-mul, arith, ◌∙◌, pow_pos}
-use Rattle.std.proofs.Math.Decide.{ℕ_discrete}
+use Rattle.std.proofs.Common.{add-sub_of_le, zero-mul, arith, ◌∙◌}
 use Rattle.std.proofs.Math.Path.{sym, ap, ap₂}
-use Rattle.model.specs.Lists.{one, member, occurrences}
+use Rattle.model.specs.Lists.{one, member}
 use Rattle.model.specs.Crossings.{bit, linked}
-use Rattle.model.specs.Edits.{with_bit}
 use Rattle.model.specs.GreedyAppend.{unplaced, degree_in}
-use Rattle.laws.specs.Sums.Indicators.{one_eq, one_ne}
 use Rattle.laws.specs.Sums.Ranges.{sum, sum_ext, sum_zero, sum_cut}
 use Rattle.laws.specs.Sums.Lists.{all_mono, sum_over_ext}
-use Rattle.laws.specs.Orders.Permutations.{occurrences_nil, occurrences_cons, occurrences_append, member_occurs}
-use Rattle.laws.specs.Sums.Bits.{bit_beyond, bit_complement, masked_ones, set_same, set_other}
-use Rattle.laws.specs.Crossings.Masks.{Holds, masked_sum, weight_bit}
+use Rattle.laws.specs.Sums.Bits.{bit_beyond, bit_complement, masked_ones}
+use Rattle.laws.specs.Crossings.Masks.{masked_sum, weight_bit}
 use Rattle.laws.specs.Append.Order.{Placed, sum_over_unplaced}
 use Rattle.laws.specs.Append.Held.{Held, placed_bit}
 use Rattle.append_choice.specs.Choices.{complement}

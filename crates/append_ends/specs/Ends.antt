@@ -1,6 +1,6 @@
 -- The crossings that a vertex makes at either end of a line's list, by its weights and by the weight of each vertex's open edges.
-use Rattle.std.specs.Prelude.{ℕ, ◌+◌, ◌*◌, ◌%◌, ◌≤◌, ◌<◌, ◌≡◌, refl, List, ◌∷◌, map, length, get_or, take, drop}
-use Rattle.std.proofs.Common.{mod-eq_of_lt, lt_of_lt_of_le, arith, sym, ap, ap₂, ◌∙◌, length-drop, length-take-le, get_or-take, get_or-drop}
+use Rattle.std.specs.Prelude.{ℕ, ◌*◌, ◌%◌, ◌≤◌, ◌<◌, ◌≡◌, refl, List, ◌∷◌, map, length, get_or, take, drop}
+use Rattle.std.proofs.Common.{mod-eq_of_lt, lt_of_lt_of_le, arith, sym, ap, ap₂, ◌∙◌}
 use Rattle.std.proofs.lemmas.List.{length-map}
 use Rattle.std.proofs.Math.ListN.{get_or-map}
 use Rattle.model.specs.Lists.{sum_pairs}

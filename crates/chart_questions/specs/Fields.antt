@@ -15,7 +15,7 @@ use Rattle.model.specs.declared.FieldFound.{FieldFound}
 use Rattle.model.specs.declared.FieldFound.TheVariants as field
 use Rattle.model.specs.declared.SizeFound.TheVariants as size
 use Rattle.model.specs.Checks.{refusal, by_refusal, checked}
-use Rattle.model.specs.Charts.{Field, Fields, body_length, starts_with_field, first_field, fields_of, tags_of, body_of, same_list, chart_tags, weighted_tags, chart_checks}
+use Rattle.model.specs.Charts.{Fields, body_length, starts_with_field, first_field, fields_of, tags_of, body_of, same_list, chart_tags, weighted_tags, chart_checks}
 use Rattle.model.specs.Charts.{Answer, accept, refuse, asked, field_found, answer, field_answer, division_answer, tags_answer, size_found}
 use Rattle.model.specs.Charts.{size_checks, size_answer}
 use Rattle.laws.specs.Sums.Indicators.{Order, less, same, more, order}

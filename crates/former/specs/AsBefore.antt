@@ -21,7 +21,7 @@ use Rattle.model.specs.Checks.{Check, refusal, by_refusal, checked, differ, limi
 use Rattle.model.specs.Edits.{added, add_checks, add_answer, add_refused, add_of, with_bit, without_bit, at_both_ends, both_ways, with_edges}
 use Rattle.model.specs.Edits.{changed_or, link_checks, link_of, unlink_checks, unlink_of, moved_after, move_checks, move_of}
 use Rattle.model.specs.GreedyAppend.{Placing, place_all, lay_checks, lay_answer, lay_of}
-use Rattle.model.specs.Search.{Sift, Round, sift_best, sifts_of_all, rounds_within, reached, saved_in, moved_in, last_still, best_candidates}
+use Rattle.model.specs.Search.{Round, sift_best, sifts_of_all, rounds_within, reached, saved_in, moved_in, last_still, best_candidates}
 use Rattle.model.specs.Sifting.{ring, reduction, sift_checks, sift_of, optima_in, swept, sift_round, round_of}
 use Rattle.model.specs.Sifting.{settled, rounds_up_to, settle_checks, settle_of}
 use Rattle.model.specs.WrittenCharts.{unit_weighted}

@@ -12,7 +12,7 @@ use borrow.Author.Tests.{lt-ltb, le-ltb}
 use Rattle.model.specs.Lists.{place}
 use Rattle.model.specs.Crossings.{crossings}
 use Rattle.model.specs.Edits.{moved_after}
-use Rattle.model.specs.Search.{least, count_with}
+use Rattle.model.specs.Search.{count_with}
 use Rattle.laws.specs.Sums.Indicators.{less, same, more, order}
 use Rattle.laws.specs.Orders.Permutations.{at, at_lt, place_below, place_of_at}
 use Rattle.laws.specs.Tables.Rows.{table_weight}

@@ -1,9 +1,5 @@
 use Prim.Native.Nat.{◌-◌}
-use native.Mathlib.Omega.{arith}
-use mathlib.Core.Path.{ap}
-use borrow.Author.Tests.{le-leb, lt-leb}
-use Rattle.append_choice.specs.declared.Choice.{Choice}
-use Rattle.append_choice.specs.Choices.{BestUpTo, best_start, best_more, best_end}
+use Rattle.append_choice.specs.Choices.{BestUpTo}
 use Rattle.append_choice.proofs.next_vertex.Given as goal
 
 abbrev pub invariant-loop-v : goal.invariant-loop-v

@@ -1,11 +1,7 @@
-use borrow.Author.Rules.{rules}
-use Prim.Native.Nat.{ℕ, ◌+◌, ◌-◌, ◌%◌, ◌≤◌}
-use native.Mathlib.Omega.{arith}
-use mathlib.Core.Path.{◌≡◌, ap, ◌∙◌}
-use lib.ListN.{length, get_or}
-use Rattle.laws.specs.Tables.Rows.{table_weight}
-use Rattle.append_ends.specs.Ends.{as_vertices, vertices_length, vertex_at_lem}
-use Rattle.append_ends.specs.Passes.{MetUpTo, met_start, so_far_small, met_next, met_end}
+use Prim.Native.Nat.{◌-◌, ◌%◌}
+use lib.ListN.{length}
+use Rattle.append_ends.specs.Ends.{as_vertices}
+use Rattle.append_ends.specs.Passes.{MetUpTo}
 use Rattle.append_ends.proofs.ends_of.Given as goal
 
 abbrev pub invariant-loop-i : goal.invariant-loop-i

@@ -1,4 +1,3 @@
-use borrow.Author.Rules.{rules}
 use mathlib.Core.Path.{refl}
 use Rattle.append_line.specs.Lines.{alone_at}
 use Rattle.append_line.proofs.alone.Goals as goal

@@ -1,4 +1,3 @@
-use borrow.Author.Rules.{rules}
 use mathlib.Core.Path.{refl}
 use Rattle.append_line.specs.Lines.{at_back}
 use Rattle.append_line.proofs.put_back.Goals as goal

@@ -1,4 +1,3 @@
-use borrow.Author.Rules.{rules}
 use mathlib.Core.Path.{refl}
 use Rattle.append_line.specs.Lines.{at_front}
 use Rattle.append_line.proofs.put_front.Goals as goal

@@ -1,6 +1,4 @@
-use Prim.Native.Nat.{◌-◌}
-use native.Mathlib.Omega.{arith}
-use Rattle.append_line.specs.Lines.{RestUpTo, rest_start, rest_next, rest_end}
+use Rattle.append_line.specs.Lines.{rest_start, rest_next, rest_end}
 use Rattle.append_line.proofs.put_rest.Goals as goal
 
 pub loop-v-init : goal.loop-v-init

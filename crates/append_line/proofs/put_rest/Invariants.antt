@@ -1,6 +1,5 @@
 use Prim.Native.Nat.{◌-◌}
-use native.Mathlib.Omega.{arith}
-use Rattle.append_line.specs.Lines.{RestUpTo, rest_start, rest_next, rest_end}
+use Rattle.append_line.specs.Lines.{RestUpTo}
 use Rattle.append_line.proofs.put_rest.Given as goal
 
 abbrev pub invariant-loop-v : goal.invariant-loop-v

@@ -1,4 +1,4 @@
-use Rattle.std.proofs.Common.{arith, rules}
+use Rattle.std.proofs.Common.{arith}
 use Rattle.laws.specs.Layouts.Recount.{carried_wrapping}
 use Rattle.carrying.proofs.carried.Goals as goal
 

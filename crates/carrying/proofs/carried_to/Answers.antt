@@ -1,4 +1,4 @@
-use Rattle.std.proofs.Common.{ℕ, ap, ◌∙◌, rules}
+use Rattle.std.proofs.Common.{ℕ, ap, ◌∙◌}
 use Rattle.model.specs.Layouts.{carried}
 use Rattle.laws.specs.Layouts.Recount.{carried_to}
 use Rattle.carrying.proofs.carried_to.Goals as goal

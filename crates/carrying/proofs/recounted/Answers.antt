@@ -1,4 +1,3 @@
-use Rattle.std.proofs.Common.{rules}
 use Rattle.laws.specs.Layouts.Recount.{recounted}
 use Rattle.carrying.proofs.recounted.Goals as goal
 

@@ -1,4 +1,3 @@
-use borrow.Author.Rules.{rules}
 use mathlib.Core.Path.{◌∙◌}
 use Rattle.laws.specs.Charts.Passes.{asked_number}
 use Rattle.chart.specs.Reading.{read_once, read_repeated, words_read}

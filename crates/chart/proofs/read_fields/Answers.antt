@@ -1,4 +1,3 @@
-use borrow.Author.Rules.{rules}
 use mathlib.Core.Path.{◌≡◌, ap, ◌∙◌}
 use Rattle.model.specs.Charts.{body_of, size_found, size_answer}
 use Rattle.laws.specs.Charts.Passes.{size_number}

@@ -1,4 +1,3 @@
-use borrow.Author.Rules.{rules}
 use mathlib.Core.Path.{sym, ◌∙◌}
 use Rattle.laws.specs.Charts.Padded.{padded_copy}
 use Rattle.laws.specs.Charts.Passes.{asked_number}

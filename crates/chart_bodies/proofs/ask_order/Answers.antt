@@ -1,4 +1,3 @@
-use borrow.Author.Rules.{rules}
 use native.Mathlib.Omega.{arith}
 use Rattle.chart_bodies.specs.Order.{answer_length, answer_places, answer_misplaced}
 use Rattle.chart_bodies.proofs.ask_order.Goals as goal

@@ -1,9 +1,7 @@
-use borrow.Author.Rules.{rules}
-use Prim.Native.Nat.{◌+◌, ◌-◌}
+use Prim.Native.Nat.{◌+◌}
 use native.Mathlib.Omega.{arith}
 use mathlib.Core.Path.{refl, sym, ◌∙◌}
-use lib.ListN.{length}
-use Rattle.chart_bodies.specs.Words.{JoinedUpTo, joined_start, joined_next, joined_again, joined_end}
+use Rattle.chart_bodies.specs.Words.{joined_start, joined_next, joined_again, joined_end}
 use Rattle.chart_bodies.proofs.join_edges.Goals as goal
 
 pub loop-i-init : goal.loop-i-init

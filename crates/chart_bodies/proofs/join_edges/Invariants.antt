@@ -1,9 +1,6 @@
-use borrow.Author.Rules.{rules}
-use Prim.Native.Nat.{◌+◌, ◌-◌}
-use native.Mathlib.Omega.{arith}
-use mathlib.Core.Path.{refl, sym, ◌∙◌}
+use Prim.Native.Nat.{◌-◌}
 use lib.ListN.{length}
-use Rattle.chart_bodies.specs.Words.{JoinedUpTo, joined_start, joined_next, joined_again, joined_end}
+use Rattle.chart_bodies.specs.Words.{JoinedUpTo}
 use Rattle.chart_bodies.proofs.join_edges.Given as goal
 
 abbrev pub invariant-loop-i : goal.invariant-loop-i

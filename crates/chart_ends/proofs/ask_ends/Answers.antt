@@ -1,9 +1,7 @@
-use borrow.Author.Rules.{rules}
-use Prim.Native.Nat.{◌+◌, ◌-◌}
+use Prim.Native.Nat.{◌+◌}
 use native.Mathlib.Omega.{arith}
 use mathlib.Core.Path.{sym, ◌∙◌}
-use lib.ListN.{length}
-use Rattle.chart_ends.specs.Edges.{EndsUpTo, ends_start, ends_next, ends_bad, ends_end, answer_odd, answer_outside, answer_within}
+use Rattle.chart_ends.specs.Edges.{ends_start, ends_next, ends_bad, ends_end, answer_odd, answer_outside, answer_within}
 use Rattle.chart_ends.proofs.ask_ends.Goals as goal
 
 pub returns-then-links-ne0 : goal.returns-then-links-ne0

@@ -1,4 +1,3 @@
-use borrow.Author.Rules.{rules}
 use mathlib.Core.Path.{sym, ◌∙◌}
 use Rattle.chart_questions.specs.Fields.{division_long, division_cut, division_whole}
 use Rattle.chart_questions.proofs.ask_fields.Goals as goal

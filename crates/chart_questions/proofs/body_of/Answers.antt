@@ -1,8 +1,7 @@
-use borrow.Author.Rules.{rules}
-use Prim.Native.Nat.{◌+◌, ◌-◌, ◌≤◌}
+use Prim.Native.Nat.{◌+◌, ◌≤◌}
 use native.Mathlib.Omega.{arith}
 use lib.ListN.{length, drop}
-use Rattle.chart_questions.specs.Fields.{FieldThere, field_there, field_none, field_inside, BodyUpTo, body_start, body_none, body_here, body_next}
+use Rattle.chart_questions.specs.Fields.{FieldThere, field_there, field_none, field_inside, body_start, body_none, body_here, body_next}
 use Rattle.chart_questions.proofs.body_of.Goals as goal
 use Rattle.chart_questions.proofs.body_of.Goals.{In-Field}
 

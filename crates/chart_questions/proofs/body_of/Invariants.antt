@@ -1,8 +1,6 @@
-use borrow.Author.Rules.{rules}
-use Prim.Native.Nat.{◌+◌, ◌-◌, ◌≤◌}
-use native.Mathlib.Omega.{arith}
-use lib.ListN.{length, drop}
-use Rattle.chart_questions.specs.Fields.{FieldThere, field_there, field_none, field_inside, BodyUpTo, body_start, body_none, body_here, body_next}
+use Prim.Native.Nat.{◌-◌}
+use lib.ListN.{length}
+use Rattle.chart_questions.specs.Fields.{BodyUpTo}
 use Rattle.chart_questions.proofs.body_of.Given as goal
 
 abbrev pub invariant-loop-length : goal.invariant-loop-length

@@ -1,7 +1,5 @@
-use borrow.Author.Rules.{rules}
-use Prim.Native.Nat.{◌+◌, ◌-◌}
+use Prim.Native.Nat.{◌+◌}
 use native.Mathlib.Omega.{arith}
-use lib.ListN.{length}
 use Rattle.chart_questions.specs.Fields.{field_there, field_none, DividedUpTo, divided_start, divided_next, divided_end}
 use Rattle.chart_questions.proofs.divides.Goals as goal
 use Rattle.chart_questions.proofs.divides.Goals.{In-Field}

@@ -1,4 +1,3 @@
-use borrow.Author.Rules.{rules}
 use mathlib.Core.Path.{◌∙◌, ap}
 use Rattle.model.specs.Charts.{field_answer}
 use Rattle.laws.specs.Sums.Lists.{rest_whole}

@@ -1,4 +1,3 @@
-use borrow.Author.Rules.{rules}
 use native.Mathlib.Omega.{arith}
 use Rattle.chart_questions.specs.Fields.{size_long, size_large, size_right}
 use Rattle.chart_questions.proofs.find_size.Goals as goal

@@ -1,4 +1,3 @@
-use borrow.Author.Rules.{rules}
 use native.Mathlib.Omega.{arith}
 use Rattle.model.specs.Charts.{body_length}
 use Rattle.chart_questions.specs.Fields.{answer_field, answer_short, answer_cut}

@@ -1,7 +1,6 @@
-use borrow.Author.Rules.{rules}
 use Prim.Native.Nat.{◌+◌, ◌-◌}
 use native.Mathlib.Omega.{arith}
-use lib.ListN.{length, drop}
+use lib.ListN.{drop}
 use Rattle.chart_questions.specs.Fields.{FieldThere, field_there, field_none, FieldUpTo, field_start, field_missing, field_found_lem, field_next}
 use Rattle.chart_questions.proofs.has_field.Goals as goal
 use Rattle.chart_questions.proofs.has_field.Goals.{Else-ahead-eq0, In-Field}

@@ -1,8 +1,6 @@
-use borrow.Author.Rules.{rules}
-use Prim.Native.Nat.{◌+◌, ◌-◌}
-use native.Mathlib.Omega.{arith}
-use lib.ListN.{length, drop}
-use Rattle.chart_questions.specs.Fields.{FieldThere, field_there, field_none, FieldUpTo, field_start, field_missing, field_found_lem, field_next}
+use Prim.Native.Nat.{◌-◌}
+use lib.ListN.{length}
+use Rattle.chart_questions.specs.Fields.{FieldUpTo}
 use Rattle.chart_questions.proofs.has_field.Given as goal
 
 abbrev pub invariant-loop-length : goal.invariant-loop-length

@@ -1,7 +1,6 @@
-use borrow.Author.Rules.{rules}
-use Prim.Native.Nat.{◌+◌, ◌-◌}
+use Prim.Native.Nat.{◌+◌}
 use native.Mathlib.Omega.{arith}
-use lib.ListN.{length, drop}
+use lib.ListN.{drop}
 use Rattle.chart_questions.specs.Fields.{FieldThere, field_there, field_none, TagsUpTo, tags_start}
 use Rattle.chart_questions.specs.Fields.{tags_end, tag_missing, tag_beyond, tag_wrong, tags_next}
 use Rattle.chart_questions.proofs.has_tags.Goals as goal

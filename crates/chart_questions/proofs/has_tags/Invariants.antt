@@ -1,9 +1,6 @@
-use borrow.Author.Rules.{rules}
-use Prim.Native.Nat.{◌+◌, ◌-◌}
-use native.Mathlib.Omega.{arith}
-use lib.ListN.{length, drop}
-use Rattle.chart_questions.specs.Fields.{FieldThere, field_there, field_none, TagsUpTo, tags_start}
-use Rattle.chart_questions.specs.Fields.{tags_end, tag_missing, tag_beyond, tag_wrong, tags_next}
+use Prim.Native.Nat.{◌-◌}
+use lib.ListN.{length}
+use Rattle.chart_questions.specs.Fields.{TagsUpTo}
 use Rattle.chart_questions.proofs.has_tags.Given as goal
 
 abbrev pub invariant-loop-i : goal.invariant-loop-i

@@ -1,4 +1,3 @@
-use borrow.Author.Rules.{rules}
 use Rattle.model.specs.Charts.{has_weights}
 use Rattle.chart_questions.proofs.has_weights.Goals as goal
 

@@ -1,9 +1,6 @@
-use Prim.Native.Nat.{◌-◌}
 use native.Mathlib.Omega.{arith}
 use mathlib.Core.Path.{sym}
-use lib.ListN.{length}
-use Rattle.model.specs.Layouts.{is_weight}
-use Rattle.laws.specs.Sums.Every.{PassedUpTo, passed_start, passed_next, passed_not, passed_end}
+use Rattle.laws.specs.Sums.Every.{passed_start, passed_next, passed_not, passed_end}
 use Rattle.chart_weights.specs.Listed.{weighs, weighs_not}
 use Rattle.chart_weights.proofs.all_weigh.Goals as goal
 

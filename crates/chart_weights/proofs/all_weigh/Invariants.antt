@@ -1,10 +1,7 @@
 use Prim.Native.Nat.{◌-◌}
-use native.Mathlib.Omega.{arith}
-use mathlib.Core.Path.{sym}
 use lib.ListN.{length}
 use Rattle.model.specs.Layouts.{is_weight}
-use Rattle.laws.specs.Sums.Every.{PassedUpTo, passed_start, passed_next, passed_not, passed_end}
-use Rattle.chart_weights.specs.Listed.{weighs, weighs_not}
+use Rattle.laws.specs.Sums.Every.{PassedUpTo}
 use Rattle.chart_weights.proofs.all_weigh.Given as goal
 
 abbrev pub invariant-loop-i : goal.invariant-loop-i

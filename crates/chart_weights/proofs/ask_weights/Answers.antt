@@ -1,7 +1,5 @@
-use borrow.Author.Rules.{rules}
 use native.Mathlib.Omega.{arith}
 use mathlib.Core.Path.{sym, ◌∙◌}
-use borrow.Author.Tests.{not-true, not-false}
 use Rattle.chart_weights.specs.Listed.{ask_none, ask_many, ask_all, ask_zero}
 use Rattle.chart_weights.proofs.ask_weights.Goals as goal
 

@@ -1,9 +1,8 @@
-use borrow.Author.Rules.{rules}
-use Prim.Native.Nat.{◌+◌, ◌*◌, ◌-◌, ◌<◌}
+use Prim.Native.Nat.{◌+◌, ◌*◌, ◌<◌}
 use native.Mathlib.Omega.{arith}
 use mathlib.Core.Path.{◌∙◌}
 use lib.ListN.{length}
-use Rattle.chart_weights.specs.Listed.{weights_in, listed_inside, weight_is, SetUpTo, set_start, set_inside, set_next, set_end}
+use Rattle.chart_weights.specs.Listed.{weights_in, listed_inside, weight_is, set_start, set_inside, set_next, set_end}
 use Rattle.chart_weights.proofs.set_weights.Goals as goal
 use Rattle.chart_weights.proofs.set_weights.Goals.{In-loop-i}
 

@@ -1,9 +1,5 @@
-use borrow.Author.Rules.{rules}
-use Prim.Native.Nat.{◌+◌, ◌*◌, ◌-◌, ◌<◌}
-use native.Mathlib.Omega.{arith}
-use mathlib.Core.Path.{◌∙◌}
-use lib.ListN.{length}
-use Rattle.chart_weights.specs.Listed.{weights_in, listed_inside, weight_is, SetUpTo, set_start, set_inside, set_next, set_end}
+use Prim.Native.Nat.{◌-◌}
+use Rattle.chart_weights.specs.Listed.{weights_in, SetUpTo}
 use Rattle.chart_weights.proofs.set_weights.Given as goal
 
 abbrev pub invariant-loop-i : goal.invariant-loop-i

@@ -1,5 +1,4 @@
 use native.Mathlib.Omega.{arith}
-use borrow.Author.Tests.{not-true, not-false}
 use Rattle.chart_weights.specs.Listed.{count_none, count_listed}
 use Rattle.chart_weights.proofs.weighed_links.Goals as goal
 

@@ -1,4 +1,3 @@
-use borrow.Author.Rules.{rules}
 use mathlib.Core.Path.{refl}
 use Rattle.chart_writer.specs.Fields.{fields_fit, weights_room, all_put}
 use Rattle.chart_writer.proofs.put_chart.Goals as goal

@@ -1,4 +1,3 @@
-use borrow.Author.Rules.{rules}
 use native.Mathlib.Omega.{arith}
 use Rattle.chart_writer.specs.Fields.{links_room, order_room, chart_put}
 use Rattle.chart_writer.proofs.put_fields.Goals as goal

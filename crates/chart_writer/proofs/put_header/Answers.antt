@@ -1,4 +1,3 @@
-use borrow.Author.Rules.{rules}
 use Rattle.chart_writer.proofs.put_header.Goals as goal
 
 pub returns : goal.returns

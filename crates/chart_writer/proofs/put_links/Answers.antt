@@ -1,4 +1,3 @@
-use borrow.Author.Rules.{rules}
 use mathlib.Core.Path.{refl}
 use Rattle.chart_writer.specs.Fields.{links_put}
 use Rattle.chart_writer.proofs.put_links.Goals as goal

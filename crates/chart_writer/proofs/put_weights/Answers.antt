@@ -1,4 +1,3 @@
-use borrow.Author.Rules.{rules}
 use Rattle.chart_writer.specs.Fields.{weights_none, weights_put}
 use Rattle.chart_writer.proofs.put_weights.Goals as goal
 

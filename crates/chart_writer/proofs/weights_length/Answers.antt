@@ -1,4 +1,3 @@
-use borrow.Author.Rules.{rules}
 use Rattle.chart_writer.proofs.weights_length.Goals as goal
 
 pub returns-then-unit : goal.returns-then-unit

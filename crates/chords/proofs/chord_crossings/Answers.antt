@@ -1,5 +1,5 @@
-use Rattle.std.proofs.Common.{◌-◌, sym, arith, rules}
-use Rattle.chords.specs.Chords.{ChordsUpTo, rows_start, rows_next, rows_end}
+use Rattle.std.proofs.Common.{sym, arith}
+use Rattle.chords.specs.Chords.{rows_start, rows_next, rows_end}
 use Rattle.chords.proofs.chord_crossings.Goals as goal
 
 pub returns-then-n-gt64 : goal.returns-then-n-gt64

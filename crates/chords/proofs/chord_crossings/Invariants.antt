@@ -1,5 +1,5 @@
-use Rattle.std.proofs.Common.{◌-◌, sym, arith, rules}
-use Rattle.chords.specs.Chords.{ChordsUpTo, rows_start, rows_next, rows_end}
+use Rattle.std.proofs.Common.{◌-◌}
+use Rattle.chords.specs.Chords.{ChordsUpTo}
 use Rattle.chords.proofs.chord_crossings.Given as goal
 
 abbrev pub invariant-loop-i : goal.invariant-loop-i

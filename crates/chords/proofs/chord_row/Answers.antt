@@ -1,6 +1,6 @@
-use Rattle.std.proofs.Common.{◌-◌, sym, refl, ◌∙◌, arith, rules}
+use Rattle.std.proofs.Common.{sym, refl, ◌∙◌}
 use Rattle.laws.specs.Crossings.Masks.{vertex_at}
-use Rattle.chords.specs.Chords.{ChordsTo, row_start, row_next, row_end}
+use Rattle.chords.specs.Chords.{row_start, row_next, row_end}
 use Rattle.chords.proofs.chord_row.Goals as goal
 
 pub loop-k-init : goal.loop-k-init

@@ -1,6 +1,5 @@
-use Rattle.std.proofs.Common.{◌-◌, sym, refl, ◌∙◌, arith, rules}
-use Rattle.laws.specs.Crossings.Masks.{vertex_at}
-use Rattle.chords.specs.Chords.{ChordsTo, row_start, row_next, row_end}
+use Rattle.std.proofs.Common.{◌-◌}
+use Rattle.chords.specs.Chords.{ChordsTo}
 use Rattle.chords.proofs.chord_row.Given as goal
 
 abbrev pub invariant-loop-k : goal.invariant-loop-k

@@ -1,10 +1,8 @@
-use borrow.Author.Rules.{rules}
-use Prim.Native.Nat.{◌-◌}
 use native.Mathlib.Omega.{arith}
 use borrow.Author.Tests.{le-leb, lt-leb}
 use Rattle.laws.specs.Crossings.Masks.{vertex_at}
 use Rattle.laws.specs.Tables.Counts.{counted}
-use Rattle.counting.specs.Loops.{CountUpTo, count_start, count_next, count_end}
+use Rattle.counting.specs.Loops.{count_start, count_next, count_end}
 use Rattle.counting.proofs.count_crossings.Goals as goal
 
 pub returns-then-n-gt64 : goal.returns-then-n-gt64

@@ -1,8 +1,7 @@
-use borrow.Author.Rules.{rules}
 use Prim.Native.Nat.{◌+◌, ◌<◌}
 use native.Mathlib.Omega.{arith}
 use Rattle.laws.specs.Crossings.Masks.{vertex_at}
-use Rattle.counting.specs.Loops.{RowFrom, row_start, row_fits, row_next, row_end}
+use Rattle.counting.specs.Loops.{row_start, row_fits, row_next, row_end}
 use Rattle.counting.proofs.count_row.Goals as goal
 use Rattle.counting.proofs.count_row.Goals.{After-product-total}
 

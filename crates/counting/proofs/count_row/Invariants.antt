@@ -1,8 +1,4 @@
-use borrow.Author.Rules.{rules}
-use Prim.Native.Nat.{◌+◌, ◌<◌}
-use native.Mathlib.Omega.{arith}
-use Rattle.laws.specs.Crossings.Masks.{vertex_at}
-use Rattle.counting.specs.Loops.{RowFrom, row_start, row_fits, row_next, row_end}
+use Rattle.counting.specs.Loops.{RowFrom}
 use Rattle.counting.proofs.count_row.Given as goal
 
 abbrev pub invariant-loop-k : goal.invariant-loop-k

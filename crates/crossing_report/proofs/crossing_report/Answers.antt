@@ -1,5 +1,4 @@
 use mathlib.Core.Path.{◌≡◌, sym, ap, ◌∙◌}
-use borrow.Author.Rules.{rules}
 use Rattle.model.specs.declared.Layout.{Layout}
 use Rattle.model.specs.declared.FirstCrossing.{FirstCrossing}
 use Rattle.model.specs.Reading.{shown, first_crossing_of}

@@ -1,11 +1,10 @@
-use borrow.Author.Rules.{rules}
-use Prim.Native.Nat.{◌+◌, ◌*◌, ◌-◌, ◌≤◌}
+use Prim.Native.Nat.{◌+◌, ◌≤◌}
 use native.Mathlib.Omega.{arith}
 use mathlib.Core.List.{flat_map}
-use lib.ListN.{length, take}
+use lib.ListN.{length}
 use lib.Seq.{take_all}
 use Rattle.model.specs.Listing.{spaced}
-use Rattle.laws.specs.Buffers.Writing.{Written, written_none, written_size, flat_map_next}
+use Rattle.laws.specs.Buffers.Writing.{written_none, written_size, flat_map_next}
 use Rattle.text.specs.Parts.{behind}
 use Rattle.decimals.proofs.each_byte.Goals as goal
 use Rattle.decimals.proofs.each_byte.Goals.{At-loop-i, In-loop-i}

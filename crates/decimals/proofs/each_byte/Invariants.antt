@@ -1,12 +1,8 @@
-use borrow.Author.Rules.{rules}
 use Prim.Native.Nat.{◌+◌, ◌*◌, ◌-◌, ◌≤◌}
-use native.Mathlib.Omega.{arith}
 use mathlib.Core.List.{flat_map}
 use lib.ListN.{length, take}
-use lib.Seq.{take_all}
 use Rattle.model.specs.Listing.{spaced}
-use Rattle.laws.specs.Buffers.Writing.{Written, written_none, written_size, flat_map_next}
-use Rattle.text.specs.Parts.{behind}
+use Rattle.laws.specs.Buffers.Writing.{Written}
 use Rattle.decimals.proofs.each_byte.Given as goal
 
 abbrev pub invariant-loop-i : goal.invariant-loop-i

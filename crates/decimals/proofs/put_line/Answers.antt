@@ -2,7 +2,6 @@ use Prim.Native.Nat.{◌+◌, ◌≤◌}
 use native.Mathlib.Omega.{arith}
 use lib.ListN.{length}
 use Rattle.text.specs.Room.{put_full, put_fits, no_room, has_room_lem}
-use borrow.Author.Rules.{rules}
 use Rattle.decimals.proofs.put_line.Goals as goal
 use Rattle.decimals.proofs.put_line.Goals.{Else-lacks}
 

@@ -6,7 +6,6 @@ use lib.ListN.{length}
 use Rattle.text.specs.Room.{put_full, put_fits, no_room, has_room_lem}
 use Rattle.model.specs.Listing.{spaced}
 use Rattle.decimals.specs.Decimals.{spaced_length}
-use borrow.Author.Rules.{rules}
 use Rattle.decimals.proofs.put_small.Goals as goal
 use Rattle.decimals.proofs.put_small.Goals.{Else-lacks, Start}
 

@@ -1,4 +1,3 @@
-use borrow.Author.Rules.{rules}
 use Rattle.edge_crossings.specs.Numbers.{chord_forth, chord_back}
 use Rattle.edge_crossings.proofs.chord_at.Goals as goal
 

@@ -1,4 +1,3 @@
-use borrow.Author.Rules.{rules}
 use mathlib.Core.Path.{refl}
 use Rattle.model.specs.Checks.{refusal}
 use Rattle.model.specs.EdgeCrossings.{table_format}

@@ -1,4 +1,3 @@
-use borrow.Author.Rules.{rules}
 use Rattle.edge_crossings.specs.Numbers.{number_is}
 use Rattle.edge_crossings.proofs.number_of.Goals as goal
 

@@ -1,7 +1,5 @@
-use borrow.Author.Rules.{rules}
-use Prim.Native.Nat.{◌-◌}
 use native.Mathlib.Omega.{arith}
-use Rattle.edge_crossings.specs.Numbers.{NumberedUpTo, each_start, table_size, each_next, each_end}
+use Rattle.edge_crossings.specs.Numbers.{each_start, table_size, each_next, each_end}
 use Rattle.edge_crossings.proofs.put_each.Goals as goal
 
 pub loop-i-init : goal.loop-i-init

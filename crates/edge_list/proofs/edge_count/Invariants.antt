@@ -1,8 +1,5 @@
 use Prim.Native.Nat.{◌-◌}
-use native.Mathlib.Omega.{arith}
-use mathlib.Core.Path.{sym, ap}
-use lib.ListN.{length}
-use Rattle.edge_list.specs.Rows.{RowsCounted, count_none, count_next, count_all, listed_many}
+use Rattle.edge_list.specs.Rows.{RowsCounted}
 use Rattle.edge_list.proofs.edge_count.Given as goal
 
 abbrev pub invariant-loop-a : goal.invariant-loop-a

@@ -1,9 +1,8 @@
-use borrow.Author.Rules.{rules}
-use Prim.Native.Nat.{◌+◌, ◌-◌, ◌≤◌}
+use Prim.Native.Nat.{◌+◌, ◌≤◌}
 use native.Mathlib.Omega.{arith}
 use mathlib.Core.Path.{◌≡◌}
 use lib.ListN.{length, length-set}
-use Rattle.edge_list.specs.Rows.{RowPut, row_start, row_size, row_skip, row_room, row_put, row_end}
+use Rattle.edge_list.specs.Rows.{row_start, row_size, row_skip, row_room, row_put, row_end}
 use Rattle.edge_list.proofs.put_row.Goals as goal
 use Rattle.edge_list.proofs.put_row.Goals.{Then-is_set, then-is_set, else-is_set}
 

@@ -1,10 +1,5 @@
-use borrow.Author.Rules.{rules}
-use Prim.Native.Nat.{◌+◌, ◌-◌, ◌≤◌}
-use native.Mathlib.Omega.{arith}
-use mathlib.Core.Logic.{⊎_elim}
-use mathlib.Core.Path.{◌≡◌}
-use lib.ListN.{length, length-set}
-use Rattle.edge_list.specs.Rows.{RowPut, row_start, row_size, row_skip, row_room, row_put, row_end}
+use Prim.Native.Nat.{◌-◌}
+use Rattle.edge_list.specs.Rows.{RowPut}
 use Rattle.edge_list.proofs.put_row.Given as goal
 
 abbrev pub invariant-loop-b : goal.invariant-loop-b

@@ -1,6 +1,4 @@
-use Prim.Native.Nat.{◌-◌}
-use native.Mathlib.Omega.{arith}
-use Rattle.edge_list.specs.Rows.{RowsPut, rows_start, rows_size, rows_room, rows_next, rows_end}
+use Rattle.edge_list.specs.Rows.{rows_start, rows_size, rows_room, rows_next, rows_end}
 use Rattle.edge_list.proofs.put_rows.Goals as goal
 
 pub loop-a-init : goal.loop-a-init

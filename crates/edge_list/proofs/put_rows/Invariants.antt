@@ -1,6 +1,5 @@
 use Prim.Native.Nat.{◌-◌}
-use native.Mathlib.Omega.{arith}
-use Rattle.edge_list.specs.Rows.{RowsPut, rows_start, rows_size, rows_room, rows_next, rows_end}
+use Rattle.edge_list.specs.Rows.{RowsPut}
 use Rattle.edge_list.proofs.put_rows.Given as goal
 
 abbrev pub invariant-loop-a : goal.invariant-loop-a

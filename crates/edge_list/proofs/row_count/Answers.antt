@@ -1,4 +1,3 @@
-use borrow.Author.Rules.{rules}
 use Rattle.edge_list.specs.Rows.{RowCounted, row_counted}
 use Rattle.edge_list.proofs.row_count.Goals as goal
 use Rattle.edge_list.proofs.row_count.Goals.{After-count-lower}

@@ -1,9 +1,7 @@
-use Prim.Native.Nat.{◌-◌, ◌≤◌}
+use Prim.Native.Nat.{◌≤◌}
 use native.Mathlib.Omega.{arith}
 use mathlib.Core.Path.{refl}
-use Rattle.model.specs.Lists.{upto}
-use Rattle.laws.specs.Sums.Loops.{MadeUpTo, made_start, made_next, made_end}
-use Rattle.laws.specs.Charts.Padded.{padded}
+use Rattle.laws.specs.Sums.Loops.{made_start, made_next, made_end}
 use Rattle.graph6.specs.Rising.{none_placed, one_placed}
 use Rattle.graph6.proofs.rising_order.Goals as goal
 use Rattle.graph6.proofs.rising_order.Goals.{In-loop-v}

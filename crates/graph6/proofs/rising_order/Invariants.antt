@@ -1,10 +1,7 @@
-use Prim.Native.Nat.{◌-◌, ◌≤◌}
-use native.Mathlib.Omega.{arith}
-use mathlib.Core.Path.{refl}
+use Prim.Native.Nat.{◌-◌}
 use Rattle.model.specs.Lists.{upto}
-use Rattle.laws.specs.Sums.Loops.{MadeUpTo, made_start, made_next, made_end}
+use Rattle.laws.specs.Sums.Loops.{MadeUpTo}
 use Rattle.laws.specs.Charts.Padded.{padded}
-use Rattle.graph6.specs.Rising.{none_placed, one_placed}
 use Rattle.graph6.proofs.rising_order.Given as goal
 
 abbrev pub invariant-loop-v : goal.invariant-loop-v

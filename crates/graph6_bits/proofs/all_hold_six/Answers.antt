@@ -1,11 +1,5 @@
-use borrow.Author.Rules.{rules}
-use Prim.Native.Nat.{◌-◌}
-use native.Mathlib.Omega.{arith}
 use mathlib.Core.Path.{sym}
-use lib.ListN.{length}
-use Rattle.model.specs.Graph6.{holds_six}
-use Rattle.laws.specs.Sums.Indicators.{test_held, test_failed}
-use Rattle.laws.specs.Sums.Every.{PassedUpTo, passed_start, passed_next, passed_not, passed_end}
+use Rattle.laws.specs.Sums.Every.{passed_start, passed_next, passed_not, passed_end}
 use Rattle.std.proofs.Common.{◌∙◌}
 use Rattle.graph6_bits.proofs.all_hold_six.Goals as goal
 

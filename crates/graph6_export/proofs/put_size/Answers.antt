@@ -1,4 +1,3 @@
-use borrow.Author.Rules.{rules}
 use Rattle.graph6_export.specs.Parts.{short_size, long_size}
 use Rattle.graph6_export.proofs.put_size.Goals as goal
 

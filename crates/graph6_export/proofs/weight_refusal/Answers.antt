@@ -1,4 +1,3 @@
-use borrow.Author.Rules.{rules}
 use Rattle.graph6_export.specs.Weights.{code_of}
 use Rattle.graph6_export.proofs.weight_refusal.Goals as goal
 

@@ -1,4 +1,3 @@
-use borrow.Author.Rules.{rules}
 use native.Mathlib.Omega.{arith}
 use Rattle.graph6_packing.specs.Bits.{bit_few, bit_added}
 use Rattle.graph6_packing.proofs.pack_bit.Goals as goal

@@ -1,7 +1,5 @@
-use borrow.Author.Rules.{rules}
-use Prim.Native.Nat.{◌-◌}
 use native.Mathlib.Omega.{arith}
-use Rattle.graph6_packing.specs.Bits.{LowerPacked, place_few, place_free, lower_start, lower_next, lower_end}
+use Rattle.graph6_packing.specs.Bits.{place_few, place_free, lower_start, lower_next, lower_end}
 use Rattle.graph6_packing.proofs.pack_lower.Goals as goal
 
 pub loop-a-init : goal.loop-a-init

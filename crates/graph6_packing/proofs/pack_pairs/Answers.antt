@@ -1,9 +1,5 @@
-use borrow.Author.Rules.{rules}
-use Prim.Native.Nat.{◌-◌}
 use native.Mathlib.Omega.{arith}
-use Rattle.model.specs.Graph6.{pair_bits}
-use Rattle.laws.specs.Sums.Loops.{MadeUpTo, made_start, made_next, made_end}
-use Rattle.laws.specs.Graph6.Packing.{packed_in}
+use Rattle.laws.specs.Sums.Loops.{made_start, made_next, made_end}
 use Rattle.graph6_packing.specs.Bits.{none_packed}
 use Rattle.graph6_packing.proofs.pack_pairs.Goals as goal
 

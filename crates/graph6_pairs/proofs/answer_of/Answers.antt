@@ -1,7 +1,5 @@
-use mathlib.Core.Path.{refl}
 use Rattle.model.specs.Checks.{refusal, by_refusal, checked}
 use Rattle.model.specs.Charts.{asked, answer}
-use Rattle.laws.specs.Sums.Indicators.{test_held, test_failed}
 use Rattle.graph6_pairs.proofs.answer_of.Goals as goal
 
 pub returns-then-not-six : goal.returns-then-not-six

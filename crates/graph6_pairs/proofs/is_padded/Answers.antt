@@ -1,10 +1,6 @@
-use borrow.Author.Rules.{rules}
-use Prim.Native.Nat.{◌-◌, min}
 use native.Mathlib.Omega.{arith}
 use mathlib.Core.Path.{sym, ◌∙◌}
-use lib.ListN.{length}
-use Rattle.model.specs.Graph6.{pairs_by_higher}
-use Rattle.graph6_pairs.specs.Padding.{PaddedUpTo, padded_start, padded_next, padded_not, padded_end, padded_few}
+use Rattle.graph6_pairs.specs.Padding.{padded_start, padded_next, padded_not, padded_end, padded_few}
 use Rattle.graph6_pairs.proofs.is_padded.Goals as goal
 
 pub loop-k-init : goal.loop-k-init

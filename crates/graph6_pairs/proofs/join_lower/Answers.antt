@@ -1,7 +1,4 @@
-use borrow.Author.Rules.{rules}
-use Prim.Native.Nat.{◌-◌}
-use native.Mathlib.Omega.{arith}
-use Rattle.graph6_pairs.specs.Joining.{LowerJoined, lower_start, lower_next, lower_end}
+use Rattle.graph6_pairs.specs.Joining.{lower_start, lower_next, lower_end}
 use Rattle.graph6_pairs.proofs.join_lower.Goals as goal
 
 pub loop-a-init : goal.loop-a-init

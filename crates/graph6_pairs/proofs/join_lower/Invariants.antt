@@ -1,7 +1,5 @@
-use borrow.Author.Rules.{rules}
 use Prim.Native.Nat.{◌-◌}
-use native.Mathlib.Omega.{arith}
-use Rattle.graph6_pairs.specs.Joining.{LowerJoined, lower_start, lower_next, lower_end}
+use Rattle.graph6_pairs.specs.Joining.{LowerJoined}
 use Rattle.graph6_pairs.proofs.join_lower.Given as goal
 
 abbrev pub invariant-loop-a : goal.invariant-loop-a

@@ -1,4 +1,3 @@
-use borrow.Author.Rules.{rules}
 use Rattle.graph6_pairs.proofs.join_pair.Goals as goal
 
 pub returns-then-is_set : goal.returns-then-is_set

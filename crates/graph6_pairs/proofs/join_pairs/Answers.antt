@@ -1,9 +1,5 @@
-use borrow.Author.Rules.{rules}
-use Prim.Native.Nat.{◌-◌}
 use native.Mathlib.Omega.{arith}
-use Rattle.model.specs.Graph6.{graph6_edges}
-use Rattle.laws.specs.Sums.Loops.{MadeUpTo, made_start, made_next, made_end}
-use Rattle.laws.specs.Charts.Words.{adjacency_of}
+use Rattle.laws.specs.Sums.Loops.{made_start, made_next, made_end}
 use Rattle.graph6_pairs.specs.Joining.{none_joined}
 use Rattle.graph6_pairs.proofs.join_pairs.Goals as goal
 

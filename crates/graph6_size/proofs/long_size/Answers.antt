@@ -1,10 +1,8 @@
-use borrow.Author.Rules.{rules}
 use Prim.Native.Nat.{◌≤◌}
 use native.Mathlib.Omega.{arith}
 use mathlib.Core.Path.{sym, ◌∙◌}
 use mathlib.Core.Bool.{true≢false}
 use Rattle.model.specs.Charts.{size_found}
-use Rattle.laws.specs.Sums.Indicators.{test_held, test_failed}
 use Rattle.laws.specs.Graph6.SixBits.{six_within, within_six}
 use Rattle.graph6_size.specs.Sizes.{long_refused, long_found}
 use Rattle.graph6_size.proofs.long_size.Goals as goal

@@ -1,4 +1,3 @@
-use borrow.Author.Rules.{rules}
 use native.Mathlib.Omega.{arith}
 use Rattle.model.specs.Charts.{size_found}
 use Rattle.graph6_size.specs.Sizes.{short_low, short_high, short_found}

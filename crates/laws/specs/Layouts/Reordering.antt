@@ -11,7 +11,6 @@ use Rattle.model.specs.Crossings.{crossings}
 use Rattle.model.specs.Layouts.{vertex_order, weight, crossings_of, valid, modulus, carried, changed, reordered, uncounted}
 use Rattle.model.specs.Checks.{refusal}
 use Rattle.model.specs.Edits.{changed_to, change_refused, moved_after, move_checks, move_of}
-use Rattle.laws.specs.Sums.Indicators.{order}
 use Rattle.laws.specs.Orders.Permutations.{at, Permutation}
 use Rattle.laws.specs.Layouts.Refusals.{pair_passed, passed_pair}
 use Rattle.laws.specs.Layouts.Refusals.{changed_number, changed_accepted, changed_refused, changed_either}

@@ -1,7 +1,6 @@
 use Prim.Native.Nat.{◌+◌, ◌*◌, ◌≤◌}
 use native.Mathlib.Omega.{arith}
 use lib.ListN.{length}
-use borrow.Author.Rules.{rules}
 use Rattle.text.specs.Room.{put_full, put_fits, no_room, has_room_lem}
 use Rattle.listing_lines.proofs.put_order_line.Goals as goal
 use Rattle.listing_lines.proofs.put_order_line.Goals.{Else-lacks}

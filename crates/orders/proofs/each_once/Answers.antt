@@ -1,9 +1,7 @@
-use borrow.Author.Rules.{rules}
-use Prim.Native.Nat.{◌-◌}
 use native.Mathlib.Omega.{arith}
 use mathlib.Core.Path.{refl, sym, ◌∙◌}
 use Rattle.laws.specs.Sums.Bits.{set_within}
-use Rattle.orders.specs.Seen.{SeenUpTo, seen_none, seen_next, seen_all, seen_again, not_a_vertex}
+use Rattle.orders.specs.Seen.{seen_none, seen_next, seen_all, seen_again, not_a_vertex}
 use Rattle.orders.proofs.each_once.Goals as goal
 
 pub loop-p-init : goal.loop-p-init

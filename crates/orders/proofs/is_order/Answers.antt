@@ -1,4 +1,3 @@
-use borrow.Author.Rules.{rules}
 use borrow.Author.Tests.{le-leb, lt-leb}
 use Rattle.orders.specs.Seen.{too_short}
 use Rattle.orders.proofs.is_order.Goals as goal

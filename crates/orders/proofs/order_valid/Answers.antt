@@ -1,5 +1,3 @@
-use borrow.Author.Rules.{rules}
-use Rattle.laws.specs.Sums.Indicators.{test_held, test_failed}
 use Rattle.std.proofs.Common.{sym}
 use Rattle.std.proofs.Common.{◌∙◌}
 use Rattle.orders.proofs.order_valid.Goals as goal

@@ -1,6 +1,4 @@
-use Prim.Native.Nat.{◌-◌}
-use native.Mathlib.Omega.{arith}
-use Rattle.laws.specs.Layouts.Zeros.{ZeroUpTo, zero_none, zero_next, zero_all, zero_fails}
+use Rattle.laws.specs.Layouts.Zeros.{zero_none, zero_next, zero_all, zero_fails}
 use Rattle.orders.proofs.zero_from.Goals as goal
 
 pub loop-i-init : goal.loop-i-init

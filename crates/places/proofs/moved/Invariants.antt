@@ -1,12 +1,7 @@
-use borrow.Author.Rules.{rules}
-use Prim.Native.Nat.{ℕ, ◌-◌}
-use native.Mathlib.Omega.{arith}
-use mathlib.Core.Path.{ap}
+use Prim.Native.Nat.{◌-◌}
 use lib.ListN.{get_or}
-use borrow.Author.Tests.{lt-ltb, le-ltb}
-use Rattle.laws.specs.Sums.Loops.{FilledUpTo, filled_start, filled_next, filled_end}
+use Rattle.laws.specs.Sums.Loops.{FilledUpTo}
 use Rattle.laws.specs.Orders.Moves.{moved_from}
-use Rattle.places.specs.MovedPlaces.{shifted}
 use Rattle.places.proofs.moved.Given as goal
 
 abbrev pub invariant-loop-i : goal.invariant-loop-i

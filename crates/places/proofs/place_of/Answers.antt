@@ -1,9 +1,9 @@
-use Prim.Native.Nat.{ℕ, ◌-◌}
+use Prim.Native.Nat.{ℕ}
 use native.Mathlib.Omega.{arith}
 use mathlib.Core.Path.{◌≡◌}
-use lib.ListN.{length, get_or}
+use lib.ListN.{get_or}
 use borrow.Author.Count.{below_more}
-use Rattle.places.specs.MovedPlaces.{NotBefore, place_found, place_missing}
+use Rattle.places.specs.MovedPlaces.{place_found, place_missing}
 use Rattle.places.proofs.place_of.Goals as goal
 
 pub loop-i-init : goal.loop-i-init

@@ -1,9 +1,6 @@
-use Prim.Native.Nat.{ℕ, ◌-◌}
-use native.Mathlib.Omega.{arith}
-use mathlib.Core.Path.{◌≡◌}
-use lib.ListN.{length, get_or}
-use borrow.Author.Count.{below_more}
-use Rattle.places.specs.MovedPlaces.{NotBefore, place_found, place_missing}
+use Prim.Native.Nat.{◌-◌}
+use lib.ListN.{length}
+use Rattle.places.specs.MovedPlaces.{NotBefore}
 use Rattle.places.proofs.place_of.Given as goal
 
 abbrev pub invariant-loop-i : goal.invariant-loop-i

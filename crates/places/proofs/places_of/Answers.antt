@@ -1,7 +1,5 @@
-use borrow.Author.Rules.{rules}
-use Prim.Native.Nat.{◌-◌}
 use native.Mathlib.Omega.{arith}
-use Rattle.places.specs.AllPlaces.{PlacesUpTo, places_start, places_next, places_end}
+use Rattle.places.specs.AllPlaces.{places_start, places_next, places_end}
 use Rattle.places.proofs.places_of.Goals as goal
 
 pub returns-then-n-gt64 : goal.returns-then-n-gt64

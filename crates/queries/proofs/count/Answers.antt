@@ -1,7 +1,5 @@
-use borrow.Author.Rules.{rules}
 use Rattle.model.specs.Checks.{checked, by_refusal, refusal, is_valid}
 use Rattle.model.specs.Reading.{count_of}
-use Rattle.laws.specs.Sums.Indicators.{test_held, test_failed}
 use Rattle.std.proofs.Common.{sym}
 use Rattle.std.proofs.Common.{◌∙◌}
 use Rattle.queries.proofs.count.Goals as goal

@@ -1,18 +1,15 @@
 use borrow.Author.Rules.{rules}
-use Prim.Native.Nat.{ℕ, ◌≤◌}
+use Prim.Native.Nat.{◌≤◌}
 use native.Mathlib.Omega.{arith}
-use mathlib.Core.Path.{◌≡◌, ap₂, subst, sym, ◌∙◌}
+use mathlib.Core.Path.{◌≡◌, subst, sym, ◌∙◌}
 use mathlib.Core.Bool.{true}
-use mathlib.Core.List.{List, ◌++◌}
-use lib.ListN.{length, take, drop, length-take}
-use lib.Seq.{length-take-le, take-length}
+use lib.ListN.{length, length-take}
 use lib.Dec.{T}
 use Rattle.laws.specs.Layouts.Validity.{sound}
 use borrow.Author.Tests.{le-leb, lt-leb}
 use Rattle.model.specs.Checks.{checked, by_refusal, refusal, is_valid, buffer_fits}
 use Rattle.model.specs.Reading.{order_checks, order_refusal, order_bytes}
 use Rattle.model.specs.Layouts.{vertex_order, valid}
-use Rattle.laws.specs.Sums.Indicators.{test_held, test_failed}
 use Rattle.queries.proofs.order.Goals as goal
 use Rattle.queries.proofs.order.Goals.{Else-buffer-n}
 

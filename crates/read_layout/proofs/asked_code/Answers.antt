@@ -1,4 +1,3 @@
-use borrow.Author.Rules.{rules}
 use mathlib.Core.Path.{sym, ap}
 use Rattle.model.specs.declared.Asked.{Asked}
 use Rattle.model.specs.Charts.{asked, accept, refuse}

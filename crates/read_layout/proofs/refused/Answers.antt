@@ -1,4 +1,3 @@
-use borrow.Author.Rules.{rules}
 use mathlib.Core.Path.{ap}
 use Rattle.model.specs.declared.Layout.{Layout}
 use Rattle.laws.specs.Charts.Passes.{refused_read}

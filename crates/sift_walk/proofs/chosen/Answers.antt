@@ -1,4 +1,3 @@
-use borrow.Author.Rules.{rules}
 use native.Mathlib.Omega.{arith}
 use Rattle.sift_walk.specs.Finding.{moved_places, chosen_moved, chosen_kept}
 use Rattle.sift_walk.proofs.chosen.Goals as goal

@@ -1,4 +1,3 @@
-use borrow.Author.Rules.{rules}
 use native.Mathlib.Omega.{arith}
 use Rattle.sift_walk.specs.Seats.{turned_few, other_made}
 use Rattle.sift_walk.proofs.other_at.Goals as goal

@@ -1,7 +1,5 @@
-use borrow.Author.Rules.{rules}
-use Prim.Native.Nat.{◌-◌}
 use native.Mathlib.Omega.{arith}
-use Rattle.sift_walk.specs.Walks.{WalkUpTo, walking_start, walking_next, walking_end}
+use Rattle.sift_walk.specs.Walks.{walking_start, walking_next, walking_end}
 use Rattle.sift_walk.proofs.pass_all.Goals as goal
 
 pub loop-j-init : goal.loop-j-init

@@ -1,7 +1,5 @@
-use borrow.Author.Rules.{rules}
 use Prim.Native.Nat.{◌-◌}
-use native.Mathlib.Omega.{arith}
-use Rattle.sift_walk.specs.Walks.{WalkUpTo, walking_start, walking_next, walking_end}
+use Rattle.sift_walk.specs.Walks.{WalkUpTo}
 use Rattle.sift_walk.proofs.pass_all.Given as goal
 
 abbrev pub invariant-loop-j : goal.invariant-loop-j

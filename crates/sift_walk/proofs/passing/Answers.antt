@@ -1,4 +1,3 @@
-use borrow.Author.Rules.{rules}
 use Rattle.sift_walk.specs.Walks.{passed_made}
 use Rattle.sift_walk.proofs.passing.Goals as goal
 

@@ -1,7 +1,5 @@
-use borrow.Author.Rules.{rules}
-use Prim.Native.Nat.{◌-◌}
 use native.Mathlib.Omega.{arith}
-use Rattle.sift_walk.specs.Reaching.{ReachingUpTo, reaching_start, reaching_next, reaching_end}
+use Rattle.sift_walk.specs.Reaching.{reaching_start, reaching_next, reaching_end}
 use Rattle.sift_walk.proofs.reaches_of.Goals as goal
 
 pub loop-i-init : goal.loop-i-init

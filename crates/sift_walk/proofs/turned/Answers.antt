@@ -1,4 +1,3 @@
-use borrow.Author.Rules.{rules}
 use Rattle.sift_walk.specs.Seats.{turned_on, turned_round}
 use Rattle.sift_walk.proofs.turned.Goals as goal
 

@@ -1,9 +1,9 @@
-use Prim.Native.Nat.{ℕ, ◌+◌, ◌-◌, ◌≤◌}
+use Prim.Native.Nat.{ℕ, ◌+◌}
 use native.Mathlib.Omega.{arith}
 use native.Mathlib.Nat.{le_antisymm}
-use mathlib.Core.Path.{◌≡◌, refl, ap, sym, ◌∙◌}
+use mathlib.Core.Path.{refl, ap, sym, ◌∙◌}
 use mathlib.Core.List.{List}
-use lib.ListN.{length, get_or, take, set, length-set}
+use lib.ListN.{get_or, set, length-set}
 use lib.Seq.{take_all}
 use Rattle.laws.specs.Buffers.Writing.{written, written_nothing, written_next}
 use Rattle.text.proofs.copy_text.Goals as goal

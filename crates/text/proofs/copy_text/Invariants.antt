@@ -1,11 +1,7 @@
-use Prim.Native.Nat.{ℕ, ◌+◌, ◌-◌, ◌≤◌}
-use native.Mathlib.Omega.{arith}
-use native.Mathlib.Nat.{le_antisymm}
-use mathlib.Core.Path.{◌≡◌, refl, ap, sym, ◌∙◌}
-use mathlib.Core.List.{List}
-use lib.ListN.{length, get_or, take, set, length-set}
-use lib.Seq.{take_all}
-use Rattle.laws.specs.Buffers.Writing.{written, written_nothing, written_next}
+use Prim.Native.Nat.{◌-◌, ◌≤◌}
+use mathlib.Core.Path.{◌≡◌}
+use lib.ListN.{length, take}
+use Rattle.laws.specs.Buffers.Writing.{written}
 use Rattle.text.proofs.copy_text.Given as goal
 
 abbrev pub invariant-loop-i : goal.invariant-loop-i

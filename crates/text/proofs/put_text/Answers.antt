@@ -2,7 +2,6 @@ use Prim.Native.Nat.{◌+◌, ◌≤◌}
 use native.Mathlib.Nat.{le_refl}
 use lib.ListN.{length}
 use Rattle.text.specs.Room.{put_full, put_fits, no_room, has_room_lem}
-use borrow.Author.Rules.{rules}
 use Rattle.text.proofs.put_text.Goals as goal
 use Rattle.text.proofs.put_text.Goals.{Else-lacks}
 

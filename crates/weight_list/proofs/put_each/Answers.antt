@@ -1,7 +1,5 @@
-use borrow.Author.Rules.{rules}
-use Prim.Native.Nat.{◌-◌}
 use native.Mathlib.Omega.{arith}
-use Rattle.weight_list.specs.Weighed.{WeighedUpTo, each_start, each_size, each_next, each_end}
+use Rattle.weight_list.specs.Weighed.{each_start, each_size, each_next, each_end}
 use Rattle.weight_list.proofs.put_each.Goals as goal
 
 pub loop-i-init : goal.loop-i-init

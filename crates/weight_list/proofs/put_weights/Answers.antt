@@ -1,4 +1,3 @@
-use borrow.Author.Rules.{rules}
 use mathlib.Core.Path.{refl}
 use Rattle.text.specs.Room.{has_room_lem}
 use Rattle.weight_list.specs.Weighed.{ends_inside, weights_full, weights_put}

@@ -1,9 +1,4 @@
-use borrow.Author.Rules.{rules}
-use Prim.Native.Nat.{◌-◌}
-use native.Mathlib.Omega.{arith}
-use mathlib.Core.Path.{◌≡◌}
-use lib.ListN.{length}
-use Rattle.laws.specs.Tables.Rows.{ChangingUpTo, added_to, changing_start, changing_next, added_end}
+use Rattle.laws.specs.Tables.Rows.{changing_start, changing_next, added_end}
 use Rattle.weights.proofs.add_entries.Goals as goal
 
 pub loop-y-init : goal.loop-y-init

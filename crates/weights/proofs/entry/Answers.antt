@@ -1,4 +1,3 @@
-use borrow.Author.Rules.{rules}
 use Rattle.laws.specs.Tables.Rows.{table_weight}
 use Rattle.weights.proofs.entry.Goals as goal
 

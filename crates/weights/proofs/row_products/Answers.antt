@@ -1,9 +1,8 @@
-use borrow.Author.Rules.{rules}
-use Prim.Native.Nat.{ℕ, ◌*◌, ◌-◌, ◌%◌}
+use Prim.Native.Nat.{ℕ, ◌*◌, ◌%◌}
 use native.Mathlib.Omega.{arith}
 use mathlib.Core.Path.{ap, ◌∙◌}
 use lib.ListN.{get_or}
-use Rattle.laws.specs.Tables.Rows.{table_weight, row_sum, SummedUpTo, summed_start, summed_next, summed_end}
+use Rattle.laws.specs.Tables.Rows.{row_sum, summed_start, summed_next, summed_end}
 use Rattle.weights.proofs.row_products.Goals as goal
 
 pub loop-i-init : goal.loop-i-init

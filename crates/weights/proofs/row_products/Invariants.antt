@@ -1,9 +1,6 @@
-use borrow.Author.Rules.{rules}
-use Prim.Native.Nat.{ℕ, ◌*◌, ◌-◌, ◌%◌}
-use native.Mathlib.Omega.{arith}
-use mathlib.Core.Path.{ap, ◌∙◌}
+use Prim.Native.Nat.{◌*◌, ◌-◌, ◌%◌}
 use lib.ListN.{get_or}
-use Rattle.laws.specs.Tables.Rows.{table_weight, row_sum, SummedUpTo, summed_start, summed_next, summed_end}
+use Rattle.laws.specs.Tables.Rows.{table_weight, SummedUpTo}
 use Rattle.weights.proofs.row_products.Given as goal
 
 abbrev pub invariant-loop-i : goal.invariant-loop-i

@@ -1,7 +1,5 @@
-use borrow.Author.Rules.{rules}
-use Prim.Native.Nat.{◌-◌}
 use native.Mathlib.Omega.{arith}
-use Rattle.laws.specs.Tables.Rows.{table_weight, row_weight, SummedUpTo, summed_start, summed_next, summed_end}
+use Rattle.laws.specs.Tables.Rows.{row_weight, summed_start, summed_next, summed_end}
 use Rattle.weights.proofs.row_total.Goals as goal
 
 pub loop-i-init : goal.loop-i-init

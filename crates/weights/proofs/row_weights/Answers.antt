@@ -1,8 +1,6 @@
 use borrow.Author.Rules.{rules}
-use Prim.Native.Nat.{◌-◌}
 use native.Mathlib.Omega.{arith}
-use Rattle.laws.specs.Sums.Loops.{FilledUpTo, filled_start, filled_next}
-use Rattle.laws.specs.Tables.Rows.{row_weight}
+use Rattle.laws.specs.Sums.Loops.{filled_start, filled_next}
 use Rattle.weights.proofs.row_weights.Goals as goal
 
 pub loop-v-init : goal.loop-v-init

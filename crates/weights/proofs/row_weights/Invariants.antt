@@ -1,7 +1,5 @@
-use borrow.Author.Rules.{rules}
 use Prim.Native.Nat.{◌-◌}
-use native.Mathlib.Omega.{arith}
-use Rattle.laws.specs.Sums.Loops.{FilledUpTo, filled_start, filled_next}
+use Rattle.laws.specs.Sums.Loops.{FilledUpTo}
 use Rattle.laws.specs.Tables.Rows.{row_weight}
 use Rattle.weights.proofs.row_weights.Given as goal
 

@@ -1,4 +1,3 @@
-use borrow.Author.Rules.{rules}
 use mathlib.Core.Path.{refl}
 use Rattle.model.specs.Edits.{both_ways}
 use Rattle.weights.proofs.set_both.Goals as goal

@@ -1,9 +1,7 @@
-use borrow.Author.Rules.{rules}
 use Prim.Native.Nat.{◌-◌}
-use native.Mathlib.Omega.{arith}
 use mathlib.Core.Path.{◌≡◌}
 use lib.ListN.{length}
-use Rattle.laws.specs.Tables.Rows.{ChangingUpTo, taken_from, changing_start, changing_next, taken_end}
+use Rattle.laws.specs.Tables.Rows.{ChangingUpTo, taken_from}
 use Rattle.weights.proofs.sub_entries.Given as goal
 
 abbrev pub invariant-loop-y : goal.invariant-loop-y

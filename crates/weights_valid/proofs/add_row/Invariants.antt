@@ -1,9 +1,5 @@
-use borrow.Author.Rules.{rules}
 use Prim.Native.Nat.{◌-◌}
-use native.Mathlib.Omega.{arith}
-use mathlib.Core.Path.{sym, ◌∙◌}
-use Rattle.model.specs.Layouts.{table_weight}
-use Rattle.weights_valid.specs.Bytes.{AddedUpTo, added_start, doubled_fits, added_fits, added_next, added_end}
+use Rattle.weights_valid.specs.Bytes.{AddedUpTo}
 use Rattle.weights_valid.proofs.add_row.Given as goal
 
 abbrev pub invariant-loop-v : goal.invariant-loop-v

@@ -1,12 +1,10 @@
-use borrow.Author.Rules.{rules}
 use Prim.Native.Nat.{ℕ, ◌-◌}
-use native.Mathlib.Omega.{arith}
 use mathlib.Core.Bool.{Bool}
 use mathlib.Core.List.{List}
 use lib.Dec.{eqb}
 use lib.ListN.{get_or}
-use Rattle.laws.specs.Sums.Below.{ToldBelow, told_start, told_next, told_end}
-use Rattle.weights_valid.specs.Bytes.{byte_of, bits_fit, joined_byte}
+use Rattle.laws.specs.Sums.Below.{ToldBelow}
+use Rattle.weights_valid.specs.Bytes.{byte_of}
 use Rattle.weights_valid.proofs.bits_fit.Given as goal
 
 abbrev pub passes : List ℕ → List ℕ → ℕ → ℕ → Bool

@@ -1,4 +1,3 @@
-use native.Mathlib.Omega.{arith}
 use mathlib.Core.Path.{refl}
 use Rattle.weights_valid.specs.Bytes.{byte_of}
 use Rattle.weights_valid.proofs.byte_of.Goals as goal

@@ -1,8 +1,6 @@
-use Prim.Native.Nat.{◌-◌}
 use native.Mathlib.Omega.{arith}
-use borrow.Author.Tests.{not-true, not-false}
-use Rattle.laws.specs.Sums.Below.{PassedBelow, below_start, below_next, below_all, below_fails}
-use Rattle.weights_valid.specs.Pairs.{even_below, even_row}
+use Rattle.laws.specs.Sums.Below.{below_start, below_next, below_all, below_fails}
+use Rattle.weights_valid.specs.Pairs.{even_below}
 use Rattle.weights_valid.proofs.even.Goals as goal
 
 pub loop-u-init : goal.loop-u-init

@@ -1,8 +1,6 @@
 use Prim.Native.Nat.{◌-◌}
-use native.Mathlib.Omega.{arith}
-use borrow.Author.Tests.{not-true, not-false}
-use Rattle.laws.specs.Sums.Below.{PassedBelow, below_start, below_next, below_all, below_fails}
-use Rattle.weights_valid.specs.Pairs.{even_below, even_row}
+use Rattle.laws.specs.Sums.Below.{PassedBelow}
+use Rattle.weights_valid.specs.Pairs.{even_row}
 use Rattle.weights_valid.proofs.even.Given as goal
 
 abbrev pub invariant-loop-u : goal.invariant-loop-u

@@ -1,10 +1,7 @@
-use borrow.Author.Rules.{rules}
 use Prim.Native.Nat.{suc, ◌+◌, ◌-◌}
-use native.Mathlib.Omega.{arith}
-use Rattle.model.specs.Layouts.{table_weight}
 use lib.Dec.{eqb}
-use Rattle.laws.specs.Sums.Below.{ToldBelow, told_start, told_next, told_end}
-use Rattle.weights_valid.specs.Pairs.{even_pair, even_row}
+use Rattle.laws.specs.Sums.Below.{ToldBelow}
+use Rattle.weights_valid.specs.Pairs.{even_pair}
 use Rattle.weights_valid.proofs.even_row.Given as goal
 
 abbrev pub invariant-loop-v : goal.invariant-loop-v

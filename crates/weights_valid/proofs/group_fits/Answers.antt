@@ -1,6 +1,6 @@
 use native.Mathlib.Omega.{arith}
 use mathlib.Core.Path.{sym}
-use Rattle.weights_valid.specs.Bytes.{BitsFrom, bits_start, bits_few, bits_next, bits_group}
+use Rattle.weights_valid.specs.Bytes.{bits_start, bits_few, bits_next, bits_group}
 use Rattle.weights_valid.proofs.group_fits.Goals as goal
 
 pub loop-j-init : goal.loop-j-init

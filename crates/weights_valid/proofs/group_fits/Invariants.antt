@@ -1,6 +1,4 @@
-use native.Mathlib.Omega.{arith}
-use mathlib.Core.Path.{sym}
-use Rattle.weights_valid.specs.Bytes.{BitsFrom, bits_start, bits_few, bits_next, bits_group}
+use Rattle.weights_valid.specs.Bytes.{BitsFrom}
 use Rattle.weights_valid.proofs.group_fits.Given as goal
 
 abbrev pub invariant-loop-j : goal.invariant-loop-j

@@ -1,5 +1,3 @@
-use borrow.Author.Rules.{rules}
-use Rattle.laws.specs.Sums.Indicators.{test_held, test_failed}
 use Rattle.weights_valid.specs.Fitting.{bounded_few, weighted_graph}
 use Rattle.std.proofs.Common.{sym}
 use Rattle.std.proofs.Common.{◌∙◌}

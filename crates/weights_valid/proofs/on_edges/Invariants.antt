@@ -1,8 +1,6 @@
 use Prim.Native.Nat.{◌-◌}
-use native.Mathlib.Omega.{arith}
-use borrow.Author.Tests.{not-true, not-false}
-use Rattle.laws.specs.Sums.Below.{PassedBelow, below_start, below_next, below_all, below_fails}
-use Rattle.weights_valid.specs.Bytes.{group_fits, on_edges}
+use Rattle.laws.specs.Sums.Below.{PassedBelow}
+use Rattle.weights_valid.specs.Bytes.{group_fits}
 use Rattle.weights_valid.proofs.on_edges.Given as goal
 
 abbrev pub invariant-loop-k : goal.invariant-loop-k

@@ -1,4 +1,3 @@
-use borrow.Author.Rules.{rules}
 use mathlib.Core.Path.{refl}
 use Rattle.model.specs.Crossings.{bit}
 use Rattle.laws.specs.Sums.Bits.{bit_beyond}

@@ -1,5 +1,3 @@
-use borrow.Author.Rules.{rules}
-use Prim.Native.Nat.{◌-◌}
 use native.Mathlib.Nat.{min-eq_left, min-eq_right, le_of_lt}
 use lib.Pow.{pow_pos}
 use Rattle.laws.specs.Sums.Bits.{shifted_one}

@@ -1,4 +1,3 @@
-use borrow.Author.Rules.{rules}
 use borrow.Author.Tests.{lt-ltb, le-ltb}
 use Rattle.laws.specs.Sums.Bits.{shifted_one, or_power}
 use Rattle.words.proofs.set.Goals as goal

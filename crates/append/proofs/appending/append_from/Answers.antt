@@ -1,4 +1,3 @@
-use borrow.Author.Rules.{rules}
 use Rattle.append.specs.Calls.{graph_valid, laid_right}
 use Rattle.append.proofs.appending.append_from.Goals as goal
 

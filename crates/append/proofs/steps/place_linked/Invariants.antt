@@ -1,9 +1,5 @@
-use borrow.Author.Rules.{rules}
-use Prim.Native.Nat.{◌-◌, ◌<◌}
-use native.Mathlib.Omega.{arith}
-use borrow.Author.Tests.{le-leb}
-use Rattle.laws.specs.Sums.Bits.{set_within}
-use Rattle.append.specs.Steps.{PlacedUpTo, place_start, next_fits, place_less, place_next_lem, place_end}
+use Prim.Native.Nat.{◌-◌}
+use Rattle.append.specs.Steps.{PlacedUpTo}
 use Rattle.append.proofs.steps.place_linked.Given as goal
 
 abbrev pub invariant-loop-v : goal.invariant-loop-v

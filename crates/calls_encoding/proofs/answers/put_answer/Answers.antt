@@ -3,7 +3,6 @@ use Prim.Native.Nat.{◌+◌, ◌≤◌}
 use lib.ListN.{length, length-set}
 use Rattle.model.specs.Playing.{answer_width}
 use Rattle.calls_encoding.specs.Answers.{not_answered, answer_put}
-use borrow.Author.Rules.{rules}
 use Rattle.text.specs.Room.{no_room, has_room_lem}
 use Rattle.calls_encoding.proofs.answers.put_answer.Goals as goal
 use Rattle.calls_encoding.proofs.answers.put_answer.Goals.{Else-lacks}

@@ -1,6 +1,5 @@
 use mathlib.Core.Path.{◌∙◌}
 use Rattle.calls_encoding.specs.CallLists.{call_beyond, call_numbers}
-use borrow.Author.Rules.{rules}
 use Rattle.calls_encoding.proofs.calls.call_at.Goals as goal
 
 pub returns-then-calls-i : goal.returns-then-calls-i

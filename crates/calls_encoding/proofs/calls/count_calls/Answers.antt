@@ -1,9 +1,5 @@
-use borrow.Author.Rules.{rules}
-use Prim.Native.Nat.{◌-◌, ◌≤◌}
 use native.Mathlib.Omega.{arith}
 use mathlib.Core.Path.{sym, ◌∙◌}
-use lib.ListN.{length}
-use Rattle.model.specs.Playing.{calls_of}
 use Rattle.calls_encoding.specs.CallLists.{calls_fit, counted_next, counted_end}
 use Rattle.calls_encoding.proofs.calls.count_calls.Goals as goal
 

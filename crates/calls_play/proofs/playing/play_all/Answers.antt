@@ -1,9 +1,8 @@
-use Prim.Native.Nat.{◌-◌}
 use native.Mathlib.Omega.{arith}
 use mathlib.Core.Path.{◌≡◌}
 use lib.ListN.{length}
 use Rattle.laws.specs.Buffers.Writing.{written_size}
-use Rattle.calls_play.specs.PlayLoops.{PlayedUpTo, played_start, played_next, played_all}
+use Rattle.calls_play.specs.PlayLoops.{played_start, played_next, played_all}
 use Rattle.calls_play.proofs.playing.play_all.Goals as goal
 use Rattle.calls_play.proofs.playing.play_all.Goals.{At-loop-i}
 

@@ -1,9 +1,5 @@
 use Prim.Native.Nat.{◌-◌}
-use native.Mathlib.Omega.{arith}
-use mathlib.Core.Path.{◌≡◌}
-use lib.ListN.{length}
-use Rattle.laws.specs.Buffers.Writing.{written_size}
-use Rattle.calls_play.specs.PlayLoops.{PlayedUpTo, played_start, played_next, played_all}
+use Rattle.calls_play.specs.PlayLoops.{PlayedUpTo}
 use Rattle.calls_play.proofs.playing.play_all.Given as goal
 
 abbrev pub invariant-loop-i : goal.invariant-loop-i

@@ -1,4 +1,3 @@
-use borrow.Author.Rules.{rules}
 use Rattle.calls_play.specs.PlayedFrom.{played_from_lem}
 use Rattle.calls_play.proofs.playing.play_from.Goals as goal
 

@@ -1,4 +1,3 @@
-use borrow.Author.Rules.{rules}
 use mathlib.Core.Path.{sym, ◌∙◌}
 use Rattle.calls_play.specs.PlayLoops.{there_played, there_ended}
 use Rattle.calls_play.proofs.playing.play_next.Goals as goal

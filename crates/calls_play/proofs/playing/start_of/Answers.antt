@@ -2,7 +2,6 @@ use mathlib.Core.Path.{sym, ap, ◌∙◌}
 use Rattle.model.specs.declared.Layout.{Layout}
 use Rattle.model.specs.declared.Origin.{Origin}
 use Rattle.model.specs.Playing.{start_of}
-use borrow.Author.Rules.{rules}
 use Rattle.calls_play.proofs.playing.start_of.Goals as goal
 
 pub returns-in-Empty : goal.returns-in-Empty

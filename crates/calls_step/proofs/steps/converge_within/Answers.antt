@@ -1,6 +1,5 @@
 use mathlib.Core.Path.{◌∙◌}
 use Rattle.calls_step.specs.Limits.{limits_above}
-use borrow.Author.Rules.{rules}
 use Rattle.calls_step.proofs.steps.converge_within.Goals as goal
 
 pub returns-then-limit-gt1000 : goal.returns-then-limit-gt1000

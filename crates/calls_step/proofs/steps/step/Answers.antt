@@ -1,7 +1,6 @@
 use mathlib.Core.Path.{sym, ap, ◌∙◌}
 use Rattle.model.specs.Histories.{answer_of}
 use Rattle.model.specs.Histories.{of_added, of_changed, of_appended, of_sifted, of_rounded, of_converged}
-use borrow.Author.Rules.{rules}
 use Rattle.calls_step.proofs.steps.step.Goals as goal
 
 pub returns-in-AddVertex : goal.returns-in-AddVertex

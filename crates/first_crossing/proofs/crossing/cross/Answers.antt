@@ -1,4 +1,3 @@
-use borrow.Author.Rules.{rules}
 use mathlib.Core.Path.{sym, ◌∙◌}
 use Rattle.first_crossing.specs.Search.{cross_at}
 use Rattle.first_crossing.proofs.crossing.cross.Goals as goal

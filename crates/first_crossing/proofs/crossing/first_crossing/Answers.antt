@@ -1,10 +1,8 @@
-use borrow.Author.Rules.{rules}
 use mathlib.Core.Path.{refl, sym, subst}
 use lib.Dec.{T}
 use Rattle.model.specs.Layouts.{valid}
 use Rattle.model.specs.Checks.{checked, by_refusal, refusal, is_valid}
 use Rattle.model.specs.Reading.{shown, first_crossing_of}
-use Rattle.laws.specs.Sums.Indicators.{test_held, test_failed}
 use Rattle.first_crossing.specs.Search.{searchable, search_shown}
 use Rattle.std.proofs.Common.{◌∙◌}
 use Rattle.first_crossing.proofs.crossing.first_crossing.Goals as goal

@@ -1,12 +1,5 @@
-use borrow.Author.Rules.{rules}
 use Prim.Native.Nat.{◌-◌}
-use native.Mathlib.Omega.{arith}
-use mathlib.Core.Path.{sym}
-use Rattle.model.specs.Reading.{shown}
-use Rattle.laws.specs.Layouts.FirstCrossing.{found}
-use Rattle.places.specs.AllPlaces.{PlacesOf}
-use Rattle.first_crossing.specs.Search.{FirstsPassed, SecondsPassed, in_array, ends_below, firsts_start, firsts_end, firsts_next}
-use Rattle.first_crossing.specs.Search.{seconds_start, seconds_next, pair_found}
+use Rattle.first_crossing.specs.Search.{FirstsPassed, SecondsPassed}
 use Rattle.first_crossing.proofs.crossing.first_pair.Given as goal
 
 abbrev pub invariant-loop-second : goal.invariant-loop-second

@@ -1,10 +1,6 @@
-use borrow.Author.Rules.{rules}
-use Prim.Native.Nat.{ℕ, ◌-◌}
-use native.Mathlib.Omega.{arith}
 use mathlib.Core.Path.{ap}
-use mathlib.Core.Bool.{Bool, not}
-use mathlib.Core.List.{List}
-use Rattle.laws.specs.Sums.Below.{PassedBelow, below_start, below_next, below_all, below_fails}
+use mathlib.Core.Bool.{not}
+use Rattle.laws.specs.Sums.Below.{below_start, below_next, below_all, below_fails}
 use Rattle.model.specs.Layouts.{loopless}
 use Rattle.model.specs.Crossings.{linked}
 use Rattle.graphs.proofs.rows.loopless.Goals as goal

@@ -1,6 +1,5 @@
 use Prim.Native.Nat.{◌-◌}
-use native.Mathlib.Omega.{arith}
-use Rattle.laws.specs.Layouts.Zeros.{ZeroUpTo, zero_none, zero_next, zero_all, zero_fails}
+use Rattle.laws.specs.Layouts.Zeros.{ZeroUpTo}
 use Rattle.graphs.proofs.rows.zero_from.Given as goal
 
 abbrev pub invariant-loop-i : goal.invariant-loop-i

@@ -1,4 +1,4 @@
-use Rattle.std.proofs.Common.{◌≡◌, sym, ◌∙◌, rules}
+use Rattle.std.proofs.Common.{◌≡◌, sym, ◌∙◌}
 use Rattle.model.specs.Checks.{refusal}
 use Rattle.model.specs.Sifting.{settle_checks, settle_refused, settle_of, rounds_up_to}
 use Rattle.laws.specs.Layouts.Refusals.{when_accepted, when_refused}

@@ -1,4 +1,4 @@
-use Rattle.std.proofs.Common.{refl, rules}
+use Rattle.std.proofs.Common.{refl}
 use Rattle.sifting.specs.Settling.{settled_next}
 use Rattle.sifting.proofs.convergence.run_next.Goals as goal
 

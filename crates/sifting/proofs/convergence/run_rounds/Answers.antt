@@ -1,5 +1,5 @@
-use Rattle.std.proofs.Common.{◌-◌, ◌<◌, arith}
-use Rattle.sifting.specs.Settling.{SettlingUpTo, settling_start, settling_next, settling_less, settling_still, settling_limit, settling_bounds}
+use Rattle.std.proofs.Common.{◌<◌, arith}
+use Rattle.sifting.specs.Settling.{settling_start, settling_next, settling_less, settling_still, settling_limit, settling_bounds}
 use Rattle.sifting.proofs.convergence.run_rounds.Goals as goal
 use Rattle.sifting.proofs.convergence.run_rounds.Goals.{In-loop-state}
 

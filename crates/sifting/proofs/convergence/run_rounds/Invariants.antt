@@ -1,5 +1,5 @@
-use Rattle.std.proofs.Common.{◌-◌, ◌<◌, arith}
-use Rattle.sifting.specs.Settling.{SettlingUpTo, settling_start, settling_next, settling_less, settling_still, settling_limit, settling_bounds}
+use Rattle.std.proofs.Common.{◌-◌}
+use Rattle.sifting.specs.Settling.{SettlingUpTo}
 use Rattle.sifting.proofs.convergence.run_rounds.Given as goal
 
 abbrev pub invariant-loop-state : goal.invariant-loop-state

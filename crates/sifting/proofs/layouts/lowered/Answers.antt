@@ -1,4 +1,4 @@
-use Rattle.std.proofs.Common.{arith, rules}
+use Rattle.std.proofs.Common.{arith}
 use Rattle.sifting.specs.Layouts.{lowered_wrapping}
 use Rattle.sifting.proofs.layouts.lowered.Goals as goal
 

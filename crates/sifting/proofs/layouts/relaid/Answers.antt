@@ -1,4 +1,4 @@
-use Rattle.std.proofs.Common.{ℕ, ap, rules}
+use Rattle.std.proofs.Common.{ℕ, ap}
 use Rattle.sifting.specs.Layouts.{relaid}
 use Rattle.sifting.proofs.layouts.relaid.Goals as goal
 

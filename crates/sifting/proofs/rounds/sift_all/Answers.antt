@@ -1,8 +1,8 @@
-use Rattle.std.proofs.Common.{◌-◌, ◌<◌, refl, ◌∙◌, arith, rules}
-use Rattle.laws.specs.Sums.Loops.{MadeUpTo, made_start, made_next, made_end}
+use Rattle.std.proofs.Common.{◌<◌, refl, ◌∙◌, arith}
+use Rattle.laws.specs.Sums.Loops.{made_start, made_next, made_end}
 use Rattle.sift_walk.specs.Finding.{Found}
 use Rattle.sifting.specs.Arrays.{walker}
-use Rattle.sifting.specs.Sweeps.{swept_to, round_is, swept_start, swept_bounds, swept_next_lem, ready}
+use Rattle.sifting.specs.Sweeps.{round_is, swept_start, swept_bounds, swept_next_lem, ready}
 use Rattle.sifting.proofs.rounds.sift_all.Goals as goal
 use Rattle.sifting.proofs.rounds.sift_all.Goals.{After-best_order-best}
 

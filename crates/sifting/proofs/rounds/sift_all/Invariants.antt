@@ -1,8 +1,6 @@
-use Rattle.std.proofs.Common.{◌-◌, ◌<◌, refl, ◌∙◌, arith, rules}
-use Rattle.laws.specs.Sums.Loops.{MadeUpTo, made_start, made_next, made_end}
-use Rattle.sift_walk.specs.Finding.{Found}
-use Rattle.sifting.specs.Arrays.{walker}
-use Rattle.sifting.specs.Sweeps.{swept_to, round_is, swept_start, swept_bounds, swept_next_lem, ready}
+use Rattle.std.proofs.Common.{◌-◌}
+use Rattle.laws.specs.Sums.Loops.{MadeUpTo}
+use Rattle.sifting.specs.Sweeps.{swept_to}
 use Rattle.sifting.proofs.rounds.sift_all.Given as goal
 
 abbrev pub invariant-loop-u : goal.invariant-loop-u

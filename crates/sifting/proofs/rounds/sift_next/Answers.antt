@@ -1,4 +1,3 @@
-use Rattle.std.proofs.Common.{rules}
 use Rattle.sifting.specs.Sweeps.{next_made}
 use Rattle.sifting.proofs.rounds.sift_next.Goals as goal
 

@@ -1,8 +1,7 @@
-use Rattle.std.proofs.Common.{T, sym, subst, rules}
+use Rattle.std.proofs.Common.{T, sym, subst}
 use Rattle.model.specs.Layouts.{valid}
 use Rattle.model.specs.Checks.{checked, by_refusal, refusal, is_valid}
 use Rattle.model.specs.Sifting.{round_of}
-use Rattle.laws.specs.Sums.Indicators.{test_held, test_failed}
 use Rattle.std.proofs.Common.{◌∙◌}
 use Rattle.sifting.proofs.rounds.sifting_round.Goals as goal
 use Rattle.sifting.proofs.rounds.sifting_round.Goals.{Else-not-is_valid}

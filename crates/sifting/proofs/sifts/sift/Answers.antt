@@ -1,4 +1,4 @@
-use Rattle.std.proofs.Common.{◌<◌, T, sym, ◌∙◌, rules}
+use Rattle.std.proofs.Common.{◌<◌, T, sym, ◌∙◌}
 use Rattle.model.specs.Layouts.{valid}
 use Rattle.model.specs.Sifting.{sift_checks, sift_answer, sift_refused, sift_of}
 use Rattle.laws.specs.Layouts.Refusals.{when_refused, vertex_passed}

@@ -1,4 +1,3 @@
-use borrow.Author.Rules.{rules}
 use native.Mathlib.Omega.{arith}
 use borrow.Author.Tests.{lt-ltb, le-ltb, eq-eqb, ne_eqb}
 use mathlib.Core.Bool.{true}
@@ -6,7 +5,6 @@ use mathlib.Core.Path.{◌≡◌}
 use Rattle.model.specs.Layouts.{valid}
 use Rattle.model.specs.Checks.{refusal, is_valid, is_vertex, differ}
 use Rattle.model.specs.Edits.{move_checks}
-use Rattle.laws.specs.Sums.Indicators.{test_held, test_failed}
 use Rattle.std.proofs.Common.{sym}
 use Rattle.std.proofs.Common.{◌∙◌}
 use Rattle.validity.proofs.checks.pair_refusal.Goals as goal

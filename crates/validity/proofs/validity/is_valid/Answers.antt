@@ -1,10 +1,9 @@
-use borrow.Author.Rules.{rules}
 use Prim.Native.Nat.{ℕ}
 use mathlib.Core.Path.{◌≡◌}
 use mathlib.Core.Bool.{Bool, true, ◌&&◌}
 use mathlib.Core.List.{List}
 use lib.Dec.{leb}
-use Rattle.laws.specs.Sums.Indicators.{test_held, test_failed, both_left}
+use Rattle.laws.specs.Sums.Indicators.{both_left}
 use Rattle.model.specs.Layouts.{valid, vertex_order, symmetric, loopless, bits_below, zero_from, weights_fit}
 use Rattle.std.proofs.Common.{sym}
 use Rattle.std.proofs.Common.{◌∙◌}

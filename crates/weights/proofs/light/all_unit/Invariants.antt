@@ -1,10 +1,7 @@
-use borrow.Author.Rules.{rules}
 use Prim.Native.Nat.{◌-◌}
-use native.Mathlib.Omega.{arith}
 use lib.Dec.{leb}
 use lib.ListN.{get_or}
-use Rattle.laws.specs.Sums.Below.{ToldBelow, told_start, told_next, told_end}
-use Rattle.laws.specs.Layouts.Units.{none_above_one}
+use Rattle.laws.specs.Sums.Below.{ToldBelow}
 use Rattle.weights.proofs.light.all_unit.Given as goal
 
 abbrev pub invariant-loop-i : goal.invariant-loop-i

@@ -1,10 +1,8 @@
 use borrow.Author.Rules.{rules}
-use Prim.Native.Nat.{◌-◌, ◌/◌, ◌%◌}
 use native.Mathlib.Omega.{arith}
 use mathlib.Core.Path.{refl}
-use lib.ListN.{get_or}
 use Rattle.model.specs.Crossings.{bit}
-use Rattle.laws.specs.Sums.Loops.{FilledUpTo, filled_start, filled_next, filled_end}
+use Rattle.laws.specs.Sums.Loops.{filled_start, filled_next, filled_end}
 use Rattle.weights.specs.Units.{unit_table}
 use Rattle.weights.proofs.units.unit_table.Goals as goal
 
