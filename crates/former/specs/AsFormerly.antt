@@ -11,7 +11,8 @@ use Rattle.laws.specs.Layouts.Validity.{sound, valid_symmetric}
 use Rattle.laws.specs.Layouts.Refusals.{vertex_passed, checked_both}
 use Rattle.laws.specs.Layouts.Reordering.{reordered_order, reordered_crossings}
 use Rattle.laws.specs.Layouts.Weights.{weight_within_words}
-use Rattle.laws.specs.Append.Calls.{Laid, laid_permutation, laid_tally, former_laid_all, laid_out, lay_permutation, lay_crossings}
+use Rattle.laws.specs.Append.Calls.{Laid, laid_permutation, laid_tally, laid_out}
+use Rattle.laws.proofs.Append.Calls.{former_laid_all, lay_permutation, lay_crossings}
 use Rattle.former.specs.Runs.{rest_at_back, all_formerly}
 
 -- what lay from s gives now is what it gave by the former rule, but for the places of isolated vertices other than s

@@ -20,7 +20,7 @@ use Rattle.model.specs.WrittenCharts.{weights_of, unit_weighted}
 use Rattle.model.specs.Graph6.{graph6_size, graph6_data, graph6_edges, graph6_checks, graph6_layout, import_of}
 use Rattle.model.specs.Former.{FormerLayout, FormerRead, former_modulus, former_empty, former_layout_with, former_chart_checks, former_read_of, former_import_of}
 use Rattle.laws.specs.Sums.Lists.{All, none, also}
-use Rattle.laws.specs.Crossings.Bound.{crossing_sum_bound}
+use Rattle.laws.proofs.Crossings.Bound.{crossing_sum_bound}
 use Rattle.laws.specs.Orders.Permutations.{at, at_lt}
 use Rattle.laws.specs.Layouts.Validity.{sound, place_weight, crossings_rising}
 use Rattle.laws.specs.Layouts.Refusals.{all_pass}

@@ -1,5 +1,5 @@
 -- The fields of a chart, one after the other, whatever the number of steps.
-use Rattle.std.specs.Prelude.{ℕ, zero, suc, ◌+◌, ◌-◌, ◌≤◌, ◌≡◌, refl, Bool, true, false, List, [], ◌∷◌, length, drop, eqb, leb}
+use Rattle.std.specs.Prelude.{ℕ, zero, suc, ◌+◌, ◌≤◌, ◌≡◌, refl, Bool, true, false, List, [], ◌∷◌, length, drop, eqb, leb}
 use Rattle.std.proofs.Common.{arith, sym, ap, ◌∙◌, length-drop, length-take-le, eqb-true, leb-true}
 use Rattle.model.specs.Lists.{sum_over}
 use Rattle.model.specs.Charts.{Field, Fields, body_length, starts_with_field, first_field, fields_in, fields_of}

@@ -6,7 +6,6 @@ use Rattle.std.proofs.Math.Path.{sym, ap}
 use Rattle.std.proofs.Math.ListN.{length-set}
 use Rattle.std.proofs.lemmas.List.{length-map}
 use Rattle.model.specs.declared.Edge.{Edge}
-use Rattle.model.specs.declared.Asked.TheVariants as asks
 use Rattle.model.specs.Lists.{one, upto, any, sum_over}
 use Rattle.model.specs.Crossings.{bit, linked}
 use Rattle.model.specs.Edits.{with_bit, at_both_ends}

@@ -1,5 +1,5 @@
 -- The bytes that hold six bits.
-use Rattle.std.specs.Prelude.{ℕ, ◌-◌, ◌≤◌, ◌≡◌, true, leb}
+use Rattle.std.specs.Prelude.{ℕ, ◌≤◌, ◌≡◌, true, leb}
 use Rattle.std.proofs.Common.{le-leb, leb-true}
 use Rattle.model.specs.Graph6.{holds_six}
 use Rattle.laws.specs.Sums.Indicators.{both_left, both_right}

@@ -1,9 +1,9 @@
 -- The size part: bytes start with that of at most one number of vertices.
-use Rattle.std.specs.Prelude.{ℕ, ◌+◌, ◌/◌, ◌%◌, ◌≤◌, ◌<◌, ◌≡◌, refl, Bool, true, ◌&&◌, get_or, take, eqb}
+use Rattle.std.specs.Prelude.{ℕ, ◌+◌, ◌/◌, ◌%◌, ◌≤◌, ◌<◌, ◌≡◌, true, get_or, take}
 use Rattle.std.proofs.Math.Decide.{dec_lt}
-use Rattle.std.proofs.Common.{arith, ap₂, ◌∙◌, subst, length-append, take-append-drop, eqb-true, eq-eqb, le-leb}
+use Rattle.std.proofs.Common.{arith, ◌∙◌, subst, length-append, take-append-drop, le-leb}
 use Rattle.std.proofs.Math.Path.{sym, ap}
-use Rattle.std.proofs.lemmas.Bool.{false≢true, lt-leb}
+use Rattle.std.proofs.lemmas.Bool.{lt-leb}
 use mathlib.Core.List.{List, [], ◌∷◌, ◌++◌}
 use Rattle.std.proofs.Math.ListN.{length, drop}
 use Rattle.std.proofs.Math.Seq.{take-append_seam}
@@ -11,7 +11,7 @@ use Rattle.std.proofs.Math.Dec.{T}
 use Rattle.model.specs.Lists.{upto, any}
 use Rattle.model.specs.Charts.{same_list}
 use Rattle.model.specs.Graph6.{size_part, starts_with_size, graph6_size}
-use Rattle.laws.specs.Sums.Indicators.{T_true, both_left, both_right}
+use Rattle.laws.specs.Sums.Indicators.{T_true}
 use Rattle.laws.specs.Sums.Lists.{same_list_lem, list_same, all_upto}
 use Rattle.laws.specs.Sums.Any.{any_upto, first_found}
 

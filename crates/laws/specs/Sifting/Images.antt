@@ -1,6 +1,6 @@
 -- One kind of layout seen as another: where a function keeps the size, the cost and the candidates, it keeps sifts, rounds and rounds up to a limit, with all
 -- that is counted of them; and the steps of a list of calls, where it keeps what each call answers.
-use Prim.Native.Nat.{ℕ, zero, suc, ◌+◌, ◌-◌, min}
+use Prim.Native.Nat.{ℕ, zero, suc, ◌-◌, min}
 use Rattle.std.specs.Prelude.{◌≡◌, Bool}
 use Rattle.std.proofs.Math.Path.{refl, sym, ap, ap₂}
 use Rattle.std.proofs.Common.{◌∙◌}

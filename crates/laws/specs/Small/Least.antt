@@ -1,5 +1,5 @@
 -- No order at all has fewer crossings than the least of those listed, and the first with them has them.
-use Prim.Native.Nat.{ℕ, zero, suc, ◌+◌, ◌≤◌, ◌<◌}
+use Prim.Native.Nat.{ℕ, zero, suc, ◌≤◌, ◌<◌}
 use native.Mathlib.Omega.{arith}
 use Rattle.std.specs.Prelude.{◌≡◌, Bool, true, false, drop, T, eqb}
 use Rattle.std.proofs.Math.Path.{refl, sym, ap, subst}
@@ -10,9 +10,8 @@ use Rattle.model.specs.declared.Layout.{Layout}
 use Rattle.model.specs.Layouts.{weight, crossings_of, valid}
 use Rattle.model.specs.Lists.{upto, any, occurrences, place}
 use Rattle.model.specs.Crossings.{crossings}
-use Rattle.model.specs.Search.{least}
 use Rattle.laws.specs.Sums.Indicators.{less, same, more, order, T_true}
-use Rattle.laws.specs.Sums.Lists.{All, none, all_places, all_take, all_drop, upto_at}
+use Rattle.laws.specs.Sums.Lists.{All, all_places, all_take, all_drop, upto_at}
 use Rattle.laws.specs.Sums.Any.{none_any, first_found}
 use Rattle.laws.specs.Sums.Pairs.{Symmetric}
 use Rattle.laws.specs.Orders.Permutations.{at, Permutation, at_lt, at_of_place, from_place, place_below, occurrences_append, upto_permutation}
