@@ -7,7 +7,7 @@ use Rattle.model.specs.declared.Added.{Added}
 use Rattle.model.specs.declared.Appended.{Appended}
 use Rattle.model.specs.declared.Call.{Call}
 use Rattle.model.specs.declared.Call.TheVariants as call
-use Rattle.model.specs.Layouts.{table_places, weight, changed, reordered}
+use Rattle.model.specs.Layouts.{table_places, changed, reordered}
 use Rattle.model.specs.Edits.{with_bit, without_bit, at_both_ends, both_ways, with_edges, added, add_checks, add_answer, add_refused, add_of}
 use Rattle.model.specs.Edits.{link_checks, link_of, unlink_checks, unlink_of, move_checks, move_of}
 use Rattle.model.specs.GreedyAppend.{lay_checks, lay_answer, lay_refused, lay_of}

@@ -4,7 +4,7 @@ use Prim.Native.Nat.{ℕ, zero, suc, ◌+◌, ◌*◌, ◌-◌, ◌≤◌, ◌<�
 use Rattle.std.proofs.Math.Nat.{mul_comm, mul-add}
 use Rattle.std.proofs.Common.{zero-mul, add-zero, add-suc, add-sub_of_le, le_refl, ◌∙◌, lt-ltb}
 use native.Mathlib.Omega.{arith}
-use Rattle.std.specs.Prelude.{◌≡◌, Bool, true, ◌&&◌, ◌||◌, length, T, eqb}
+use Rattle.std.specs.Prelude.{◌≡◌, Bool, true, ◌&&◌, ◌||◌, T, eqb}
 use Rattle.std.proofs.Math.Path.{refl, sym, ap, subst}
 use Rattle.std.proofs.Math.Bool.{false, not, and-false, or-false, or-true}
 use Rattle.std.proofs.lemmas.Bool.{false≢true}
@@ -30,7 +30,7 @@ use Rattle.laws.specs.Layouts.Weights.{weight_within_words}
 use Rattle.laws.specs.Append.Isolated.{isolated_at_back}
 use Rattle.laws.specs.Append.Calls.{either_end, laid_start, laid_out}
 use Rattle.laws.proofs.Append.Calls.{laid_more, lay_permutation, lay_crossings}
-use Rattle.laws.specs.Append.Once.{closed_in, crossings_closed, crossings_first, Around, around_all, around_front, around_back}
+use Rattle.laws.specs.Append.Once.{after, steps, first_in, closed_in, crossings_closed, crossings_first, Around, around_all, around_front, around_back}
 
 -- ---- which vertices stand outside
 
@@ -306,50 +306,39 @@ module _ (n : ℕ) (adj : List ℕ) (W : ℕ → ℕ → ℕ) where
     around_more p k (suc j) s r = around_more p k j s (around_earlier p (k + j) s (rw add-suc at r))
 
 module _ (l : Layout) (s : ℕ) where
-  -- the list and the tally after k of the steps that place the vertices with edges
-  abbrev pub after : ℕ → Placing
-  after k = place_more l.n l.adjacency (weight l) (has_edges l.adjacency) k (alone s)
-
-  abbrev pub steps : ℕ
-  steps = length (waiting l.n (has_edges l.adjacency) (s ∷ []))
-
-  -- the crossings of the finished order whose first edge closes in the step after these k
-  abbrev pub first_in : ℕ → ℕ
-  first_in k = crossings_first (weight l) (after k).placed (after (suc k)).placed (laid_out l s).placed
-
-  after_around : (k : ℕ) → k ≤ steps → Around (after k).placed (laid_out l s).placed
+  after_around : (k : ℕ) → k ≤ steps l s → Around (after l s k).placed (laid_out l s).placed
   unfolding place_all place_linked
   after_around k small =
-      around_more l.n l.adjacency (weight l) (has_edges l.adjacency) k (steps - k) (alone s)
+      around_more l.n l.adjacency (weight l) (has_edges l.adjacency) k (steps l s - k) (alone s)
       (rw (add-sub_of_le small)
       (around_placed l.n l.adjacency (weight l) _ (place_linked l.n l.adjacency (weight l) s) (around_all (laid_out l s).placed)))
 
   module _ (t : T (valid l)) (h : s < l.n) where
     -- the step adds these to the tally
-    pub lay_counted : (k : ℕ) → k < steps → (after (suc k)).tally ≡ (after k).tally + first_in k
+    pub lay_counted : (k : ℕ) → k < steps l s → (after l s (suc k)).tally ≡ (after l s k).tally + first_in l s k
     lay_counted k small =
         let last = more_last l.n l.adjacency (weight l) (has_edges l.adjacency) k (alone s) in
-        rw last (step_counted (weight l) (valid_symmetric l t) (lay_permutation l s t h) (after k) _ (rw last at (after_around (suc k) small)))
+        rw last (step_counted (weight l) (valid_symmetric l t) (lay_permutation l s t h) (after l s k) _ (rw last at (after_around (suc k) small)))
 
     -- the tally so far is the crossings of the finished order that have a closed edge
-    pub lay_tally_closed : (k : ℕ) → k ≤ steps → (after k).tally ≡ crossings_closed (weight l) (after k).placed (laid_out l s).placed
+    pub lay_tally_closed : (k : ℕ) → k ≤ steps l s → (after l s k).tally ≡ crossings_closed (weight l) (after l s k).placed (laid_out l s).placed
     unfolding alone
     lay_tally_closed k small =
         let symmetry = valid_symmetric l t in
         (laid_more (weight l) symmetry l.adjacency (has_edges l.adjacency) k small (laid_start l.n (weight l) s h)).0.tallied
         ∙ sym (closed_met symmetry (lay_permutation l s t h) (after_around k small))
 
-    summed : (k : ℕ) → k ≤ steps → sum k first_in ≡ (after k).tally
+    summed : (k : ℕ) → k ≤ steps l s → sum k (first_in l s) ≡ (after l s k).tally
     unfolding sum place_more alone
     summed zero small = refl
-    summed (suc k) small = ap (λ (a : ℕ). a + first_in k) (summed k (omega arith)) ∙ sym (lay_counted k small)
+    summed (suc k) small = ap (λ (a : ℕ). a + first_in l s k) (summed k (omega arith)) ∙ sym (lay_counted k small)
 
     -- all steps together count each crossing of the layout once
-    pub lay_once : sum steps first_in ≡ crossings_of (reordered l (laid_out l s).placed)
+    pub lay_once : sum (steps l s) (first_in l s) ≡ crossings_of (reordered l (laid_out l s).placed)
     unfolding place_all place_linked alone
     lay_once =
-        summed steps (le_refl steps)
-        ∙ sym (ap (λ (p : Placing). p.tally) (isolated_at_back (weight_within_words l t) (after steps)
-        (laid_more (weight l) (valid_symmetric l t) l.adjacency (has_edges l.adjacency) steps (le_refl steps) (laid_start l.n (weight l) s h)
+        summed (steps l s) (le_refl (steps l s))
+        ∙ sym (ap (λ (p : Placing). p.tally) (isolated_at_back (weight_within_words l t) (after l s (steps l s))
+        (laid_more (weight l) (valid_symmetric l t) l.adjacency (has_edges l.adjacency) (steps l s) (le_refl (steps l s)) (laid_start l.n (weight l) s h)
         ).0.order.below))
         ∙ lay_crossings l s t h

@@ -1,18 +1,21 @@
 -- Each crossing of the finished list is counted exactly once, at the step in which the first of its two edges closes: the other edge is open then, and its
 -- end still to come will stand outside everything placed. What closes when; the theorems stand in proofs/Append/Once.antt.
-use Prim.Native.Nat.{ℕ, ◌*◌}
+use Prim.Native.Nat.{ℕ, suc, ◌*◌}
 use Rattle.std.proofs.Math.Nat.{mul-zero}
 use Rattle.std.proofs.Common.{◌∙◌}
 use native.Mathlib.Omega.{arith}
-use Rattle.std.specs.Prelude.{◌≡◌, Bool, ◌&&◌, ◌||◌}
+use Rattle.std.specs.Prelude.{◌≡◌, Bool, ◌&&◌, ◌||◌, length}
 use Rattle.std.proofs.Math.Path.{sym, ap}
 use Rattle.std.proofs.Math.Bool.{not}
 use mathlib.Core.List.{List, [], ◌∷◌, ◌++◌, append-nil, append_assoc}
+use Rattle.model.specs.declared.Layout.{Layout}
 use Rattle.model.specs.Lists.{one, sum_over, sum_pairs, member}
-use Rattle.model.specs.GreedyAppend.{unplaced, closing, open', front_crossings, back_crossings}
+use Rattle.model.specs.Layouts.{weight}
+use Rattle.model.specs.GreedyAppend.{unplaced, waiting, has_edges, Placing, alone, place_more, closing, open', front_crossings, back_crossings}
 use Rattle.laws.specs.Sums.Lists.{sum_pairs_scale}
 use Rattle.laws.specs.Crossings.Lists.{sum_quads}
 use Rattle.laws.specs.Append.Order.{unplaced_front}
+use Rattle.laws.specs.Append.Calls.{laid_out}
 
 -- an edge is closed once both its ends are placed
 unfoldable pub closed_in : List ℕ → ℕ → ℕ → Bool
@@ -68,3 +71,15 @@ module _ (n : ℕ) (W : ℕ → ℕ → ℕ) (xs : List ℕ) (v : ℕ) (done : u
     (λ i. sum_pairs (λ q p. closing n W xs v p * no_open q i) xs) ∙ simp mul-zero (omega (arith, sum_pairs_scale 0 (λ q p. 0) xs)),
     (λ i. sum_pairs (λ p q. closing n W xs v p * no_open q i) xs) ∙ simp mul-zero (omega (arith, sum_pairs_scale 0 (λ p q. 0) xs)),
   )
+
+module _ (l : Layout) (s : ℕ) where
+  -- the list and the tally after k of the steps that place the vertices with edges
+  abbrev pub after : ℕ → Placing
+  after k = place_more l.n l.adjacency (weight l) (has_edges l.adjacency) k (alone s)
+
+  abbrev pub steps : ℕ
+  steps = length (waiting l.n (has_edges l.adjacency) (s ∷ []))
+
+  -- the crossings of the finished order whose first edge closes in the step after these k
+  abbrev pub first_in : ℕ → ℕ
+  first_in k = crossings_first (weight l) (after k).placed (after (suc k)).placed (laid_out l s).placed

@@ -1,6 +1,6 @@
 -- What ringlist prints of a chart without weights is what it printed before there were weights, to the byte.
-use Rattle.std.specs.Prelude.{ℕ, zero, suc, ◌≡◌, refl, Bool, true, false, cond, List, eqb}
-use Rattle.std.proofs.Common.{sym, ap, ◌∙◌}
+use Rattle.std.specs.Prelude.{ℕ, zero, suc, ◌≡◌, refl, Bool, true, false, List, eqb}
+use Rattle.std.proofs.Common.{ap, ◌∙◌}
 use Rattle.model.specs.declared.Layout.{Layout}
 use Rattle.model.specs.declared.Call.TheVariants as call
 use Rattle.model.specs.Lists.{one}
@@ -10,13 +10,15 @@ use Rattle.model.specs.Sifting.{settle_of}
 use Rattle.model.specs.Charts.{tags_of, same_list, weighted_tags, read_of}
 use Rattle.model.specs.Histories.{read, answer_of}
 use Rattle.model.specs.Listing.{line, spaced, listing, listing_of}
-use Rattle.model.specs.Former.{FormerRead, former_settle, former_answer, former_read_of, former_listing, former_listing_of}
+use Rattle.model.specs.Former.{FormerRead, former_settle, former_answer, former_listing, former_listing_of}
 use Rattle.history.specs.StepLaws.{start_right}
 use Rattle.laws.specs.Layouts.Units.{Agreeing, unit_agrees, unit_weighted_lem}
 use Rattle.former.specs.Units.{converging}
 use Rattle.former.specs.Forgetting.{forget, forget_outcome, forgotten_crossings}
-use Rattle.former.specs.AsBefore.{OfWeightOne, call_alike, keeps_one}
-use Rattle.former.specs.Starts.{forget_read, plain_unit, read_formerly}
+use Rattle.former.specs.AsBefore.{OfWeightOne}
+use Rattle.former.proofs.AsBefore.{call_alike, keeps_one}
+use Rattle.former.specs.Starts.{plain_unit}
+use Rattle.former.proofs.Starts.{read_formerly}
 
 one_tells : (b : Bool) → eqb (one b) 1 ≡ b
 unfolding one
