@@ -15,7 +15,7 @@ use Rattle.laws.specs.Layouts.Validity.{sound, valid_symmetric}
 use Rattle.laws.specs.Layouts.Recount.{carried_to, carried_changed}
 use Rattle.laws.specs.Layouts.Weights.{WithinWords, weight_within_words}
 use Rattle.laws.specs.Append.Isolated.{isolated_at_back}
-use Rattle.laws.specs.Append.Calls.{lay_permutation, lay_met}
+use Rattle.laws.proofs.Append.Calls.{lay_permutation, lay_met}
 use Rattle.append_line.specs.declared.Line.{Line}
 use Rattle.append.specs.declared.steps.Partial.{Partial}
 use Rattle.append_line.specs.Lines.{entries, entries_length, rest_of, written_over, over_start}

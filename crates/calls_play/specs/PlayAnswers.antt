@@ -22,7 +22,8 @@ use Rattle.laws.specs.Layouts.Refusals.{when_accepted, when_refused}
 use Rattle.laws.specs.Charts.Passes.{refused_read}
 use Rattle.laws.specs.Graph6.Imports.{import_refused}
 use Rattle.laws.specs.Charts.Reading.{read_refused}
-use Rattle.history.specs.Demand3.{Demand3, demand_3}
+use Rattle.history.specs.Demand3.{Demand3}
+use Rattle.history.proofs.Demand3.{demand_3}
 
 -- what comes back and the table are those of the definition
 pub record Answered (from : Origin) (bytes numbers table : List ℕ) (r : Played) (after : List ℕ) : Type 0 where

@@ -13,21 +13,19 @@ use Rattle.model.specs.Crossings.{linked, edges, edge_weight, crossings}
 use Rattle.model.specs.Layouts.{vertex_order, table_weight, weight, crossings_of, is_weight, valid}
 use Rattle.model.specs.Checks.{refusal}
 use Rattle.model.specs.Charts.{Field, body_of, chart_size, chart_edges, chart_order, has_weights, chart_weights, same_edge, chart_checks, read_of}
-use Rattle.model.specs.Writing.{write_of, written_bytes}
-use Rattle.model.specs.WrittenCharts.{weights_of, unit_weighted, weight_field, chart_of, chart_format, with_true_count}
+use Rattle.model.specs.WrittenCharts.{weights_of, unit_weighted, weight_field, chart_of, with_true_count}
 use Rattle.laws.specs.Sums.Indicators.{T_true, both_left, both_right}
 use Rattle.laws.specs.Sums.Lists.{All, none, also}
 use Rattle.laws.specs.Crossings.Bound.{edges_few}
 use Rattle.laws.specs.Buffers.Charts.{chart_with, chart_edges_lem}
 pub use Rattle.laws.specs.Buffers.Charts.{chart_size_lem}
-use Rattle.laws.specs.Buffers.Formats.{chart_coded, write_accepted, written_front}
 use Rattle.laws.specs.Layouts.Sizes.{Sized}
 use Rattle.laws.specs.Layouts.Validity.{sound}
 use Rattle.laws.specs.Tables.Fits.{weight_is}
 use Rattle.laws.specs.Crossings.Agreeing.{EndsBelow, edges_below, edges_linked}
 use Rattle.laws.specs.Charts.EdgeWeights.{table_again}
 use Rattle.laws.specs.Charts.Padded.{padded, padded_length, padded_at}
-use Rattle.laws.specs.Charts.Reading.{read_valid, read_sized, chart_weight, same_charts}
+use Rattle.laws.specs.Charts.Reading.{chart_weight, same_charts}
 use Rattle.laws.specs.Charts.Sequence.{Rewritten, as_is, rewriting_free}
 use Rattle.laws.specs.Crossings.Edges.{edges_within}
 use Rattle.laws.specs.Charts.EdgeLists.{edges_once, edges_words}
@@ -158,42 +156,10 @@ written_read l s t =
     read_alike : {o p adj bdj ws vs : List ℕ} → o ≡ p → adj ≡ bdj → ws ≡ vs → reread o adj ws ≡ reread p bdj vs
     read_alike e f g = rw (e, f, g)
 
--- so with the call itself: where it is accepted, as many bytes of the buffer as it answers are read as the layout with its true count
-pub write_then_read : (l : Layout) (buffer : List ℕ) → Sized l → (write_of chart_format l buffer).refusal ≡ 0
-    → read_of (take (write_of chart_format l buffer).length (written_bytes chart_format l buffer)) ≡ record { refusal = 0; layout = with_true_count l }
-write_then_read l buffer s e =
-    ap read_of (written_front chart_coded l buffer e) ∙ written_read l s (write_accepted chart_coded l buffer e).is_valid_lem
-
--- a count that is true already stays
-count_kept : (l : Layout) → l.count ≡ crossings_of l → with_true_count l ≡ l
-unfolding with_true_count
-count_kept l e = ap (λ (c : ℕ). record { n = l.n; order = l.order; adjacency = l.adjacency; weights = l.weights; count = c }) (sym e)
-
--- an accepted chart, written and read again, gives the same layout with the same count
-pub read_again : (s : List ℕ) → (read_of s).refusal ≡ 0 → read_of (chart_of (read_of s).layout) ≡ read_of s
-read_again s e =
-    let read = read_valid s e in
-    written_read (read_of s).layout (read_sized s) read.0
-    ∙ ap₂ (λ (r : ℕ) (l : Layout). record { refusal = r; layout = l }) (sym e) (count_kept (read_of s).layout read.1)
-
 -- the count is not written
-count_unwritten : (l : Layout) → chart_of (with_true_count l) ≡ chart_of l
+pub count_unwritten : (l : Layout) → chart_of (with_true_count l) ≡ chart_of l
 unfolding chart_of with_true_count vertex_order weight_field unit_weighted weights_of weight
 count_unwritten l = refl
-
--- a written chart, read and written again, gives the same bytes
-pub written_again : (l : Layout) → Sized l → T (valid l) → chart_of (read_of (chart_of l)).layout ≡ chart_of l
-written_again l s t = ap (λ (r : LayoutRead). chart_of r.layout) (written_read l s t) ∙ count_unwritten l
-
--- the bytes tell the layout, but for the count that it carries
-pub written_tells : (l m : Layout) → Sized l → T (valid l) → Sized m → T (valid m) → chart_of l ≡ chart_of m → with_true_count l ≡ with_true_count m
-written_tells l m s t r u e =
-    ap (λ (x : LayoutRead). x.layout) (sym (written_read l s t) ∙ ap read_of e ∙ written_read m r u)
-
--- so two accepted charts that give the same written bytes give the same layout
-pub written_same : (s t : List ℕ) → (read_of s).refusal ≡ 0 → (read_of t).refusal ≡ 0
-    → chart_of (read_of s).layout ≡ chart_of (read_of t).layout → read_of s ≡ read_of t
-written_same s t p q e = sym (read_again s p) ∙ ap read_of e ∙ read_again t q
 
 -- ---- "Two charts of the same ring, however their links were listed, give the same written bytes."
 

@@ -19,7 +19,7 @@ use Rattle.laws.specs.Sums.Lists.{map_ext}
 use Rattle.laws.specs.Orders.Permutations.{at, Permutation, place_below, at_of_place}
 use Rattle.laws.specs.Crossings.Edges.{Within, edges_within, edge_rises, edge_ends}
 use Rattle.laws.specs.Crossings.Bound.{most_edges}
-use Rattle.laws.specs.Crossings.Chords.{edge_chord, edge_chord_back}
+use Rattle.laws.proofs.Crossings.Chords.{edge_chord, edge_chord_back}
 use Rattle.laws.specs.Tables.Drawn.{Weighted}
 use Rattle.laws.specs.Buffers.Writing.{Written, written_none, written_byte, written_size, written_step}
 use Rattle.laws.specs.Buffers.EdgeBytes.{edge_at}

@@ -1,5 +1,5 @@
--- The starts of weight 1: the empty layout, a chart without field 57 or with ones in it, an imported graph. And reading a chart without field 57, or a graph
--- in graph6, gives what it gave formerly, refusals too.
+-- The starts of weight 1: the empty layout, a chart without field 57 or with ones in it, an imported graph. That reading a chart without field 57, or a graph
+-- in graph6, gives what it gave formerly, refusals too, is proved in proofs/Starts.antt.
 use Rattle.std.specs.Prelude.{ℕ, zero, suc, ◌≤◌, ◌<◌, min, max, ◌≡◌, Bool, cond, ◌||◌, length, replicate, T, eqb}
 use Rattle.std.proofs.Common.{le_of_eq, lt_of_lt_of_le, mod-eq_of_lt, arith, ◌∙◌, subst, eq-eqb}
 use Rattle.std.proofs.Math.Path.{refl, sym, ap}
@@ -14,13 +14,13 @@ use Rattle.model.specs.Lists.{upto, every, any}
 use Rattle.model.specs.Crossings.{edges, edge_weight}
 use Rattle.model.specs.Layouts.{empty_layout, vertex_order, weight, crossings_of, is_weight}
 use Rattle.model.specs.Checks.{refusal}
-use Rattle.model.specs.Charts.{fields_of, tags_of, body_of, chart_size, chart_edges, chart_order, has_weights, chart_weights, same_list, chart_tags, weighted_tags}
-use Rattle.model.specs.Charts.{size_checks, end_checks, repeat_checks, place_checks, weight_checks, edges_in, chart_checks, joins, layout_with, chart_layout, read_of}
+use Rattle.model.specs.Charts.{fields_of, tags_of, body_of, chart_edges, has_weights, chart_weights, same_list, chart_tags, weighted_tags}
+use Rattle.model.specs.Charts.{size_checks, end_checks, repeat_checks, place_checks, weight_checks, edges_in, chart_checks, joins, layout_with, read_of}
 use Rattle.model.specs.WrittenCharts.{weights_of, unit_weighted}
-use Rattle.model.specs.Graph6.{graph6_size, graph6_data, graph6_edges, graph6_checks, graph6_layout, import_of}
-use Rattle.model.specs.Former.{FormerLayout, FormerRead, former_modulus, former_empty, former_layout_with, former_chart_checks, former_read_of, former_import_of}
+use Rattle.model.specs.Graph6.{graph6_size, graph6_data, graph6_edges, graph6_layout, import_of}
+use Rattle.model.specs.Former.{FormerRead, former_modulus, former_empty, former_layout_with, former_chart_checks}
 use Rattle.laws.specs.Sums.Lists.{All, none, also}
-use Rattle.laws.specs.Crossings.Bound.{crossing_sum_bound}
+use Rattle.laws.proofs.Crossings.Bound.{crossing_sum_bound}
 use Rattle.laws.specs.Orders.Permutations.{at, at_lt}
 use Rattle.laws.specs.Layouts.Validity.{sound, place_weight, crossings_rising}
 use Rattle.laws.specs.Layouts.Refusals.{all_pass}
@@ -29,10 +29,9 @@ use Rattle.laws.specs.Charts.Weights.{WeighedBy, table_weighed, joined_has}
 use Rattle.laws.specs.Charts.Layouts.{Accepted, valid_read, count_true}
 use Rattle.laws.specs.Charts.Lengths.{fields_number}
 use Rattle.laws.specs.Charts.Reading.{read_is, read_number, chart_numbered, accepted, accepted_weights, chart_weight, layout_listed}
-use Rattle.laws.specs.Graph6.Imports.{import_number, import_is, imported_graph6, edges_accepted, unit, unit_listed}
+use Rattle.laws.specs.Graph6.Imports.{import_is, imported_graph6, edges_accepted, unit, unit_listed}
 use Rattle.laws.specs.Layouts.Units.{Unit, Agreeing, unit_agrees, agrees_unit, ones_all}
 use Rattle.former.specs.Forgetting.{forget, same_crossings}
-use Rattle.former.specs.AsBefore.{checked_shown}
 
 -- ---- weights that are all 1
 
@@ -78,7 +77,7 @@ module _ {n : ℕ} {es : List Edge} {W : ℕ → ℕ → ℕ} {o : List ℕ} (a 
       omega (arith, crossings_rising made (valid_read a), most)
 
   -- forgotten, it is what it was
-  made_formerly : forget made ≡ former_layout_with n es o
+  pub made_formerly : forget made ≡ former_layout_with n es o
   unfolding weight
   made_formerly =
       ap (λ (c : ℕ). record { n = n; order = made.order; adjacency = made.adjacency; count = c })
@@ -91,7 +90,7 @@ ones_listed : (ws : List ℕ) → every (eqb 1) ws ≡ true → (f : Edge → �
 ones_listed ws t f es e = ones_all f es (sym (ap (every (eqb 1)) e) ∙ t)
 
 module _ (s : List ℕ) (e : (read_of s).refusal ≡ 0) (t : every (eqb 1) (chart_weights s) ≡ true) where
-  weights_one : All (λ x. edge_weight (chart_weight s) x ≡ 1) (chart_edges s)
+  pub weights_one : All (λ x. edge_weight (chart_weight s) x ≡ 1) (chart_edges s)
   weights_one = ones_listed (chart_weights s) t (edge_weight (chart_weight s)) (chart_edges s) (accepted_weights s e).1
 
   -- a chart whose weights are ones, with field 57 or without it
@@ -99,9 +98,6 @@ module _ (s : List ℕ) (e : (read_of s).refusal ≡ 0) (t : every (eqb 1) (char
   chart_unit =
       subst (λ (l : Layout). T (unit_weighted l)) (sym (ap (λ (r : LayoutRead). r.layout) (read_is s e) ∙ layout_listed s e))
       (read_unit (accepted s e) weights_one)
-
-  chart_formerly : forget (chart_layout s) ≡ former_layout_with (chart_size s) (chart_edges s) (chart_order s)
-  chart_formerly = ap forget (layout_listed s e) ∙ made_formerly (accepted s e) weights_one
 
 ones : (k : ℕ) → every (eqb 1) (replicate k 1) ≡ true
 unfolding every
@@ -119,7 +115,7 @@ abbrev pub forget_read : LayoutRead → FormerRead
 forget_read r = record { refusal = r.refusal; layout = forget r.layout }
 
 -- three fields: no weights
-no_fourth : (s : List ℕ) → same_list (tags_of s) chart_tags ≡ true → has_weights s ≡ false
+pub no_fourth : (s : List ℕ) → same_list (tags_of s) chart_tags ≡ true → has_weights s ≡ false
 unfolding has_weights
 no_fourth s t = lt-leb 4 (length (fields_of s).fields) (omega (arith, fields_number s chart_tags t))
 
@@ -132,7 +128,7 @@ all_there : (k : ℕ) → eqb (length {A = ℕ} (replicate k 1)) k ≡ true
 all_there k = eq-eqb (length {A = ℕ} (replicate k 1)) k (length-replicate {A = ℕ} k 1)
 
 module _ (s : List ℕ) (plain : same_list (tags_of s) weighted_tags ≡ false) where
-  same_number : refusal (chart_checks s) ≡ refusal (former_chart_checks s)
+  pub same_number : refusal (chart_checks s) ≡ refusal (former_chart_checks s)
   unfolding chart_checks former_chart_checks size_checks end_checks repeat_checks place_checks weight_checks chart_weights chart_edges refusal
   same_number = by_test (same_list (tags_of s) chart_tags) refl
     where
@@ -146,7 +142,7 @@ module _ (s : List ℕ) (plain : same_list (tags_of s) weighted_tags ≡ false) 
           )
       by_test false t = rw (t, plain)
 
-  tags_plain : refusal (chart_checks s) ≡ 0 → same_list (tags_of s) chart_tags ≡ true
+  pub tags_plain : refusal (chart_checks s) ≡ 0 → same_list (tags_of s) chart_tags ≡ true
   unfolding chart_checks
   tags_plain z = from (all_pass (chart_numbered s) z)
     where
@@ -158,43 +154,24 @@ module _ (s : List ℕ) (plain : same_list (tags_of s) weighted_tags ≡ false) 
   pub plain_unit : (read_of s).refusal ≡ 0 → T (unit_weighted (read_of s).layout)
   plain_unit e = chart_unit s e (without_ones s (no_fourth s (tags_plain (sym (read_number s) ∙ e))))
 
-  -- a chart whose fields are not 44, 4C, 52 and 57
-  pub read_formerly : forget_read (read_of s) ≡ former_read_of s
-  unfolding read_of former_read_of empty_layout former_empty
-  read_formerly =
-      checked_shown forget_read (chart_checks s) (former_chart_checks s) same_number
-      (λ z.
-      ap (λ (m : FormerLayout). record { refusal = 0; layout = m })
-      (chart_formerly s (read_number s ∙ z) (without_ones s (no_fourth s (tags_plain z)))))
-      (λ k. refl)
-
 -- ---- graphs in graph6
 
-unit_ones : (es : List Edge) → All (λ e. edge_weight unit e ≡ 1) es
+pub unit_ones : (es : List Edge) → All (λ e. edge_weight unit e ≡ 1) es
 unit_ones [] = none
 unit_ones (e ∷ es) = also {x = e} refl (unit_ones es)
 
 module _ (s : List ℕ) where
-  abbrev es : List Edge
+  abbrev pub es : List Edge
   es = graph6_edges (graph6_size s) (graph6_data s)
 
-  unit_layout : graph6_layout s ≡ layout_with (graph6_size s) es (map (edge_weight unit) es) (upto (graph6_size s))
+  pub unit_layout : graph6_layout s ≡ layout_with (graph6_size s) es (map (edge_weight unit) es) (upto (graph6_size s))
   unfolding graph6_layout
   unit_layout = ap (λ (ws : List ℕ). layout_with (graph6_size s) es ws (upto (graph6_size s))) (unit_listed es)
 
-  import_accepted : (import_of s).refusal ≡ 0 → Accepted (graph6_size s) es unit (upto (graph6_size s))
+  pub import_accepted : (import_of s).refusal ≡ 0 → Accepted (graph6_size s) es unit (upto (graph6_size s))
   import_accepted e = edges_accepted (graph6_size s) (graph6_data s) (imported_graph6 s e).few
 
   pub import_unit : (import_of s).refusal ≡ 0 → T (unit_weighted (import_of s).layout)
   import_unit e =
       subst (λ (l : Layout). T (unit_weighted l)) (sym (ap (λ (r : LayoutRead). r.layout) (import_is s e) ∙ unit_layout))
       (read_unit (import_accepted e) (unit_ones es))
-
-  pub import_formerly : forget_read (import_of s) ≡ former_import_of s
-  unfolding import_of former_import_of empty_layout former_empty
-  import_formerly =
-      checked_shown forget_read (graph6_checks s) (graph6_checks s) refl
-      (λ z.
-      ap (λ (m : FormerLayout). record { refusal = 0; layout = m })
-      (ap forget unit_layout ∙ made_formerly (import_accepted (import_number s ∙ z)) (unit_ones es)))
-      (λ k. refl)

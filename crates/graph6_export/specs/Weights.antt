@@ -5,7 +5,8 @@ use Rattle.model.specs.declared.Layout.{Layout}
 use Rattle.model.specs.Layouts.{valid}
 use Rattle.model.specs.Checks.{refusal}
 use Rattle.model.specs.Graph6.{export_checks}
-use Rattle.laws.specs.Layouts.Units.{none_above_one, unit_asked}
+use Rattle.laws.specs.Layouts.Units.{none_above_one}
+use Rattle.laws.proofs.Layouts.Units.{unit_asked}
 
 -- its code for a table of weights, or 0
 unfoldable pub weight_code : List ℕ → ℕ

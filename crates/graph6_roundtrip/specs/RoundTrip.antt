@@ -12,17 +12,14 @@ use Rattle.model.specs.declared.LayoutRead.{LayoutRead}
 use Rattle.model.specs.Lists.{upto, every, keep}
 use Rattle.model.specs.Crossings.{linked, edges, crossings}
 use Rattle.model.specs.Layouts.{table_weight, weight, valid}
-use Rattle.model.specs.Checks.{refusal}
 use Rattle.model.specs.Charts.{edge_within, layout_with}
-use Rattle.model.specs.Writing.{write_of, written_bytes}
 use Rattle.model.specs.WrittenCharts.{unit_weighted}
 use Rattle.model.specs.Graph6.{bytes_for, packed, unpacked, size_part, pairs_by_higher, pair_bits, graph6_of, starts_with_size, graph6_size, graph6_data}
-use Rattle.model.specs.Graph6.{export_checks, graph6_format, graph6_edges, graph6_layout, import_of, in_rising_order}
+use Rattle.model.specs.Graph6.{graph6_edges, graph6_layout, import_of, in_rising_order}
 use Rattle.laws.specs.Sums.Lists.{All, all_keep}
 use Rattle.laws.specs.Sums.Every.{every_all}
 use Rattle.laws.specs.Layouts.Sizes.{Sized}
 use Rattle.laws.specs.Layouts.Validity.{sound}
-use Rattle.laws.specs.Buffers.Formats.{graph6_coded, Fits, write_accepted, write_accepts, written_front}
 use Rattle.laws.specs.Graph6.Packing.{packed_in, packed_in_same, unpacked_length, unpacked_bits}
 use Rattle.laws.specs.Graph6.Pairs.{pairs_within, chosen_ext, pair_bits_bits, pair_bits_length}
 use Rattle.laws.specs.Graph6.Sizes.{size_starts, starts_with, size_found_lem}
@@ -30,13 +27,13 @@ use Rattle.laws.specs.Charts.Ends.{within_mono}
 use Rattle.laws.specs.Charts.Words.{adjacency_of}
 use Rattle.laws.specs.Charts.Padded.{padded}
 use Rattle.laws.specs.Charts.Passes.{accepted_read}
-use Rattle.laws.specs.Graph6.Imports.{Graph6, all_asked, import_number, import_is, edges_accepted, imported_graph6, imported_valid}
+use Rattle.laws.specs.Graph6.Imports.{Graph6, all_asked, import_number, import_is, imported_graph6}
 use Rattle.laws.specs.Charts.Reading.{same_words}
 use Rattle.laws.specs.Charts.Sequence.{same_member}
 use Rattle.laws.specs.Charts.EdgeLists.{edges_words}
 use Rattle.graph6_roundtrip.specs.Bits.{Six, all_six, six_all, unset_from, unpadded, unpacked_packed, packed_unpacked}
 use Rattle.graph6_roundtrip.specs.Edges.{own_chosen, own_edges, chosen_bits}
-use Rattle.graph6_roundtrip.specs.Ones.{export_passes, ones_again, made_passes}
+use Rattle.graph6_roundtrip.specs.Ones.{ones_again}
 use Rattle.graph6_roundtrip.specs.Exports.{bit_bytes, export_parts, bit_bytes_length, bit_bytes_six}
 
 -- ---- exported and imported
@@ -139,13 +136,6 @@ module _ (l : Layout) (z : Sized l) (t : T (valid l)) where
         (ap (λ (r : LayoutRead). linked r.layout.adjacency u v) bytes_imported ∙ ap (λ (adj : List ℕ). linked adj u v) words_again),
   )
 
--- so with the call itself: where it is accepted, as many bytes of the buffer as it answers are imported so
-pub export_then_import : (l : Layout) (buffer : List ℕ) → Sized l → (write_of graph6_format l buffer).refusal ≡ 0
-    → import_of (take (write_of graph6_format l buffer).length (written_bytes graph6_format l buffer)) ≡ record { refusal = 0; layout = in_rising_order l }
-export_then_import l buffer s e =
-    let accepted = write_accepted graph6_coded l buffer e in
-    ap import_of (written_front graph6_coded l buffer e) ∙ exported_imported l s accepted.is_valid_lem (export_passes l accepted.own)
-
 -- ---- imported and exported
 
 module _ {s : List ℕ} (g : Graph6 s) where
@@ -176,35 +166,7 @@ module _ {s : List ℕ} (g : Graph6 s) where
 pub imported_exported : (s : List ℕ) → (import_of s).refusal ≡ 0 → graph6_of (import_of s).layout ≡ s
 imported_exported s e = ap (λ (r : LayoutRead). graph6_of r.layout) (import_is s e) ∙ layout_exported (imported_graph6 s e)
 
--- each edge weighs 1
-imported_passes : (s : List ℕ) → (import_of s).refusal ≡ 0 → refusal (export_checks (import_of s).layout) ≡ 0
-unfolding graph6_layout
-imported_passes s e =
-    ap (λ (r : LayoutRead). refusal (export_checks r.layout)) (import_is s e)
-    ∙ made_passes (edges_accepted (graph6_size s) (graph6_data s) (imported_graph6 s e).few)
-
--- so with the call itself, into a buffer that is long enough: "it answers its length and keeps buffer bytes beyond it"
-pub import_then_export : (s buffer : List ℕ) → (import_of s).refusal ≡ 0 → length s ≤ length buffer
-    → (write_of graph6_format (import_of s).layout buffer ≡ record { refusal = 0; length = length s })
-    × (written_bytes graph6_format (import_of s).layout buffer ≡ s ++ drop (length s) buffer)
-import_then_export s buffer e room =
-    let same = imported_exported s e in
-    let fits : Fits graph6_format (import_of s).layout buffer =
-    record { is_valid_lem = (imported_valid s e).0; own = imported_passes s e; room = omega (arith, ap length same) } in
-    let call = write_accepts graph6_coded (import_of s).layout buffer fits in (
-      call.0 ∙ ap (λ (x : List ℕ). record { refusal = 0; length = length x }) same,
-      call.1 ∙ ap (λ (x : List ℕ). x ++ drop (length x) buffer) same,
-    )
-
 -- ---- what follows
-
--- an accepted import, exported and imported again, is the same layout with the same count
-pub imported_again : (s : List ℕ) → (import_of s).refusal ≡ 0 → import_of (graph6_of (import_of s).layout) ≡ import_of s
-imported_again s e = ap import_of (imported_exported s e)
-
--- two accepted inputs that give the same layout are the same bytes
-pub imports_tell : (s t : List ℕ) → (import_of s).refusal ≡ 0 → (import_of t).refusal ≡ 0 → (import_of s).layout ≡ (import_of t).layout → s ≡ t
-imports_tell s t p q e = sym (imported_exported s p) ∙ ap graph6_of e ∙ imported_exported t q
 
 -- "Export drops the order": layouts of the same vertices and edges have the same export, whatever their orders and counts
 pub order_dropped : (l m : Layout) → l.n ≡ m.n → l.adjacency ≡ m.adjacency → graph6_of l ≡ graph6_of m

@@ -17,15 +17,21 @@ use Rattle.model.specs.Histories.{of_converged, answer_of, sweep_of}
 use Rattle.model.specs.Histories.{sifting, sift_called, rounds_of_call, rounds_due, says_converged, optima_told, LocalMinimum}
 use Rattle.laws.specs.Sifting.Sweeps.{SweepFacts, nothing_swept, sweep_facts, swept_to, Names, rounds_spent}
 use Rattle.laws.specs.Sifting.Rounds.{Valid, lawful, settled_minimum}
-use Rattle.laws.specs.Sifting.Calls.{sift_passed, sift_accepted, sift_refused_lem, sift_keeps}
-use Rattle.laws.specs.Sifting.Calls.{round_passed, round_accepted, round_refused_lem, round_keeps}
-use Rattle.laws.specs.Sifting.Calls.{settle_passed, settle_accepted, settle_refused_lem, settle_keeps}
-use Rattle.laws.specs.Layouts.Reordering.{Keeps, move_refused, move_keeps}
-use Rattle.laws.specs.Layouts.EditCalls.{add_refused_lem, add_keeps, link_refused, link_keeps, unlink_refused, unlink_keeps}
-use Rattle.laws.specs.Append.Calls.{lay_refused_lem, lay_keeps}
+use Rattle.laws.specs.Sifting.Calls.{sift_passed, sift_accepted, sift_refused_lem}
+use Rattle.laws.proofs.Sifting.Calls.{sift_keeps}
+use Rattle.laws.specs.Sifting.Calls.{round_passed, round_accepted, round_refused_lem}
+use Rattle.laws.proofs.Sifting.Calls.{round_keeps}
+use Rattle.laws.specs.Sifting.Calls.{settle_passed, settle_accepted, settle_refused_lem}
+use Rattle.laws.proofs.Sifting.Calls.{settle_keeps}
+use Rattle.laws.specs.Layouts.Reordering.{Keeps, move_refused}
+use Rattle.laws.proofs.Layouts.Reordering.{move_keeps}
+use Rattle.laws.specs.Layouts.EditCalls.{add_refused_lem, link_refused, unlink_refused}
+use Rattle.laws.proofs.Layouts.EditCalls.{add_keeps, link_keeps, unlink_keeps}
+use Rattle.laws.specs.Append.Calls.{lay_refused_lem}
+use Rattle.laws.proofs.Append.Calls.{lay_keeps}
 use Rattle.laws.specs.Layouts.Sizes.{Sized, empty_sized, add_sized, link_sized, unlink_sized, move_sized}
 use Rattle.laws.specs.Charts.Reading.{read_sized}
-use Rattle.laws.specs.Append.Calls.{lay_sized}
+use Rattle.laws.proofs.Append.Calls.{lay_sized}
 use Rattle.laws.specs.Sifting.Calls.{sift_sized, round_sized}
 use Rattle.laws.specs.Sifting.Calls.{settle_sized}
 use Rattle.laws.specs.Graph6.Imports.{imported_valid, imported_sized}

@@ -8,7 +8,6 @@ pub mod Validity
 pub mod Units
 pub mod Weights
 pub mod Zeros
-pub mod Complete
 pub mod Refusals
 pub mod Recount
 pub mod EdgeEdits

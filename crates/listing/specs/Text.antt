@@ -15,7 +15,8 @@ use Rattle.laws.specs.Layouts.Refusals.{by_number}
 use Rattle.laws.specs.Layouts.Reordering.{CountRight}
 use Rattle.laws.specs.Buffers.Writing.{Written, written_whole}
 use Rattle.laws.specs.Sifting.Rounds.{settled_rearranged}
-use Rattle.laws.specs.Sifting.Calls.{settle_accepted, settle_keeps}
+use Rattle.laws.specs.Sifting.Calls.{settle_accepted}
+use Rattle.laws.proofs.Sifting.Calls.{settle_keeps}
 
 -- the settled layout is valid, has the same vertices and the right count
 pub record Settled (l : Layout) (r : Converged) : Type 0 where

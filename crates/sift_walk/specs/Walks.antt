@@ -14,7 +14,7 @@ use Rattle.laws.specs.Sums.Lists.{sum_over_last}
 use Rattle.laws.specs.Sums.Pairs.{Symmetric}
 use Rattle.laws.specs.Tables.Rows.{table_weight, row_weight, row_sum, RowsOf, AddedRow, row_weight_lem, row_products}
 use Rattle.laws.specs.Orders.Permutations.{at}
-use Rattle.laws.specs.Crossings.Reaches.{row_reached}
+use Rattle.laws.proofs.Crossings.Reaches.{row_reached}
 use Rattle.laws.specs.Sifting.Keeping.{best_start}
 use Rattle.laws.specs.Sifting.Walk.{other_at_lem, walked, present_walked, candidate_walked}
 use Rattle.sift_walk.specs.declared.Kept.{Kept}

@@ -13,7 +13,8 @@ use Rattle.model.specs.Sifting.{clockwise_from}
 use Rattle.laws.specs.Sums.Indicators.{less, same, more, order}
 use Rattle.laws.specs.Sums.Lists.{All, all_mono}
 use Rattle.laws.specs.Orders.Permutations.{at, Permutation, at_lt}
-use Rattle.laws.specs.Crossings.Bound.{most_weighted, crossing_sum_bound}
+use Rattle.laws.specs.Crossings.Bound.{most_weighted}
+use Rattle.laws.proofs.Crossings.Bound.{crossing_sum_bound}
 use Rattle.laws.specs.Crossings.Counting.{placed}
 use Rattle.laws.specs.Crossings.Edges.{crossings_sum}
 use Rattle.laws.specs.Tables.Rows.{table_weight}

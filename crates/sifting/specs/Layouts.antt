@@ -14,7 +14,7 @@ use Rattle.model.specs.Sifting.{ring, clockwise_from, candidate_layouts, sifted,
 use Rattle.model.specs.Sifting.{optima_in, swept, sift_round, rounds_from, settled, rounds_up_to}
 use Rattle.laws.specs.Layouts.Weights.{weighted}
 use Rattle.laws.specs.Layouts.Recount.{carried_wrapping}
-use Rattle.laws.specs.Layouts.Reordering.{crossings_fit}
+use Rattle.laws.proofs.Layouts.Reordering.{crossings_fit}
 use Rattle.laws.specs.Sifting.Sweeps.{sift_lowers}
 use Rattle.laws.specs.Sifting.Candidates.{Rearranged, sifted_rearranged}
 use Rattle.laws.specs.Sifting.Rounds.{Valid, proper_sift, round_reduced, settled_rearranged, settled_exact}

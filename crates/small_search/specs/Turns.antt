@@ -18,10 +18,11 @@ use Rattle.laws.specs.Sums.Pairs.{Symmetric}
 use Rattle.laws.specs.Orders.Permutations.{at_lt, upto_permutation}
 use Rattle.laws.specs.Crossings.Edges.{crossings_sum}
 use Rattle.laws.specs.Crossings.Counting.{placed}
-use Rattle.laws.specs.Crossings.Bound.{crossing_sum_bound}
+use Rattle.laws.proofs.Crossings.Bound.{crossing_sum_bound}
 use Rattle.laws.specs.Tables.Rows.{table_weight}
 use Rattle.laws.specs.Append.Order.{unplaced_next}
-use Rattle.laws.specs.Small.Search.{Best, in_turn, search_rest, search_answer}
+use Rattle.laws.specs.Small.Search.{Best, in_turn, search_rest}
+use Rattle.laws.proofs.Small.Search.{search_answer}
 use Rattle.small_prefix.specs.declared.Prefix.{Prefix}
 use Rattle.small_prefix.specs.Prefixes.{entries, all_entries}
 use Rattle.small_search.specs.declared.Branch.{Branch}

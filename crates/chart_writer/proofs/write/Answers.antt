@@ -4,7 +4,7 @@ use mathlib.Core.Path.{◌≡◌, refl, sym, ◌∙◌}
 use lib.ListN.{length as len}
 use lib.Seq.{length-take-le}
 use Rattle.model.specs.Checks.{refusal}
-use Rattle.laws.specs.Layouts.Units.{unit_asked}
+use Rattle.laws.proofs.Layouts.Units.{unit_asked}
 use Rattle.laws.specs.Buffers.Formats.{chart_coded}
 use Rattle.buffer_checks.specs.Answers.{refused}
 use Rattle.chart_writer.specs.Answers.{ChartAsked, counted_is, inside, fits, chart_written}

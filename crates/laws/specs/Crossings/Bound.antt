@@ -1,13 +1,12 @@
--- How many crossings a layout of n vertices can have, and that complete graphs have as many, over any weight of at most c. How many edges it can have.
-use Rattle.std.specs.Prelude.{ℕ, suc, ◌+◌, ◌*◌, ◌-◌, ◌≤◌, ◌<◌, ◌≡◌, refl, List, length, ltb}
-use Rattle.std.proofs.Common.{le_refl, le_trans, le_of_eq, le_antisymm, mul-le-mul, mul-le-mul_left, mul-one, add-sub_of_le, le-add_right, arith, sym, ap, ap₂, ◌∙◌}
+-- How many crossings a layout of n vertices can have (proofs/Crossings/Bound.antt: none has more, and complete graphs have as many). How many edges it can have.
+use Rattle.std.specs.Prelude.{ℕ, suc, ◌+◌, ◌*◌, ◌-◌, ◌≤◌, ◌<◌, ◌≡◌, List, length, ltb}
+use Rattle.std.proofs.Common.{le_trans, mul-le-mul_left, mul-one, add-sub_of_le, le-add_right, arith, sym, ◌∙◌}
 use Rattle.model.specs.Lists.{one}
 use Rattle.model.specs.Crossings.{linked, edges, unit_weight}
 use Rattle.laws.specs.Sums.Indicators.{less, same, more, order, one_ge, one_le}
-use Rattle.laws.specs.Sums.Ranges.{sum, sum_const, sum_cut, sum_below, sum_above, sum_mono}
+use Rattle.laws.specs.Sums.Ranges.{sum, sum_const, sum_cut, sum_mono}
 use Rattle.laws.specs.Sums.Lists.{sum_over_places}
-use Rattle.laws.specs.Sums.Pairs.{pair_sum, pair_sum_ext, pair_sum_scale}
-use Rattle.laws.specs.Crossings.Counting.{crossing_sum, crossing_sum_counted}
+use Rattle.laws.specs.Sums.Pairs.{pair_sum, pair_sum_ext}
 use Rattle.laws.specs.Crossings.Edges.{edge, sum_over_edges}
 
 -- more terms make no less
@@ -16,7 +15,7 @@ sum_more n m f h =
     rw (← (add-sub_of_le h), sum_cut n (m - n) f) (le-add_right (sum n f) (sum (m - n) (λ i. f (n + i))))
 
 -- a term that counts only where i is below j
-guarded : (i j x y : ℕ) → (i < j → x ≤ y) → one (ltb i j) * x ≤ one (ltb i j) * y
+pub guarded : (i j x y : ℕ) → (i < j → x ≤ y) → one (ltb i j) * x ≤ one (ltb i j) * y
 guarded i j x y h =
     elim (order i j) [
       | less l ↦ mul-le-mul_left (one (ltb i j)) (h l)
@@ -46,54 +45,10 @@ most_crossings = 635376
 abbrev pub most_weighted : ℕ
 most_weighted = 41315324400
 
-pub quadruples_most : quadruples 64 ≡ most_crossings
-unfolding quadruples pair_sum sum one
-quadruples_most = refl
-
 pub quadruples_mono : (n m : ℕ) → n ≤ m → quadruples n ≤ quadruples m
 unfolding quadruples
 quadruples_mono n m h =
     pair_sum_mono n m (λ j k. j * (n - suc k)) (λ j k. j * (m - suc k)) h (λ j k l b. mul-le-mul_left j (omega arith))
-
--- every two vertices joined, with weight c
-pub complete_sum : (n c : ℕ) → crossing_sum n (λ i j. c) ≡ c * c * quadruples n
-unfolding quadruples
-complete_sum n c =
-    crossing_sum_counted n (λ i j. c)
-    ∙ pair_sum_ext n (λ j k. sum n (λ i. one (ltb i j) * c) * sum n (λ l. one (ltb k l) * c)) (λ j k. c * c * (j * (n - suc k)))
-    (λ j k l b.
-    ap₂ (λ (x y : ℕ). x * y)
-    (sum_below n j (λ i. c) (omega arith) ∙ sum_const j c)
-    (sum_above n k (λ i. c) b ∙ sum_const (n - suc k) c)
-    ∙ regroup j (n - suc k))
-    ∙ pair_sum_scale n (c * c) (λ j k. j * (n - suc k))
-  where
-    regroup : (x y : ℕ) → x * c * (y * c) ≡ c * c * (x * y)
-    regroup x y = omega arith
-
--- larger weights make no fewer crossings; only pairs in their order are asked
-pub crossing_sum_mono : (n : ℕ) (v w : ℕ → ℕ → ℕ) → ((i j : ℕ) → i < j → j < n → v i j ≤ w i j) → crossing_sum n v ≤ crossing_sum n w
-crossing_sum_mono n v w h =
-    rw (crossing_sum_counted n v, crossing_sum_counted n w)
-    (pair_sum_mono n n (λ j k. sum n (λ i. one (ltb i j) * v i k) * sum n (λ l. one (ltb k l) * v j l))
-    (λ j k. sum n (λ i. one (ltb i j) * w i k) * sum n (λ l. one (ltb k l) * w j l)) (le_refl n)
-    (λ j k jk kn.
-    mul-le-mul
-    (sum_mono n (λ i. one (ltb i j) * v i k) (λ i. one (ltb i j) * w i k) (λ i a. guarded i j (v i k) (w i k) (λ l. h i k (omega arith) kn)))
-    (sum_mono n (λ l. one (ltb k l) * v j l) (λ l. one (ltb k l) * w j l) (λ l b. guarded k l (v j l) (w j l) (λ m. h j l (omega arith) b)))))
-
--- with weights of at most c, at most c times c times as many
-pub crossing_sum_bound : (n c : ℕ) (w : ℕ → ℕ → ℕ) → n ≤ 64 → ((i j : ℕ) → i < j → j < n → w i j ≤ c) → crossing_sum n w ≤ c * c * most_crossings
-crossing_sum_bound n c w h le =
-    le_trans (crossing_sum_mono n w (λ i j. c) le)
-    (rw (complete_sum n c, ← quadruples_most) (mul-le-mul_left (c * c) (quadruples_mono n 64 h)))
-
--- and 64 vertices that are all joined reach it
-pub crossing_sum_complete : (c : ℕ) (w : ℕ → ℕ → ℕ) → ((i j : ℕ) → i < j → j < 64 → w i j ≡ c) → crossing_sum 64 w ≡ c * c * most_crossings
-crossing_sum_complete c w h =
-    le_antisymm (crossing_sum_mono 64 w (λ i j. c) (λ i j l b. le_of_eq (h i j l b))) (crossing_sum_mono 64 (λ i j. c) w (λ i j l b. le_of_eq (sym (h i j l b))))
-    ∙ complete_sum 64 c
-    ∙ ap (λ (x : ℕ). c * c * x) quadruples_most
 
 -- ---- the most edges
 

@@ -1,14 +1,14 @@
 -- The counting identity: the crossings of a layout, counted pair by pair, are a sum over pairs of places. Over any weight of the edges that is
 -- symmetric and 0 from a vertex to itself.
-use Prim.Native.Nat.{ℕ, suc, ◌+◌, ◌*◌, ◌<◌}
-use Rattle.std.proofs.Common.{mul_comm, mul-zero, zero-mul, arith, sym, ◌∙◌}
+use Prim.Native.Nat.{ℕ, ◌+◌, ◌*◌, ◌<◌}
+use Rattle.std.proofs.Common.{mul_comm, arith, ◌∙◌}
 use Rattle.std.specs.Prelude.{◌≡◌, List, ltb}
 use Rattle.std.proofs.Math.Path.{ap, ap₂}
 use Rattle.model.specs.Lists.{one, place}
 use Rattle.laws.specs.Sums.Indicators.{less, same, more, order, one_lt, one_ge}
-use Rattle.laws.specs.Sums.Ranges.{double, sum, sum_ext, sum_zero, sum_last, sum_scale, sum_product, sum4, sum4_ext, sum4_swap_first, sum4_swap_middle}
+use Rattle.laws.specs.Sums.Ranges.{double, sum, sum_ext, sum_scale, sum_product, sum4, sum4_ext, sum4_swap_first, sum4_swap_middle}
 use Rattle.laws.specs.Orders.Permutations.{at, Permutation, place_of_at}
-use Rattle.laws.specs.Sums.Pairs.{pair_sum, pair_sum_ext, pair_sum_zero, pair_sum_last, pair_sum_add, pair_sum_pairs, pair_sum_swap, Symmetric, pair_vertices}
+use Rattle.laws.specs.Sums.Pairs.{pair_sum, pair_sum_ext, pair_sum_zero, pair_sum_add, pair_sum_pairs, pair_sum_swap, Symmetric, pair_vertices}
 use Rattle.laws.specs.Crossings.Alternation.{cross, rising, cross_ordered, cross_swap_left, cross_swap_right}
 
 -- the crossings of weighted edges, each two edges twice: over the unordered pairs of vertices, each with its weight, where p gives the places
@@ -148,26 +148,3 @@ module _ (n : ℕ) (w : ℕ → ℕ → ℕ) where
           ∙ sum_scale n (one (ltb j k)) (λ l. one (ltb i j) * w i k * (one (ltb k l) * w j l)))
           ∙ sum_scale n (one (ltb j k)) (λ i. sum n (λ l. one (ltb i j) * w i k * (one (ltb k l) * w j l)))
           ∙ ap (λ (x : ℕ). one (ltb j k) * x) (sum_product n n (λ i. one (ltb i j) * w i k) (λ l. one (ltb k l) * w j l))
-
--- a last place without edges changes nothing; v are the weights before it came
-pub crossing_sum_last : (n : ℕ) (w v : ℕ → ℕ → ℕ) → ((i j : ℕ) → i < n → j < n → w i j ≡ v i j) → ((i : ℕ) → i < n → w i n ≡ 0)
-    → crossing_sum (suc n) w ≡ crossing_sum n v
-crossing_sum_last n w v same-weight none =
-    crossing_sum_counted (suc n) w
-    ∙ pair_sum_last n counted
-    (λ j a.
-    ap (λ (x : ℕ). below j n * x) (sum_zero (suc n) _ (λ l b. rw (one_ge n l (omega arith)) (zero-mul (w j l)))) ∙ mul-zero (below j n))
-    ∙ pair_sum_ext n counted (λ j k. sum n (λ i. one (ltb i j) * v i k) * sum n (λ l. one (ltb k l) * v j l))
-    (λ j k a b.
-    ap₂ (λ (x y : ℕ). x * y)
-    (sum_last n (λ i. one (ltb i j) * w i k) (rw (one_ge n j (omega arith)) (zero-mul (w n k)))
-    ∙ sum_ext n (λ i. one (ltb i j) * w i k) (λ i. one (ltb i j) * v i k) (λ i c. ap (λ (x : ℕ). one (ltb i j) * x) (same-weight i k c b)))
-    (sum_last n (λ l. one (ltb k l) * w j l) (ap (λ (x : ℕ). one (ltb k n) * x) (none j (omega arith)) ∙ mul-zero (one (ltb k n)))
-    ∙ sum_ext n (λ l. one (ltb k l) * w j l) (λ l. one (ltb k l) * v j l) (λ l c. ap (λ (x : ℕ). one (ltb k l) * x) (same-weight j l (omega arith) c))))
-    ∙ sym (crossing_sum_counted n v)
-  where
-    below : ℕ → ℕ → ℕ
-    below j k = sum (suc n) (λ i. one (ltb i j) * w i k)
-
-    counted : ℕ → ℕ → ℕ
-    counted j k = below j k * sum (suc n) (λ l. one (ltb k l) * w j l)

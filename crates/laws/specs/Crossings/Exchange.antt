@@ -48,18 +48,6 @@ module _ {n : ℕ} {W : ℕ → ℕ → ℕ} (s : Symmetric n W) where
       ∙ turned_lists a (all_append b (also l none))
       ∙ ap (closed_crossings W) (append_assoc ys (x ∷ []) xs)
 
-  module _ {u v : ℕ} (hu : u < n) (hv : v < n) where
-    -- inside a list, the others being those behind the two and then those before them
-    pub exchanged_inside : {xs ys : List ℕ} → All (λ x. x < n) xs → All (λ x. x < n) ys
-        → closed_crossings W (xs ++ (v ∷ u ∷ ys)) + lost W u v (ys ++ xs) ≡ closed_crossings W (xs ++ (u ∷ v ∷ ys)) + gained W u v (ys ++ xs)
-    exchanged_inside {xs} {ys} a b =
-        rw (turned_lists a (also hv (also hu b)), turned_lists a (also hu (also hv b))) (exchanged W u v (ys ++ xs))
-
-    -- and where the list starts between the two: the last entry u is exchanged with the first, v
-    pub exchanged_round : {xs : List ℕ} → All (λ x. x < n) xs
-        → closed_crossings W (u ∷ (xs ++ (v ∷ []))) + lost W u v xs ≡ closed_crossings W (v ∷ (xs ++ (u ∷ []))) + gained W u v xs
-    exchanged_round {xs} a = rw (turned_once hv (also hu a), turned_once hu (also hv a)) (exchanged W u v xs)
-
 -- ---- lost and gained by sums over the vertices, as a walk has them at hand: f the weights of u, g those of v
 
 module _ (f g : ℕ → ℕ) where

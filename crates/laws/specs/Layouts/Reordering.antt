@@ -8,13 +8,13 @@ use Rattle.std.proofs.Math.Seq.{length_front, get_or-drop, take_at}
 use Rattle.model.specs.declared.Layout.{Layout}
 use Rattle.model.specs.declared.Changed.{Changed}
 use Rattle.model.specs.Crossings.{crossings}
-use Rattle.model.specs.Layouts.{vertex_order, weight, crossings_of, valid, modulus, carried, changed, reordered, uncounted}
+use Rattle.model.specs.Layouts.{vertex_order, weight, crossings_of, valid, modulus, carried, changed, reordered}
 use Rattle.model.specs.Checks.{refusal}
 use Rattle.model.specs.Edits.{changed_to, change_refused, moved_after, move_checks, move_of}
 use Rattle.laws.specs.Orders.Permutations.{at, Permutation}
-use Rattle.laws.specs.Layouts.Refusals.{pair_passed, passed_pair}
-use Rattle.laws.specs.Layouts.Refusals.{changed_number, changed_accepted, changed_refused, changed_either}
-use Rattle.laws.specs.Layouts.Validity.{sound, sound_valid, crossings_bound}
+use Rattle.laws.specs.Layouts.Refusals.{passed_pair}
+use Rattle.laws.specs.Layouts.Refusals.{changed_number, changed_accepted, changed_refused}
+use Rattle.laws.specs.Layouts.Validity.{sound, sound_valid}
 use Rattle.laws.specs.Orders.Moves.{at_right, moved_permutation}
 
 -- ---- a valid layout with another order
@@ -75,20 +75,9 @@ pub carried_same : (count before : ℕ) → count < modulus → carried count be
 unfolding carried
 carried_same count before h = omega arith
 
-pub crossings_fit : (l : Layout) → T (valid l) → crossings_of l < modulus
-crossings_fit l t = omega (arith, crossings_bound l t)
-
 -- the count of a layout is its crossings
 abbrev pub CountRight : Layout → Type 0
 CountRight l = l.count ≡ crossings_of l
-
--- where that holds of a valid layout, it holds of the valid layout that a call makes of it
-pub changed_count : (l : Layout) (n : ℕ) (places adj ws : List ℕ) → T (valid l) → T (valid (changed l n places adj ws))
-    → CountRight l → CountRight (changed l n places adj ws)
-unfolding changed crossings_of vertex_order weight
-changed_count l n places adj ws t u e =
-    ap (λ (c : ℕ). carried c (crossings_of l) (crossings_of (uncounted n places adj ws))) e
-    ∙ carried_right (crossings_of l) (crossings_of (uncounted n places adj ws)) (crossings_fit l t) (crossings_fit (changed l n places adj ws) u)
 
 -- a call that returns m for l leaves a valid layout valid, and a right count right
 abbrev pub Keeps : Layout → Layout → Type 0
@@ -96,9 +85,6 @@ Keeps l m = T (valid l) → T (valid m) × (CountRight l → CountRight m)
 
 pub same_keeps : {l m : Layout} → m ≡ l → Keeps l m
 same_keeps e t = (subst (λ (k : Layout). T (valid k)) (sym e) t, λ c. subst (λ (k : Layout). CountRight k) (sym e) c)
-
-pub changed_keeps : (l : Layout) (n : ℕ) (places adj ws : List ℕ) → T (valid (changed l n places adj ws)) → Keeps l (changed l n places adj ws)
-changed_keeps l n places adj ws u t = (u, changed_count l n places adj ws t u)
 
 -- ---- the call move
 
@@ -132,13 +118,3 @@ module _ (l : Layout) (t : T (valid l)) (a : ℕ) (h : a < l.n) (b : ℕ) (k : b
   move_crossings =
       ap crossings_of move_layout
       ∙ reordered_crossings l (moved_after a b (vertex_order l)) (moved_permutation (sound l t).permutation a h b k d).size
-
-pub move_keeps : (l : Layout) (a b : ℕ) → Keeps l (move_of l a b).layout
-unfolding move_of reordered
-move_keeps l a b =
-    changed_either l (move_checks l a b) (moved_layout l a b) (Keeps l)
-    (λ e.
-    (let p = pair_passed l a b e in
-    changed_keeps l l.n (moved_after a b (vertex_order l) ++ drop l.n l.order) l.adjacency l.weights
-    (move_valid l p.is_valid_lem a p.first b p.second p.different)))
-    (same_keeps refl)

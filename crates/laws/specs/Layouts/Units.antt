@@ -10,7 +10,7 @@ use Rattle.model.specs.Lists.{one, upto, every, keep}
 use Rattle.model.specs.Crossings.{linked, edges, unit_weight, edge_weight}
 use Rattle.model.specs.Layouts.{table_places, table_weight, weight, valid}
 use Rattle.model.specs.WrittenCharts.{weights_of, unit_weighted}
-use Rattle.laws.specs.Sums.Indicators.{T_true, less, same, more, order, bool_ext, both_left, both_right}
+use Rattle.laws.specs.Sums.Indicators.{T_true, less, same, more, order, both_left, both_right}
 use Rattle.laws.specs.Sums.Lists.{All, none, also}
 use Rattle.laws.specs.Sums.Every.{every_upto, upto_every, every_keep}
 use Rattle.laws.specs.Sums.Below.{every_map, every_flat_map, every_same}
@@ -28,7 +28,7 @@ pub record Unit (ws : List ℕ) : Type 0 where
 unfoldable pub none_above_one : List ℕ → Bool
 none_above_one ws = every (λ i. leb (get_or ws i 0) 1) (upto table_places)
 
-entries_unit : (ws : List ℕ) → T (none_above_one ws) → Unit ws
+pub entries_unit : (ws : List ℕ) → T (none_above_one ws) → Unit ws
 unfolding none_above_one table_weight
 entries_unit ws t =
     record {
@@ -37,7 +37,7 @@ entries_unit ws t =
           leb-true (get_or ws i 0) 1 (T_true (leb (get_or ws i 0) 1) (every_upto (λ j. leb (get_or ws j 0) 1) table_places t i (omega arith)));
     }
 
-unit_entries : {ws : List ℕ} → Unit ws → T (none_above_one ws)
+pub unit_entries : {ws : List ℕ} → Unit ws → T (none_above_one ws)
 unfolding none_above_one table_weight
 unit_entries {ws} s =
     upto_every (λ j. leb (get_or ws j 0) 1) table_places
@@ -150,10 +150,3 @@ module _ (l : Layout) (t : T (valid l)) (w : T (unit_weighted l)) where
           | yes a ↦ elim (dec_lt v l.n) [ no b ↦ omega (arith, f.columns u v h (omega arith) k) | yes b ↦ below_one u v a b ]
         ];
       }
-
--- so it is enough to ask the entries
-pub unit_asked : (l : Layout) → T (valid l) → none_above_one l.weights ≡ unit_weighted l
-unit_asked l t =
-    bool_ext (none_above_one l.weights) (unit_weighted l)
-    (λ a. agrees_unit l (unit_agrees l t (entries_unit l.weights a)))
-    (λ w. unit_entries (unit_weighted_lem l t w))

@@ -1,6 +1,6 @@
 -- What a valid layout has: an order that holds each vertex once, and symmetric edges. So its crossings are the sum over places, and bounded.
-use Rattle.std.specs.Prelude.{ℕ, zero, suc, ◌*◌, ◌^◌, ◌≤◌, ◌<◌, ◌≡◌, refl, Bool, true, false, cond, List, length, get_or, take, T, eqb, leb, ltb}
-use Rattle.std.proofs.Common.{le_antisymm, le_trans, le_of_eq, lt_of_lt_of_le, mul-one, arith, sym, ap, ◌∙◌, subst, length-take, le-leb, eq-eqb, ne_eqb, leb→le, ltb→lt, lt→ltb, eqb→eq}
+use Rattle.std.specs.Prelude.{ℕ, zero, suc, ◌^◌, ◌≤◌, ◌<◌, ◌≡◌, refl, Bool, true, false, cond, List, length, get_or, take, T, eqb, leb, ltb}
+use Rattle.std.proofs.Common.{le_antisymm, le_trans, le_of_eq, mul-one, arith, sym, ap, ◌∙◌, subst, length-take, le-leb, eq-eqb, ne_eqb, leb→le, ltb→lt, lt→ltb, eqb→eq}
 use Rattle.std.proofs.Math.Nat.{min-le_left}
 use Rattle.std.proofs.Math.Bool.{beq, not}
 use Rattle.std.proofs.lemmas.Bool.{lt-leb}
@@ -11,11 +11,10 @@ use Rattle.model.specs.Layouts.{capacity, vertex_order, weight, crossings_of, ea
 use Rattle.laws.specs.Sums.Indicators.{T_true, less, same, more, order, and_left, and_right, one_le, beq_eq}
 use Rattle.laws.specs.Sums.Every.{every_upto, upto_every, upto_fails, every_keep}
 use Rattle.laws.specs.Sums.Ranges.{sum, sum_ext, sum_const, sum_swap, sum_mono}
-use Rattle.laws.specs.Orders.Permutations.{at, Permutation, at_lt, occurrences_places, sum_hits}
-use Rattle.laws.specs.Sums.Pairs.{pair_sum, Symmetric}
-use Rattle.laws.specs.Crossings.Counting.{crossing_sum, placed, crossing_sum_counted}
+use Rattle.laws.specs.Orders.Permutations.{at, Permutation, occurrences_places, sum_hits}
+use Rattle.laws.specs.Sums.Pairs.{Symmetric}
+use Rattle.laws.specs.Crossings.Counting.{crossing_sum, placed}
 use Rattle.laws.specs.Crossings.Edges.{crossings_sum}
-use Rattle.laws.specs.Crossings.Bound.{most_weighted, crossing_sum_bound}
 use Rattle.laws.specs.Tables.Fits.{Fits, fits_each, each_fits, fits_light, fits_symmetric}
 
 -- a bit that is not 1 is 0
@@ -186,18 +185,3 @@ module _ (l : Layout) (t : T (valid l)) where
   pub crossings_rising : crossings_of l ≡ crossing_sum l.n (place_weight l)
   unfolding crossings_of
   crossings_rising = crossings_sum (sound l t).permutation (weight l) (valid_symmetric l t)
-
-  -- counted with two counts for each pair of places j < k: the edges from before j to k, and those from j to beyond k
-  pub crossings_counted : crossings_of l
-      ≡ pair_sum l.n
-      (λ j k. sum l.n (λ i. one (ltb i j) * place_weight l i k) * sum l.n (λ m. one (ltb k m) * place_weight l j m))
-  crossings_counted = crossings_rising ∙ crossing_sum_counted l.n (place_weight l)
-
-  -- 41,315,324,400
-  pub crossings_bound : crossings_of l ≤ most_weighted
-  crossings_bound =
-      let s = sound l t in
-      le_trans (le_of_eq crossings_rising)
-      (crossing_sum_bound l.n 255 (place_weight l) s.small
-      (λ i j a b. weight_most l t (at (vertex_order l) i) (at (vertex_order l) j)
-      (lt_of_lt_of_le (at_lt s.permutation i (omega arith)) s.small) (lt_of_lt_of_le (at_lt s.permutation j b) s.small)))

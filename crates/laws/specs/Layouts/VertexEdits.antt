@@ -1,9 +1,8 @@
 -- Adding a vertex: the order holds one more, and it has no edges.
 use Prim.Native.Nat.{ℕ, suc, ◌+◌, ◌<◌}
-use Rattle.std.proofs.Common.{add-zero, arith, ap, ap₂, ◌∙◌, length-append, take-suc-set, pow_mono}
+use Rattle.std.proofs.Common.{arith, ap, ◌∙◌, length-append, take-suc-set, pow_mono}
 use Rattle.std.proofs.Math.Nat.{lt_of_lt_of_le}
 use Rattle.std.proofs.Math.Decide.{ℕ_discrete}
-use Rattle.std.proofs.Math.Numerals.{add-one}
 use Rattle.std.specs.Prelude.{◌≡◌, refl, length, get_or, take, T, eqb, Bool, true, false}
 use Rattle.std.proofs.Math.Path.{sym}
 use mathlib.Core.List.{List, [], ◌∷◌, ◌++◌}
@@ -13,20 +12,16 @@ use borrow.Author.Tests.{le-ltb}
 use Rattle.std.proofs.Math.Seq.{get_or-set_other}
 use Rattle.model.specs.declared.Layout.{Layout}
 use Rattle.model.specs.Lists.{one, occurrences}
-use Rattle.model.specs.Crossings.{unit_weight, crossings}
-use Rattle.model.specs.Layouts.{vertex_order, weight, crossings_of, valid, modulus, carried, changed}
+use Rattle.model.specs.Crossings.{unit_weight}
+use Rattle.model.specs.Layouts.{vertex_order, weight, valid, changed}
 use Rattle.model.specs.Edits.{added}
 use Rattle.laws.specs.Sums.Indicators.{less, same, more, order, one_eq, one_ne}
-use Rattle.laws.specs.Orders.Permutations.{occurrences_nil, occurrences_cons, occurrences_append, at, Permutation, at_lt, none_beyond}
-use Rattle.laws.specs.Orders.Moves.{at_left, at_right}
+use Rattle.laws.specs.Orders.Permutations.{occurrences_nil, occurrences_cons, occurrences_append, Permutation, none_beyond}
 use Rattle.laws.specs.Sums.Pairs.{Symmetric}
 use Rattle.laws.specs.Sums.Bits.{bit_beyond}
-use Rattle.laws.specs.Crossings.Counting.{placed, crossing_sum_last}
-use Rattle.laws.specs.Crossings.Edges.{crossings_sum}
 use Rattle.laws.specs.Crossings.Masks.{weight_bit}
 use Rattle.laws.specs.Tables.Fits.{Fits, fits_light}
 use Rattle.laws.specs.Layouts.Validity.{sound, sound_valid, valid_symmetric}
-use Rattle.laws.specs.Layouts.Reordering.{carried_same}
 
 not_one : (b : Bool) → one b ≡ 0 → b ≡ false
 unfolding one
@@ -55,7 +50,7 @@ module _ (l : Layout) (t : T (valid l)) (room : l.n < 64) where
   unfolding weight
   no_edge_from v h = (sound l t).fits.rows l.n v (omega arith) room h
 
-  no_edge_to : (u : ℕ) → u < 64 → weight l u l.n ≡ 0
+  pub no_edge_to : (u : ℕ) → u < 64 → weight l u l.n ≡ 0
   unfolding weight
   no_edge_to u h = (sound l t).fits.columns u l.n h (omega arith) room
 
@@ -86,7 +81,7 @@ module _ (l : Layout) (t : T (valid l)) (room : l.n < 64) where
             elim (ℕ_discrete v l.n) [ yes e ↦ rw e (from l.n room) | no d ↦ s.diagonal v (omega arith) ];
       }
 
-  symmetric_more : Symmetric (suc l.n) (weight l)
+  pub symmetric_more : Symmetric (suc l.n) (weight l)
   symmetric_more = more_symmetric (valid_symmetric l t) no_edge_from no_edge_to
 
   -- the table fits one vertex more
@@ -112,27 +107,6 @@ module _ (l : Layout) (t : T (valid l)) (room : l.n < 64) where
       none : {w : ℕ} {b : Bool} → w ≡ 0 → one b ≡ 0 → ltb 0 w ≡ b
       none {w} {b} e z = le-ltb 0 w (omega arith) ∙ sym (not_one b z)
 
-  -- so it crosses nothing
-  pub crossings_added : crossings (suc l.n) (vertex_order l ++ (l.n ∷ [])) (weight l) ≡ crossings l.n (vertex_order l) (weight l)
-  crossings_added =
-      crossings_sum (permutation_more perm) (weight l) symmetric_more
-      ∙ crossing_sum_last l.n (placed more (weight l)) (placed (vertex_order l) (weight l))
-      (λ i j a b. ap₂ (weight l) (kept i a) (kept j b))
-      (λ i a. ap₂ (weight l) (kept i a) last ∙ no_edge_to (at (vertex_order l) i) (omega (arith, at_lt perm i a)))
-      ∙ sym (crossings_sum perm (weight l) (valid_symmetric l t))
-    where
-      perm : Permutation l.n (vertex_order l)
-      perm = (sound l t).permutation
-
-      more : List ℕ
-      more = vertex_order l ++ (l.n ∷ [])
-
-      kept : (i : ℕ) → i < l.n → at more i ≡ at (vertex_order l) i
-      kept i a = at_left (vertex_order l) (l.n ∷ []) l.n i perm.size a
-
-      last : at more l.n ≡ l.n
-      last = ap (at more) (sym (add-zero l.n)) ∙ at_right (vertex_order l) (l.n ∷ []) l.n 0 perm.size
-
   module _ (size : length l.order ≡ 64) where
     permutation_added : Permutation (suc l.n) (take (suc l.n) (set l.order l.n l.n))
     unfolding vertex_order
@@ -153,15 +127,3 @@ module _ (l : Layout) (t : T (valid l)) (room : l.n < 64) where
           unused = λ v h b. s.unused v (omega arith) b;
           fits = fits_more;
         })
-
-    -- and its count is the one before
-    pub added_kept : {places : List ℕ} → l.count < modulus → places ≡ set l.order l.n l.n
-        → record { n = l.n + 1; order = places; adjacency = l.adjacency; weights = l.weights; count = l.count } ≡ added l
-    unfolding added changed crossings_of vertex_order weight
-    added_kept h e =
-        rw (e, add-one l.n)
-        (ap (λ (x : ℕ). record { n = suc l.n; order = set l.order l.n l.n; adjacency = l.adjacency; weights = l.weights; count = x })
-        (sym
-        (ap (carried l.count (crossings_of l))
-        (ap (λ (o : List ℕ). crossings (suc l.n) o (weight l)) (take-suc-set l.order l.n l.n (omega arith)) ∙ crossings_added)
-        ∙ carried_same l.count (crossings_of l) h)))

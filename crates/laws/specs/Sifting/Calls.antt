@@ -16,12 +16,8 @@ use Rattle.laws.specs.Sums.Indicators.{and_intro, both_left, both_right}
 use Rattle.laws.specs.Sums.Lists.{none, also}
 use Rattle.laws.specs.Layouts.Sizes.{Sized}
 use Rattle.laws.specs.Layouts.Refusals.{passed, valid_passed, vertex_passed, all_passed, when_accepted, when_refused, checked_number, checked_either}
-use Rattle.laws.specs.Layouts.Reordering.{Keeps, same_keeps}
-use Rattle.laws.specs.Sifting.Candidates.{Rearranged, rearranged_count, sifted_rearranged}
+use Rattle.laws.specs.Sifting.Candidates.{Rearranged, sifted_rearranged}
 use Rattle.laws.specs.Sifting.Rounds.{round_reduced, settled_rearranged}
-
-rearranged_keeps : {l m : Layout} → Rearranged l m → Keeps l m
-rearranged_keeps p t = (p.valid_after, rearranged_count t p)
 
 -- ---- sift
 
@@ -49,9 +45,6 @@ module _ (l : Layout) (u : ℕ) where
       checked_either (sift_checks l u) (sift_answer l u) (sift_refused l) (λ (s : Sifted). P s.layout)
       (λ e. (let passed = vertex_passed l u e in a passed.0 passed.1)) (λ k. r)
 
-  pub sift_keeps : Keeps l (sift_of l u).layout
-  sift_keeps = sift_either (Keeps l) (λ t h. rearranged_keeps (sifted_rearranged l t u h)) (same_keeps refl)
-
 -- ---- round
 
 module _ (l : Layout) where
@@ -75,9 +68,6 @@ module _ (l : Layout) where
   unfolding round_of
   round_either P a r =
       checked_either (is_valid l ∷ []) (sift_round l) (round_refused l) (λ (s : Rounded). P s.layout) (λ e. a (valid_passed l [] e).0) (λ k. r)
-
-  pub round_keeps : Keeps l (round_of l).layout
-  round_keeps = round_either (Keeps l) (λ t. rearranged_keeps (round_reduced l t).rearranged) (same_keeps refl)
 
 -- ---- settle
 
@@ -112,9 +102,6 @@ module _ (l : Layout) (limit : ℕ) where
   settle_either P a r =
       checked_either (settle_checks l limit) (rounds_up_to limit l) (settle_refused l) (λ (s : Converged). P s.layout)
       (λ e. a (valid_passed l (limit_fits limit ∷ []) e).0) (λ k. r)
-
-  pub settle_keeps : Keeps l (settle_of l limit).layout
-  settle_keeps = settle_either (Keeps l) (λ t. rearranged_keeps (settled_rearranged limit l t)) (same_keeps refl)
 
 -- ---- the arrays keep their places
 

@@ -20,8 +20,7 @@ use Rattle.laws.specs.Layouts.Validity.{sound}
 use Rattle.laws.specs.Sifting.LocalSearch.{chosen_stays, chosen_has, chosen_least, least_same, count_same, chosen_same}
 use Rattle.laws.specs.Orders.Moves.{at_right, moved_permutation}
 use Rattle.laws.specs.Layouts.Reordering.{reordered_crossings}
-use Rattle.laws.specs.Layouts.Reordering.{reordered_length, reordered_valid, carried_right, carried_carried, carried_lt, carried_same, crossings_fit}
-use Rattle.laws.specs.Layouts.Reordering.{CountRight}
+use Rattle.laws.specs.Layouts.Reordering.{reordered_length, reordered_valid, carried_carried, carried_lt, carried_same}
 
 -- a property of whatever occurs is one of each entry
 all_occurring : {P : ℕ → Type 0} (xs : List ℕ) → ((v : ℕ) → 0 < occurrences v xs → P v) → All P xs
@@ -164,13 +163,6 @@ rearranged_trans l m k p q =
 pub rearranged_weight : {l m : Layout} → Rearranged l m → weight m ≡ weight l
 unfolding weight
 rearranged_weight p = ap table_weight p.same_weights
-
--- a right count stays right
-pub rearranged_count : {l m : Layout} → T (valid l) → Rearranged l m → CountRight l → CountRight m
-rearranged_count {l} {m} t p e =
-    p.count_carried (rw e (crossings_fit l t))
-    ∙ ap (λ (c : ℕ). carried c (crossings_of l) (crossings_of m)) e
-    ∙ carried_right (crossings_of l) (crossings_of m) (crossings_fit l t) (crossings_fit m p.valid_after)
 
 -- any other order
 module _ (l : Layout) (t : T (valid l)) (o : List ℕ) (perm : Permutation l.n o) where

@@ -17,7 +17,7 @@ use Rattle.model.specs.Search.{Search, Round, reached, last_still, round_at, rou
 use Rattle.model.specs.Sifting.{ring, rounds_up_to, settled, settle_of}
 use Rattle.laws.specs.Sifting.Sweeps.{reached_append, Settles, spent, last, further, still_more, last_reached, settles}
 use Rattle.laws.specs.Sifting.Sweeps.{Lawful, Rounds, chain_exact, chain_fewer, rounds_proper}
-use Rattle.laws.specs.Sifting.Rounds.{Valid, lawful, settled_rearranged, settled_exact}
+use Rattle.laws.specs.Sifting.Rounds.{Valid, settled_rearranged, settled_exact}
 use Rattle.laws.specs.Sifting.Calls.{settle_passed, settle_accepted}
 
 -- ---- over any kind of layout
@@ -118,26 +118,15 @@ pub record LimitFacts (l : Layout) (limit : ℕ) (a : Converged) : Type 0 where
   pub not_enough : a.converged ≡ false → limit ≤ a.reduction
 
 module _ (l : Layout) (limit : ℕ) (e : (settle_of l limit).refusal ≡ 0) where
-  whole : Valid l
+  pub whole : Valid l
   whole = (settle_passed l limit e).0
 
-  answered : settle_of l limit ≡ rounds_up_to limit l
+  pub answered : settle_of l limit ≡ rounds_up_to limit l
   answered = let p = settle_passed l limit e in settle_accepted l limit p.0 p.1 p.2
 
   -- the saving is exact
   pub settle_exact : crossings_of (settle_of l limit).layout + (settle_of l limit).reduction ≡ crossings_of l
   settle_exact = rw answered (settled_exact limit l whole)
-
-  pub settle_enough : LimitFacts l limit (settle_of l limit)
-  unfolding rounds_up_to settled
-  settle_enough =
-      rw answered
-      (record {
-        enough = λ h. limit_enough ring Valid lawful limit l whole (omega arith);
-        few = omega (arith, rounds_few ring Valid lawful limit l whole);
-        saved = omega (arith, rounds_cost ring Valid lawful limit l whole, settled_exact limit l whole);
-        not_enough = λ f. omega (arith, unsettled_cost ring Valid lawful limit l whole f, settled_exact limit l whole);
-      })
 
   -- did the last of its rounds move no vertex?
   told : {b : Bool} → (settle_of l limit).converged ≡ b → last_still (rounds_within ring limit l) ≡ b

@@ -1,7 +1,7 @@
 -- The walk of a sift: the vertex is exchanged with its next neighbour in the order, again and again, until it has passed all others. Read
 -- clockwise from the vertex, each candidate is the others turned by one more.
 use Prim.Native.Nat.{ℕ, suc, ◌+◌, ◌-◌, ◌≤◌, ◌<◌}
-use Rattle.std.proofs.Common.{add-sub_of_le, add-one, arith, ◌∙◌, length-append, drop-cons, take-suc, get_or-append-add, eq-eqb}
+use Rattle.std.proofs.Common.{add-sub_of_le, add-one, arith, ◌∙◌, length-append, take-suc, get_or-append-add, eq-eqb}
 use Rattle.std.specs.Prelude.{◌≡◌, refl, Bool, eqb}
 use Rattle.std.proofs.Math.Path.{sym, ap, ap₂}
 use Rattle.std.proofs.Math.Bool.{true, false, cond}
@@ -14,12 +14,12 @@ use Rattle.model.specs.Crossings.{crossings}
 use Rattle.model.specs.Edits.{insert_after, moved_after}
 use Rattle.model.specs.Sifting.{clockwise_from}
 use Rattle.laws.specs.Sums.Indicators.{less, same, more, order, one_eq}
-use Rattle.laws.specs.Sums.Lists.{All, also, all_append, all_at, all_places, all_take, all_drop}
+use Rattle.laws.specs.Sums.Lists.{All, also, all_at, all_places, all_take, all_drop}
 use Rattle.laws.specs.Sums.Pairs.{Symmetric}
 use Rattle.laws.specs.Orders.Permutations.{at, occurrences_append, occurrences_last, Permutation, at_lt, at_of_place, place_below}
 use Rattle.laws.specs.Orders.Moves.{without_place, moved_permutation}
 use Rattle.laws.specs.Crossings.Lists.{closed_crossings, crossings_closed_lem}
-use Rattle.laws.specs.Crossings.Exchange.{lost, gained, exchanged, turned_once, turned_lists}
+use Rattle.laws.specs.Crossings.Exchange.{turned_lists}
 use Rattle.laws.specs.Sifting.Candidates.{clockwise_length, clockwise_not, clockwise_once, clockwise_others}
 
 -- ---- a list read clockwise from one of its entries
@@ -192,28 +192,6 @@ module _ {n : ℕ} {W : ℕ → ℕ → ℕ} (s : Symmetric n W) where
       let below : All (λ x. x < n) o = all_places o (λ i l. at_lt perm i (rw perm.size at l)) in
       ap (closed_crossings W) (parts perm u h)
       ∙ turned_lists s (all_take (place o u) below) (also h (all_drop (suc (place o u)) below))
-
-  -- one more exchange: u with the next of the others, v
-  module _ {u : ℕ} {others : List ℕ} (h : u < n) (below : All (λ x. x < n) others) (k : ℕ) (l : k < length others) where
-    abbrev v : ℕ
-    v = at others k
-
-    abbrev rest : List ℕ
-    rest = drop (suc k) others ++ take k others
-
-    before_exchange : walked W u others k ≡ closed_crossings W (u ∷ v ∷ rest)
-    unfolding walked
-    before_exchange = ap (λ (xs : List ℕ). closed_crossings W (u ∷ (xs ++ take k others))) (drop-cons others k 0 l)
-
-    after_exchange : walked W u others (suc k) ≡ closed_crossings W (v ∷ u ∷ rest)
-    unfolding walked
-    after_exchange =
-        ap (λ (xs : List ℕ). closed_crossings W (u ∷ xs))
-        (ap (λ (xs : List ℕ). drop (suc k) others ++ xs) (take-suc others k 0 l) ∙ sym (append_assoc (drop (suc k) others) (take k others) (v ∷ [])))
-        ∙ turned_once s (all_at 0 below k l) (also h (all_append (all_drop (suc k) below) (all_take k below)))
-
-    pub walked_next : walked W u others (suc k) + lost W u v rest ≡ walked W u others k + gained W u v rest
-    walked_next = rw (before_exchange, after_exchange) (exchanged W u v rest)
 
 -- and of the model
 module _ {n : ℕ} {o : List ℕ} (perm : Permutation n o) (W : ℕ → ℕ → ℕ) (s : Symmetric n W) (u : ℕ) (h : u < n) where

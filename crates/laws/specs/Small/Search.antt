@@ -1,7 +1,7 @@
 -- A search through the list that leaves a branch out where the crossings so far have reached the least so far: it finds the least crossings and the first
 -- order that has them.
 use Prim.Native.Nat.{ℕ, zero, suc, ◌+◌, ◌≤◌, ◌<◌, min}
-use Rattle.std.proofs.Common.{le_trans, ◌∙◌, eq-eqb, ne_eqb, lt-ltb, le-ltb, le-leb}
+use Rattle.std.proofs.Common.{◌∙◌, eq-eqb, ne_eqb, lt-ltb, le-ltb}
 use Rattle.std.proofs.Math.Nat.{min-eq_left, min-eq_right}
 use native.Mathlib.Omega.{arith}
 use Rattle.std.specs.Prelude.{◌≡◌, leb, ltb}
@@ -9,8 +9,7 @@ use Rattle.std.proofs.Math.Path.{refl, sym, ap, ap₂}
 use Rattle.std.proofs.Math.Bool.{cond}
 use mathlib.Core.List.{List, [], ◌∷◌, ◌++◌, flat_map}
 use Rattle.std.proofs.Math.Dec.{eqb}
-use Rattle.std.proofs.lemmas.Bool.{lt-leb}
-use Rattle.model.specs.Lists.{upto, first_with, occurrences}
+use Rattle.model.specs.Lists.{upto, first_with}
 use Rattle.model.specs.Crossings.{crossings}
 use Rattle.model.specs.GreedyAppend.{unplaced, back_crossings}
 use Rattle.model.specs.Search.{least}
@@ -18,13 +17,11 @@ use Rattle.laws.specs.Sums.Indicators.{less, same, more, order}
 use Rattle.laws.specs.Sums.Lists.{All, none, also, all_mono}
 use Rattle.laws.specs.Sums.Pairs.{Symmetric}
 use Rattle.laws.specs.Crossings.Lists.{closed_crossings, crossings_closed_lem}
-use Rattle.laws.specs.Append.Order.{all_unplaced, placed_all}
 use Rattle.laws.specs.Sifting.LocalSearch.{least_default, least_each}
-use Rattle.model.specs.SmallOrders.{list_rest, all_orders, least_of_all, first_least}
-use Rattle.laws.specs.Small.Entries.{Begun, begun_alone, begun_next, rest_complete, Leading, orders_leading}
+use Rattle.model.specs.SmallOrders.{all_orders, least_of_all, first_least}
+use Rattle.laws.specs.Small.Entries.{Leading, orders_leading}
 use Rattle.laws.specs.Small.Once.{listed_has, orders_once}
 use Rattle.laws.specs.Small.Least.{upto_leading}
-use Rattle.laws.specs.Small.Branches.{met_so_far, met_alone, met_step, met_full, branch}
 
 -- ---- the best of a list, in one pass
 
@@ -41,11 +38,11 @@ best_in f b [] = b
 best_in f b (o ∷ os) = best_in f (better f b o) os
 
 module _ (f : List ℕ → ℕ) where
-  better_taken : (b : Best) (o : List ℕ) → f o < b.count → better f b o ≡ record { count = f o; order = o }
+  pub better_taken : (b : Best) (o : List ℕ) → f o < b.count → better f b o ≡ record { count = f o; order = o }
   unfolding better
   better_taken b o l = rw (lt-ltb (f o) b.count l)
 
-  better_kept : (b : Best) (o : List ℕ) → b.count ≤ f o → better f b o ≡ b
+  pub better_kept : (b : Best) (o : List ℕ) → b.count ≤ f o → better f b o ≡ b
   unfolding better
   better_kept b o l = rw (le-ltb (f o) b.count l)
 
@@ -126,7 +123,7 @@ search_rest n W (suc k) xs met b =
     cond (leb b.count met) b (in_turn (λ c v. search_rest n W k (xs ++ (v ∷ [])) (met + back_crossings n W xs v) c) b (unplaced n xs))
 
 -- entry by entry what the lists give
-turn_best : (f : List ℕ → ℕ) (step : Best → ℕ → Best) (g : ℕ → List (List ℕ)) {P : ℕ → Type 0} → ((b : Best) (v : ℕ) → P v → step b v ≡ best_in f b (g v))
+pub turn_best : (f : List ℕ → ℕ) (step : Best → ℕ → Best) (g : ℕ → List (List ℕ)) {P : ℕ → Type 0} → ((b : Best) (v : ℕ) → P v → step b v ≡ best_in f b (g v))
     → {us : List ℕ} → All P us → (b : Best) → in_turn step b us ≡ best_in f b (flat_map g us)
 unfolding in_turn best_in flat_map
 turn_best f step g each none b = refl
@@ -134,38 +131,6 @@ turn_best f step g each (also {x = v} {xs = us} p ps) b =
     turn_best f step g each ps (step b v)
     ∙ ap (λ (c : Best). best_in f c (flat_map g us)) (each b v p)
     ∙ sym (best_append f b (g v) (flat_map g us))
-
-module _ {n : ℕ} {W : ℕ → ℕ → ℕ} (symmetry : Symmetric n W) where
-  -- what is left out holds nothing better
-  left_out : {k : ℕ} {xs : List ℕ} (c : Best) → Begun n k xs → c.count ≤ met_so_far n W xs → best_in (closed_crossings W) c (list_rest n k xs) ≡ c
-  left_out {k} c b l = best_stays (closed_crossings W) c (all_mono (rest_complete k b) (λ o d. le_trans l (branch symmetry d)))
-
-  pub search_best : (k : ℕ) {xs : List ℕ} (m : ℕ) → m ≡ met_so_far n W xs → Begun n k xs → (c : Best)
-      → search_rest n W k xs m c ≡ best_in (closed_crossings W) c (list_rest n k xs)
-  unfolding search_rest list_rest best_in
-  search_best zero {xs} m e b c =
-      elim (order m c.count) [
-        | less l ↦
-            rw (lt-leb c.count m l)
-            (ap (λ (k : ℕ). record { count = k; order = xs }) full ∙ sym (better_taken (closed_crossings W) c xs (omega (arith, full))))
-        | same h ↦ rw (le-leb c.count m (omega arith)) (sym (better_kept (closed_crossings W) c xs (omega (arith, full))))
-        | more l ↦ rw (le-leb c.count m (omega arith)) (sym (better_kept (closed_crossings W) c xs (omega (arith, full))))
-      ]
-    where
-      full : m ≡ closed_crossings W xs
-      full = e ∙ met_full symmetry (placed_all b.placed (omega (arith, b.left)))
-  search_best (suc k) {xs} m e b c =
-      elim (order m c.count) [
-        | less l ↦
-            rw (lt-leb c.count m l)
-            (turn_best (closed_crossings W) _ (λ v. list_rest n k (xs ++ (v ∷ [])))
-            (λ d v q. search_best k (m + back_crossings n W xs v) (next v q) (begun_next b q.0 q.1) d) (all_unplaced n xs) c)
-        | same h ↦ rw (le-leb c.count m (omega arith)) (sym (left_out c b (omega arith)))
-        | more l ↦ rw (le-leb c.count m (omega arith)) (sym (left_out c b (omega arith)))
-      ]
-    where
-      next : (v : ℕ) → (v < n) × (occurrences v xs ≡ 0) → m + back_crossings n W xs v ≡ met_so_far n W (xs ++ (v ∷ []))
-      next v q = ap (λ (k : ℕ). k + back_crossings n W xs v) e ∙ sym (met_step symmetry b.placed q.0 q.1)
 
 -- ---- it gives the definition's answer
 
@@ -214,12 +179,3 @@ module _ (n : ℕ) (W : ℕ → ℕ → ℕ) (symmetry : Symmetric n W) where
           best_first (closed_crossings W) (record { count = most; order = d }) (upto n) (all_orders n) (least_of_all n W) lowest
           (omega (arith, least_default f (crossings n (upto n) W) (all_orders n)))
           ∙ first_ext (closed_crossings W) f (least_of_all n W) (upto n) (orders_leading n) closed
-
--- the search of n + 1 vertices, from vertex 0 alone
-pub search_answer : (n : ℕ) (W : ℕ → ℕ → ℕ) → Symmetric (suc n) W → (most : ℕ) (d : List ℕ) → crossings (suc n) (upto (suc n)) W < most
-    → search_rest (suc n) W n (0 ∷ []) 0 (record { count = most; order = d })
-    ≡ record { count = least_of_all (suc n) W; order = first_least (suc n) W }
-unfolding all_orders
-search_answer n W symmetry most d h =
-    search_best symmetry n 0 (sym (met_alone (suc n) W 0)) (begun_alone n) (record { count = most; order = d })
-    ∙ pass_answer (suc n) W symmetry most d h

@@ -1,14 +1,11 @@
 -- The sum that the counter of weighted crossings answers for any bytes, its bound, and that of an order that holds each vertex once it is the crossings.
 use Rattle.std.specs.Prelude.{ℕ, ◌*◌, ◌≤◌, ◌<◌, ◌≡◌, cond, List, take, leb}
-use Rattle.std.proofs.Math.Decide.{dec_le}
-use Rattle.std.proofs.Common.{arith, sym, ap₂, ◌∙◌, le-leb}
-use Rattle.std.proofs.lemmas.Bool.{lt-leb}
+use Rattle.std.proofs.Common.{sym, ap₂, ◌∙◌, le-leb}
 use Rattle.model.specs.Crossings.{crossings}
 use Rattle.laws.specs.Sums.Ranges.{sum4_ext}
 use Rattle.laws.specs.Sums.Pairs.{Symmetric}
 use Rattle.laws.specs.Orders.Permutations.{Permutation}
 use Rattle.laws.specs.Crossings.Alternation.{rising}
-use Rattle.laws.specs.Crossings.Bound.{most_crossings, crossing_sum_bound}
 use Rattle.laws.specs.Crossings.Counting.{crossing_sum, placed}
 use Rattle.laws.specs.Crossings.Masks.{vertex_at, vertex_within}
 use Rattle.laws.specs.Crossings.Edges.{crossings_sum}
@@ -20,15 +17,6 @@ weight_at order W i j = W (vertex_at order i) (vertex_at order j)
 -- over places i < j < k < l, the weight from i to k times the weight from j to l
 unfoldable pub counted : ℕ → List ℕ → (ℕ → ℕ → ℕ) → ℕ
 counted n order W = cond (leb n 64) (crossing_sum n (weight_at order W)) 0
-
--- weights of at most 255 give at most 41,315,324,400
-pub counted_most : (n : ℕ) (order : List ℕ) (W : ℕ → ℕ → ℕ) → ((u v : ℕ) → W u v ≤ 255) → counted n order W ≤ 255 * 255 * most_crossings
-unfolding counted weight_at
-counted_most n order W h =
-    elim (dec_le n 64) [
-      | yes l ↦ rw (le-leb n 64 l) (crossing_sum_bound n 255 (weight_at order W) l (λ i j a b. h (vertex_at order i) (vertex_at order j)))
-      | no l ↦ rw (lt-leb n 64 (omega arith)) (omega arith)
-    ]
 
 crossing_sum_ext : (n : ℕ) (v w : ℕ → ℕ → ℕ) → ((i j : ℕ) → i < n → j < n → v i j ≡ w i j) → crossing_sum n v ≡ crossing_sum n w
 unfolding crossing_sum

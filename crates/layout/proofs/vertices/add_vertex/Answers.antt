@@ -5,7 +5,8 @@ use borrow.Author.Tests.{lt-ltb, le-ltb}
 use Rattle.model.specs.declared.Layout.{Layout}
 use Rattle.model.specs.Checks.{checked, by_refusal, refusal, is_valid, has_room}
 use Rattle.model.specs.Edits.{add_of, add_checks}
-use Rattle.laws.specs.Layouts.VertexEdits.{added_kept}
+use Rattle.laws.specs.Sums.Indicators.{test_held, test_failed}
+use Rattle.laws.proofs.Layouts.VertexEdits.{added_kept}
 use Rattle.std.proofs.Common.{◌∙◌}
 use Rattle.layout.proofs.vertices.add_vertex.Goals as goal
 

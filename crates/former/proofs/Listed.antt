@@ -15,8 +15,10 @@ use Rattle.history.specs.StepLaws.{start_right}
 use Rattle.laws.specs.Layouts.Units.{Agreeing, unit_agrees, unit_weighted_lem}
 use Rattle.former.specs.Units.{converging}
 use Rattle.former.specs.Forgetting.{forget, forget_outcome, forgotten_crossings}
-use Rattle.former.specs.AsBefore.{OfWeightOne, call_alike, keeps_one}
-use Rattle.former.specs.Starts.{plain_unit, read_formerly}
+use Rattle.former.specs.AsBefore.{OfWeightOne}
+use Rattle.former.proofs.AsBefore.{call_alike, keeps_one}
+use Rattle.former.specs.Starts.{plain_unit}
+use Rattle.former.proofs.Starts.{read_formerly}
 
 one_tells : (b : Bool) → eqb (one b) 1 ≡ b
 unfolding one

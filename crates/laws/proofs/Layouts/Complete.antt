@@ -6,7 +6,8 @@ use Rattle.model.specs.Lists.{place}
 use Rattle.model.specs.Layouts.{vertex_order, weight, crossings_of, valid}
 use Rattle.laws.specs.Orders.Permutations.{at, Permutation, at_lt, place_of_at}
 use Rattle.laws.specs.Crossings.Counting.{crossing_sum}
-use Rattle.laws.specs.Crossings.Bound.{most_crossings, most_weighted, crossing_sum_complete}
+use Rattle.laws.specs.Crossings.Bound.{most_crossings, most_weighted}
+use Rattle.laws.proofs.Crossings.Bound.{crossing_sum_complete}
 use Rattle.laws.specs.Layouts.Validity.{sound, place_weight, crossings_rising}
 
 -- "Most possible: 635,376, for 64 devices with all links."; where each weighs w, the products are w * w

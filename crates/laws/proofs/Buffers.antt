@@ -1,0 +1,2 @@
+-- The table of the crossings of every edge: its sum (EdgeTables).
+pub mod EdgeTables

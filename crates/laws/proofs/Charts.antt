@@ -1,0 +1,2 @@
+-- How long an accepted chart can be (Lengths).
+pub mod Lengths
