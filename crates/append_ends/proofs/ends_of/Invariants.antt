@@ -4,7 +4,7 @@ use native.Mathlib.Omega.{arith}
 use mathlib.Core.Path.{◌≡◌, ap, ◌∙◌}
 use lib.ListN.{length, get_or}
 use Rattle.laws.specs.Tables.Rows.{table_weight}
-use Rattle.append_ends.specs.Ends.{as_vertices, vertices_length, vertex_at_lem}
+use Rattle.append_ends.specs.Placed.{as_vertices, as_length, as_vertex}
 use Rattle.append_ends.specs.Passes.{MetUpTo, met_start, so_far_small, met_next, met_end}
 use Rattle.append_ends.proofs.ends_of.Given as goal
 
