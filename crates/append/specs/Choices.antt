@@ -14,11 +14,10 @@ use Rattle.model.specs.GreedyAppend.{unplaced, waiting, isolated, has_edges, deg
 use Rattle.laws.specs.Sums.Lists.{keep_append}
 use Rattle.laws.specs.Sums.Bits.{masked_ones_le}
 use Rattle.laws.specs.Append.Order.{Placed, unplaced_next, next_waiting}
-use Rattle.laws.specs.Append.Held.{Held, placed_test}
 use Rattle.append_choice.specs.declared.Choice.{Choice}
 use Rattle.append_choice.specs.Choices.{comes_before, preferred_of, candidate, considered_of, no_choice, best_below}
 use Rattle.append_choice.specs.Choices.{complement}
-use Rattle.append.specs.Masks.{Words, inside_count, outside_count}
+use Rattle.append.specs.Masks.{Held, Words, placed_test, inside_count, outside_count}
 
 module _ (n : ℕ) (adj xs : List ℕ) where
   -- a vertex with the counts of the definition

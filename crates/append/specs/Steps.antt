@@ -16,7 +16,6 @@ use Rattle.laws.specs.Tables.Rows.{table_weight, RowsOf, TakenRow}
 use Rattle.laws.specs.Tables.Ends.{StillOpen, OpenOf, open_start, open_taken, open_front, open_back}
 use Rattle.laws.specs.Append.Order.{Placed, placed_start, placed_front, placed_back, placed_count}
 use Rattle.laws.specs.Append.Order.{Waiting, next_waiting}
-use Rattle.laws.specs.Append.Held.{Held, held_none, held_front, held_back}
 use Rattle.laws.specs.Append.Calls.{step_waiting}
 use Rattle.append_line.specs.declared.Line.{Line}
 use Rattle.append_line.specs.Lines.{entries, Centred, entries_length, alone_at, alone_centred, alone_entries, at_front, front_centred, front_entries, at_back}
@@ -25,7 +24,7 @@ use Rattle.append_ends.specs.declared.Ends.{Ends}
 use Rattle.append_ends.specs.Ends.{vertices, ends_of, most_at_end, ends_right}
 use Rattle.append_choice.specs.Choices.{best_below}
 use Rattle.append.specs.declared.steps.Partial.{Partial}
-use Rattle.append.specs.Masks.{Partly, Words}
+use Rattle.append.specs.Masks.{Held, held_none, held_front, held_back, Partly, Words}
 use Rattle.append.specs.Choices.{next_found, next_none}
 
 -- ---- what a step is

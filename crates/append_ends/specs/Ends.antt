@@ -1,8 +1,9 @@
 -- The crossings that a vertex makes at either end of a line's list, by its weights and by the weight of each vertex's open edges.
-use Rattle.std.specs.Prelude.{ℕ, ◌*◌, ◌%◌, ◌≤◌, ◌<◌, ◌≡◌, refl, List, ◌∷◌, map, length, get_or, take, drop}
-use Rattle.std.proofs.Common.{mod-eq_of_lt, lt_of_lt_of_le, arith, sym, ap, ap₂, ◌∙◌}
-use Rattle.std.proofs.lemmas.List.{length-map}
-use Rattle.std.proofs.Math.ListN.{get_or-map}
+use Rattle.std.specs.Prelude.{ℕ, ◌+◌, ◌*◌, ◌%◌, ◌≤◌, ◌<◌, ◌≡◌, refl, List, ◌∷◌, map, length, get_or, take, drop}
+use Rattle.std.proofs.Common.{mod-eq_of_lt, lt_of_lt_of_le, arith, ap₂, ◌∙◌, get_or-take}
+use Rattle.std.proofs.Math.Path.{sym, ap}
+use Rattle.std.proofs.Math.ListN.{length-map, length-drop, get_or-map}
+use Rattle.std.proofs.Math.Seq.{length-take-le, get_or-drop}
 use Rattle.model.specs.Lists.{sum_pairs}
 use Rattle.model.specs.GreedyAppend.{front_crossings, back_crossings}
 use Rattle.laws.specs.Sums.Lists.{All, none, also, all_mono}
@@ -12,32 +13,35 @@ use Rattle.append_line.specs.declared.Line.{Line}
 use Rattle.append_line.specs.Lines.{entries, Centred}
 use Rattle.append_ends.specs.declared.Ends.{Ends}
 
--- ---- bytes as vertices, and the list of any line
+-- ---- the list of any line
 
-unfoldable pub as_vertices : List ℕ → List ℕ
-as_vertices xs = map (λ p. p % 64) xs
+-- size places from first on, each as a vertex
+unfoldable pub vertices_from : List ℕ → ℕ → ℕ → List ℕ
+vertices_from places first size = map (λ p. p % 64) (take size (drop first places))
 
--- size places from first on
 abbrev pub vertices : Line → List ℕ
-vertices l = as_vertices (take (l.size % 65) (drop (l.first % 65) l.places))
+vertices l = vertices_from l.places (l.first % 65) (l.size % 65)
 
-pub vertices_length : (xs : List ℕ) → length (as_vertices xs) ≡ length xs
-unfolding as_vertices
-vertices_length xs = length-map xs (λ p. p % 64)
+module _ (places : List ℕ) (first size : ℕ) where
+  pub vertices_length : first + size ≤ length places → length (vertices_from places first size) ≡ size
+  unfolding vertices_from
+  vertices_length h =
+      length-map (take size (drop first places)) (λ p. p % 64)
+      ∙ length-take-le size (drop first places) (omega (arith, length-drop first places))
 
-pub vertex_at_lem : (xs : List ℕ) (i : ℕ) → get_or xs i 0 % 64 ≡ get_or (as_vertices xs) i 0
-unfolding as_vertices
-vertex_at_lem xs i = sym (get_or-map (λ p. p % 64) xs i 0)
+  pub vertex_at_lem : (i : ℕ) → i < size → get_or places (first + i) 0 % 64 ≡ get_or (vertices_from places first size) i 0
+  unfolding vertices_from
+  vertex_at_lem i h =
+      sym (get_or-map (λ p. p % 64) (take size (drop first places)) i 0
+      ∙ ap (λ (x : ℕ). x % 64) (get_or-take size (drop first places) i 0 h ∙ get_or-drop first places i 0))
 
--- what is below 64 stays
-pub all_vertices : {xs : List ℕ} → All (λ x. x < 64) xs → as_vertices xs ≡ xs
-unfolding as_vertices
+all_vertices : {xs : List ℕ} → All (λ x. x < 64) xs → map (λ p. p % 64) xs ≡ xs
 all_vertices none = refl
 all_vertices (also l ls) = ap₂ (λ (x : ℕ) (xs : List ℕ). x ∷ xs) (mod-eq_of_lt l) (all_vertices ls)
 
 -- for vertices around the middle it is the list that the line has grown to
 pub vertices_entries : {l : Line} → Centred l → All (λ x. x < 64) (entries l) → vertices l ≡ entries l
-unfolding entries
+unfolding vertices_from entries
 vertices_entries {l} c below =
     let first : l.first % 65 ≡ l.first = omega (arith, c.left) in
     let size : l.size % 65 ≡ l.size = omega (arith, c.few) in

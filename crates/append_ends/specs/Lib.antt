@@ -2,3 +2,4 @@
 pub mod Ends
 -- One pass over the list, and its loop.
 pub mod Passes
+pub mod Placed

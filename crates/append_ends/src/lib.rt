@@ -1,11 +1,12 @@
 // The weighted crossings that the next vertex of greedy append makes at either end of the list of
-// placed vertices (document 02, Note 8). Of a line it holds whatever the line is: its start and its size
-// are taken modulo 65 and a vertex modulo 64, which changes nothing for 64 vertices or fewer around the
-// middle (append_line).
+// placed vertices (document 02, Note 8). Holds for any line: its start and its size are taken modulo
+// 65 and a vertex modulo 64, which changes nothing for 64 vertices or fewer around the middle
+// (append_line).
 #![tactic(auto)]
 
 ghost use Rattle.std.specs.Prelude.{◌≡◌, ◌%◌, ◌≤◌, length};
-ghost use Rattle.append_ends.specs.Ends.{as_vertices, vertices, ends_of, most_at_end};
+ghost use Rattle.append_ends.specs.Ends.{vertices, ends_of, most_at_end};
+ghost use Rattle.append_ends.specs.Placed.{as_vertices};
 ghost use Rattle.append_ends.specs.Passes.{passed_of, Small};
 
 use append_line::Line;
@@ -27,18 +28,34 @@ struct Met {
     opening: u64,
 }
 
-// Those of a line's list. opens has for each vertex the weight of its open edges, those to vertices that
-// are neither placed nor v.
+// Goes once through the placed vertices. opens has for each vertex the weight of its open edges, those
+// to vertices that are neither placed nor v.
 pub fn end_crossings(line: Line, weights: &[u8; 4096], opens: &[u16; 64], v: usize) -> Ends
     ensures { (result ≡ ends_of weights.now opens.now (v % 64) (vertices line)) × ((result.front ≤ most_at_end) × (result.back ≤ most_at_end)) }
 {
     let places = line.places;
     let first = line.first % 65;
-    let end = first + line.size % 65;
-    ends_of(&places[first..end], weights, opens, v)
+    let size = line.size % 65;
+    let mut met = Met {
+        front: 0,
+        back: 0,
+        closing: 0,
+        opening: 0,
+    };
+    let mut i = 0;
+    while i < size {
+        let p = (places[first + i] % 64) as usize;
+        let closing = weights::weight_at(weights, v, p);
+        met = passed(met, closing, opens[p]);
+        i += 1;
+    }
+    Ends {
+        front: met.front,
+        back: met.back,
+    }
 }
 
-// Goes once through placed vertices, a byte each.
+// The same for placed vertices, a byte each.
 pub fn ends_of(placed: &[u8], weights: &[u8; 4096], opens: &[u16; 64], v: usize) -> Ends
     requires { length placed.now ≤ 64 }
     ensures { (result ≡ ends_of weights.now opens.now (v % 64) (as_vertices placed.now)) × ((result.front ≤ most_at_end) × (result.back ≤ most_at_end)) }

@@ -11,8 +11,7 @@ use Rattle.model.specs.Lists.{upto, any}
 use Rattle.model.specs.Checks.{refusal, by_refusal, checked}
 use Rattle.model.specs.Charts.{Answer, accept, refuse, same_list, answer}
 use Rattle.model.specs.Graph6.{size_part, starts_with_size, graph6_size, graph6_size_checks, graph6_size_answer}
-use Rattle.laws.specs.Sums.Lists.{list_same}
-use Rattle.laws.specs.Graph6.Sizes.{size_short, size_long, starts_long, short_byte, long_byte, size_accepted, size_found_lem}
+use Rattle.laws.specs.Graph6.Sizes.{list_same, size_short, size_long, starts_long, short_byte, long_byte, size_accepted, size_found_lem}
 
 -- the bytes start with the size part of n, up to 64: one byte, or the byte 126 and three more
 pub data SizeAt (s : List ℕ) (n : ℕ) : Type 0 where

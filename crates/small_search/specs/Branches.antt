@@ -13,7 +13,8 @@ use Rattle.laws.specs.Orders.Permutations.{occurrences_nil}
 use Rattle.laws.specs.Tables.Rows.{table_weight, RowsOf, TakenRow}
 use Rattle.laws.specs.Tables.Ends.{StillOpen, OpenOf, open_start, open_taken, open_front, open_back, back_open}
 use Rattle.laws.specs.Small.Search.{Best}
-use Rattle.append_ends.specs.Ends.{as_vertices, all_vertices, ends_of}
+use Rattle.append_ends.specs.Ends.{ends_of}
+use Rattle.append_ends.specs.Placed.{as_vertices, as_itself}
 use Rattle.small_prefix.specs.declared.Prefix.{Prefix}
 use Rattle.small_prefix.specs.Prefixes.{entries, alone, next_of, Ready, ready_alone, out_free, entries_next, ready_next}
 use Rattle.small_search.specs.declared.Branch.{Branch}
@@ -115,7 +116,7 @@ module _ {n : ℕ} {ws : List ℕ} (g : Graph n ws) where
       unfolding ends_of
       met_are =
           let below = u.ready.begun.placed.below in
-          let inside = all_vertices (all_mono below (λ x l. lt_of_lt_of_le l (omega (arith, g.small)))) in
+          let inside = as_itself (all_mono below (λ x l. lt_of_lt_of_le l (omega (arith, g.small)))) in
           e.met_is
           ∙ ap₂ (λ (k : ℕ) (xs : List ℕ). b.met + (ends_of ws r.opens k xs).back) vertex inside
           ∙ ap (λ (k : ℕ). b.met + k) (back_open below left_open)

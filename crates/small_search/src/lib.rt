@@ -7,7 +7,8 @@ ghost use Rattle.std.specs.Prelude.{◌≡◌, ◌%◌, ◌≤◌};
 ghost use Rattle.laws.specs.Sums.Numbers.{Bounded};
 ghost use Rattle.laws.specs.Tables.Rows.{table_weight};
 ghost use Rattle.laws.specs.Small.Search.{search_rest};
-ghost use Rattle.append_ends.specs.Ends.{as_vertices, ends_of, most_at_end};
+ghost use Rattle.append_ends.specs.Ends.{ends_of, most_at_end};
+ghost use Rattle.append_ends.specs.Placed.{as_vertices};
 ghost use Rattle.small_prefix.specs.Prefixes.{entries};
 ghost use Rattle.small_search.specs.Branches.{Graph, Room, Begins, Extends, Underway, found_in, most, least_found};
 

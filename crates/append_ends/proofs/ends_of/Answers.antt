@@ -1,16 +1,17 @@
-use Prim.Native.Nat.{ℕ, ◌%◌, ◌≤◌}
+use borrow.Author.Rules.{rules}
+use Prim.Native.Nat.{ℕ, ◌+◌, ◌-◌, ◌%◌, ◌≤◌}
 use native.Mathlib.Omega.{arith}
 use mathlib.Core.Path.{◌≡◌, ap, ◌∙◌}
 use lib.ListN.{length, get_or}
 use Rattle.laws.specs.Tables.Rows.{table_weight}
-use Rattle.append_ends.specs.Ends.{as_vertices, vertices_length, vertex_at_lem}
-use Rattle.append_ends.specs.Passes.{met_start, so_far_small, met_next, met_end}
+use Rattle.append_ends.specs.Placed.{as_vertices, as_length, as_vertex}
+use Rattle.append_ends.specs.Passes.{MetUpTo, met_start, so_far_small, met_next, met_end}
 use Rattle.append_ends.proofs.ends_of.Goals as goal
 use Rattle.append_ends.proofs.ends_of.Goals.{Start}
 
 -- the list has as many entries as the loop has turns
 many : (s : Start) → length (as_vertices s.args.placed.now) ≡ length s.args.placed.now
-many s = vertices_length s.args.placed.now
+many s = as_length s.args.placed.now
 
 short : (s : Start) → length (as_vertices s.args.placed.now) ≤ 64
 short s = omega (arith, many s, s.requires)
@@ -32,7 +33,7 @@ loop-i-preserved c =
     let x = get_or s.placed.now c.loop-i.i 0 in
     let again : x % 64 % 64 ≡ x % 64 = omega arith in
     let weight : c.weight_at-closing.result ≡ W (x % 64 % 64) = c.weight_at-closing.ensures.is in
-    let entry = vertex_at_lem s.placed.now c.loop-i.i in
+    let entry = as_vertex s.placed.now c.loop-i.i in
     met_next c.loop-i.invariant (short (goal.at.loop-i-preserved c).Start) (omega (arith, many (goal.at.loop-i-preserved c).Start, c.loop-i-test.true))
     (weight ∙ ap W (again ∙ entry)) c.weight_at-closing.ensures.small
     (ap (λ (p : ℕ). get_or s.opens.now p 0) entry) c.passed-met.ensures.1

@@ -1,7 +1,11 @@
-use Prim.Native.Nat.{◌-◌, ◌%◌}
-use lib.ListN.{length}
-use Rattle.append_ends.specs.Ends.{as_vertices}
-use Rattle.append_ends.specs.Passes.{MetUpTo}
+use borrow.Author.Rules.{rules}
+use Prim.Native.Nat.{ℕ, ◌+◌, ◌-◌, ◌%◌, ◌≤◌}
+use native.Mathlib.Omega.{arith}
+use mathlib.Core.Path.{◌≡◌, ap, ◌∙◌}
+use lib.ListN.{length, get_or}
+use Rattle.laws.specs.Tables.Rows.{table_weight}
+use Rattle.append_ends.specs.Placed.{as_vertices, as_length, as_vertex}
+use Rattle.append_ends.specs.Passes.{MetUpTo, met_start, so_far_small, met_next, met_end}
 use Rattle.append_ends.proofs.ends_of.Given as goal
 
 abbrev pub invariant-loop-i : goal.invariant-loop-i

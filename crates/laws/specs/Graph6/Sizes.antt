@@ -1,9 +1,9 @@
 -- The size part: bytes start with that of at most one number of vertices.
-use Rattle.std.specs.Prelude.{ℕ, ◌+◌, ◌/◌, ◌%◌, ◌≤◌, ◌<◌, ◌≡◌, true, get_or, take}
+use Rattle.std.specs.Prelude.{ℕ, ◌+◌, ◌/◌, ◌%◌, ◌≤◌, ◌<◌, ◌≡◌, refl, Bool, true, ◌&&◌, get_or, take, eqb}
 use Rattle.std.proofs.Math.Decide.{dec_lt}
-use Rattle.std.proofs.Common.{arith, ◌∙◌, subst, length-append, take-append-drop, le-leb}
+use Rattle.std.proofs.Common.{arith, ap₂, ◌∙◌, subst, length-append, take-append-drop, eqb-true, eq-eqb, le-leb}
 use Rattle.std.proofs.Math.Path.{sym, ap}
-use Rattle.std.proofs.lemmas.Bool.{lt-leb}
+use Rattle.std.proofs.lemmas.Bool.{false≢true, lt-leb}
 use mathlib.Core.List.{List, [], ◌∷◌, ◌++◌}
 use Rattle.std.proofs.Math.ListN.{length, drop}
 use Rattle.std.proofs.Math.Seq.{take-append_seam}
@@ -11,9 +11,24 @@ use Rattle.std.proofs.Math.Dec.{T}
 use Rattle.model.specs.Lists.{upto, any}
 use Rattle.model.specs.Charts.{same_list}
 use Rattle.model.specs.Graph6.{size_part, starts_with_size, graph6_size}
-use Rattle.laws.specs.Sums.Indicators.{T_true}
-use Rattle.laws.specs.Sums.Lists.{same_list_lem, list_same, all_upto}
+use Rattle.laws.specs.Sums.Indicators.{T_true, both_left, both_right}
+use Rattle.laws.specs.Sums.Lists.{all_upto}
 use Rattle.laws.specs.Sums.Any.{any_upto, first_found}
+
+-- ---- the same list
+
+same_list_lem : (xs ys : List ℕ) → same_list xs ys ≡ true → xs ≡ ys
+unfolding same_list
+same_list_lem [] [] e = refl
+same_list_lem [] (y ∷ ys) e = absurd (false≢true e)
+same_list_lem (x ∷ xs) [] e = absurd (false≢true e)
+same_list_lem (x ∷ xs) (y ∷ ys) e =
+    ap₂ (λ (z : ℕ) (zs : List ℕ). z ∷ zs) (eqb-true x y (both_left (eqb x y) (same_list xs ys) e)) (same_list_lem xs ys (both_right (eqb x y) (same_list xs ys) e))
+
+pub list_same : (xs : List ℕ) → same_list xs xs ≡ true
+unfolding same_list
+list_same [] = refl
+list_same (x ∷ xs) = ap₂ (λ (a b : Bool). a && b) (eq-eqb x x refl) (list_same xs)
 
 -- ---- bytes that start with a size part
 
