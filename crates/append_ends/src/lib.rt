@@ -4,12 +4,14 @@
 // (append_line).
 #![tactic(auto)]
 
-ghost use Rattle.std.specs.Prelude.{◌≡◌, ◌%◌, ◌≤◌, length};
+ghost use Rattle.std.specs.Prelude.{◌≡◌, ◌%◌, ◌≤◌};
 ghost use Rattle.append_ends.specs.Ends.{vertices, ends_of, most_at_end};
-ghost use Rattle.append_ends.specs.Placed.{as_vertices};
 ghost use Rattle.append_ends.specs.Passes.{passed_of, Small};
 
+mod placed;
+
 use append_line::Line;
+pub use placed::ends_of;
 
 // A closing edge crosses an open one: at the front where the open one starts before the other, and at
 // the back where it starts behind.
@@ -45,30 +47,6 @@ pub fn end_crossings(line: Line, weights: &[u8; 4096], opens: &[u16; 64], v: usi
     let mut i = 0;
     while i < size {
         let p = (places[first + i] % 64) as usize;
-        let closing = weights::weight_at(weights, v, p);
-        met = passed(met, closing, opens[p]);
-        i += 1;
-    }
-    Ends {
-        front: met.front,
-        back: met.back,
-    }
-}
-
-// The same for placed vertices, a byte each.
-pub fn ends_of(placed: &[u8], weights: &[u8; 4096], opens: &[u16; 64], v: usize) -> Ends
-    requires { length placed.now ≤ 64 }
-    ensures { (result ≡ ends_of weights.now opens.now (v % 64) (as_vertices placed.now)) × ((result.front ≤ most_at_end) × (result.back ≤ most_at_end)) }
-{
-    let mut met = Met {
-        front: 0,
-        back: 0,
-        closing: 0,
-        opening: 0,
-    };
-    let mut i = 0;
-    while i < placed.len() {
-        let p = (placed[i] % 64) as usize;
         let closing = weights::weight_at(weights, v, p);
         met = passed(met, closing, opens[p]);
         i += 1;

@@ -6,8 +6,8 @@ use lib.ListN.{length, get_or}
 use Rattle.laws.specs.Tables.Rows.{table_weight}
 use Rattle.append_ends.specs.Placed.{as_vertices, as_length, as_vertex}
 use Rattle.append_ends.specs.Passes.{MetUpTo, met_start, so_far_small, met_next, met_end}
-use Rattle.append_ends.proofs.ends_of.Goals as goal
-use Rattle.append_ends.proofs.ends_of.Goals.{Start}
+use Rattle.append_ends.proofs.placed.ends_of.Goals as goal
+use Rattle.append_ends.proofs.placed.ends_of.Goals.{Start}
 
 -- the list has as many entries as the loop has turns
 many : (s : Start) → length (as_vertices s.args.placed.now) ≡ length s.args.placed.now
