@@ -4,6 +4,6 @@
 #![tactic(auto)]
 
 mod calls;
-mod graphs;
+mod graph6_calls;
 mod lists;
 mod reading;
