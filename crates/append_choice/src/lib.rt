@@ -37,6 +37,7 @@ pub fn next_vertex(n: usize, adjacency: &[u64; 64], placed: u64) -> usize
 }
 
 // The better of the best so far and v, if v has edges and is not placed.
+#[tactic(auto, unfolding(crate::specs::Choices::considered_of, crate::specs::Choices::candidate, crate::specs::Choices::complement))]
 fn considered(best: Choice, v: usize, word: u64, placed: u64) -> Choice
     ensures { result ≡ considered_of best v word placed }
 {
@@ -55,6 +56,7 @@ fn considered(best: Choice, v: usize, word: u64, placed: u64) -> Choice
 }
 
 // The other only where it comes before the best so far.
+#[tactic(auto, unfolding(crate::specs::Choices::preferred_of, crate::specs::Choices::comes_before))]
 fn preferred(best: Choice, other: Choice) -> Choice
     ensures { result ≡ preferred_of best other }
 {

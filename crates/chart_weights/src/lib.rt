@@ -12,6 +12,7 @@ ghost use Rattle.chart_weights.specs.Listed.{weights_in};
 use model::Asked;
 
 // Questions 24 and 25: one byte for each link, and none of them 0.
+#[tactic(auto, using(crate::specs::Listed::ask_none, crate::specs::Listed::ask_many, crate::specs::Listed::ask_all, crate::specs::Listed::ask_zero))]
 pub fn ask_weights(listed: bool, links: &[u8], body: &[u8]) -> Asked
     ensures { let ls = links.now in asked result ≡ answer (weight_checks ls (weights_in listed ls body.now)) [] }
 {

@@ -15,6 +15,7 @@ pub fn order_valid(n: usize, order: &[u8; 64]) -> bool
 }
 
 // Are n vertices few enough, and do the first n bytes hold each of them once?
+#[tactic(auto, using(crate::specs::Seen::too_short))]
 pub fn is_order(n: usize, bytes: &[u8]) -> bool
     ensures { result ≡ (leb n 64 && each_once n (take n bytes.now)) }
 {
