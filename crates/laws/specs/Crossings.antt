@@ -4,7 +4,7 @@
 -- makes no difference), exchanged, exchanged_inside, exchanged_round and lost_few (two neighbours exchanged), lost_ranked and gained_ranked (what
 -- that changes, by sums over the vertices), Reaches with walked_reached and row_reached (the same along a walk, by one sum over a row),
 -- agreeing_crossings (two weights that agree on all vertices), printed_false (Lemma 1 of document 004 as printed), crossing_sum_bound with most_crossings
--- and most_weighted, edges-few and most_edges, vertex_at and vertex_within (the vertex at a place), Holds, masked_sum and weight_bit (sets of vertices as
+-- and most_weighted, edges_few and most_edges, vertex_at and vertex_within (the vertex at a place), Holds, masked_sum and weight_bit (sets of vertices as
 -- words), chord_crossings with chord_crossings_lem and edge_chord (what a chord and an edge cross) and chord_next, chord_closed and chord_opened (from one
 -- place to the next).
 pub mod Alternation
