@@ -56,6 +56,7 @@ pub fn ask_bits(n: usize, bytes: &[u8]) -> Asked
     }
 }
 
+#[tactic(auto, unfolding(model::specs::Charts::asked, model::specs::Charts::answer, model::specs::Checks::checked, model::specs::Checks::by_refusal, model::specs::Checks::refusal))]
 fn answer_of(six: bool, padded: bool) -> Asked
     ensures { asked result ≡ answer (asks six padded) [] }
 {
