@@ -1,6 +1,6 @@
 -- One pass over the placed vertices, with the closing and the open weight met so far, counts the crossings at both ends.
 use Rattle.std.specs.Prelude.{ℕ, ◌+◌, ◌*◌, ◌≤◌, ◌<◌, ◌≡◌, List, [], ◌∷◌, ◌++◌, length, take}
-use Rattle.std.proofs.Common.{mul-le-mul, add-one, arith, sym, ap₂, ◌∙◌, take-suc, take_all}
+use Rattle.std.proofs.Common.{mul-le-mul, arith, sym, ◌∙◌, take_all}
 use Rattle.std.proofs.Math.Path.{refl, ap}
 use Rattle.std.proofs.Math.ListN.{get_or}
 use Rattle.model.specs.Lists.{sum_over, sum_pairs}
@@ -36,7 +36,7 @@ module _ (ws opens : List ℕ) (v : ℕ) where
   unfolding met_of ends_of sum_pairs sum_over
   met_none = refl
 
-  met_last : (xs : List ℕ) (x : ℕ) → met_of (xs ++ (x ∷ [])) ≡ passed_of (met_of xs) (table_weight ws v x) (get_or opens x 0)
+  pub met_last : (xs : List ℕ) (x : ℕ) → met_of (xs ++ (x ∷ [])) ≡ passed_of (met_of xs) (table_weight ws v x) (get_or opens x 0)
   unfolding met_of ends_of passed_of
   met_last xs x =
       rw (
@@ -73,7 +73,7 @@ front_adds s light = mul-le-mul {n₂ = 255} {m₂ = 4194240} light s.opening
 pub back_adds : {met : Met} {o : ℕ} → Small met 64 → o ≤ 65535 → met.closing * o ≤ 1069531200
 back_adds s fits = mul-le-mul {n₂ = 16320} {m₂ = 65535} s.closing fits
 
-small_next : {met : Met} {c o k : ℕ} → Small met k → k < 64 → c ≤ 255 → o ≤ 65535 → Small (passed_of met c o) (k + 1)
+pub small_next : {met : Met} {c o k : ℕ} → Small met k → k < 64 → c ≤ 255 → o ≤ 65535 → Small (passed_of met c o) (k + 1)
 unfolding passed_of
 small_next {met} {c} {o} {k} s h light fits =
     let most = small_most s (omega arith) in
@@ -103,19 +103,6 @@ module _ {ws opens : List ℕ} {v : ℕ} {xs : List ℕ} where
   module _ {met : Met} {i : ℕ} (m : MetUpTo ws opens v xs met i) (short : length xs ≤ 64) where
     pub so_far_small : Small met 64
     so_far_small = small_most m.few (omega (arith, m.inside))
-
-    pub met_next : i < length xs → {next : Met} {c o : ℕ} → c ≡ table_weight ws v (get_or xs i 0) → c ≤ 255 → o ≡ get_or opens (get_or xs i 0) 0 → o ≤ 65535
-        → next ≡ passed_of met c o → MetUpTo ws opens v xs next (i + 1)
-    met_next h {next} {c} {o} hc light ho fits n =
-        record {
-          inside = omega arith;
-          counted =
-              n ∙ ap (λ (m : Met). passed_of m c o) m.counted
-              ∙ ap₂ (passed_of (met_of ws opens v (take i xs))) hc ho
-              ∙ sym (ap (λ (k : ℕ). met_of ws opens v (take k xs)) (add-one i)
-              ∙ ap (met_of ws opens v) (take-suc xs i 0 h) ∙ met_last ws opens v (take i xs) (get_or xs i 0));
-          few = rw n (small_next m.few (omega arith) light fits);
-        }
 
     pub met_end : length xs ≤ i
         → (record { front = met.front; back = met.back } ≡ ends_of ws opens v xs) × ((met.front ≤ most_at_end) × (met.back ≤ most_at_end))

@@ -5,7 +5,8 @@ use mathlib.Core.Path.{◌≡◌, ap, ◌∙◌}
 use lib.ListN.{length, get_or}
 use Rattle.laws.specs.Tables.Rows.{table_weight}
 use Rattle.append_ends.specs.Ends.{vertices_from, vertices, vertices_length, vertex_at_lem}
-use Rattle.append_ends.specs.Passes.{MetUpTo, met_start, so_far_small, met_next, met_end}
+use Rattle.append_ends.specs.Passes.{MetUpTo, met_start, so_far_small, met_end}
+use Rattle.append_ends.proofs.Passes.{met_next}
 use Rattle.append_ends.proofs.end_crossings.Goals as goal
 use Rattle.append_ends.proofs.end_crossings.Goals.{In-loop-i, Start}
 

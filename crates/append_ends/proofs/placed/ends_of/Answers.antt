@@ -5,7 +5,8 @@ use mathlib.Core.Path.{◌≡◌, ap, ◌∙◌}
 use lib.ListN.{length, get_or}
 use Rattle.laws.specs.Tables.Rows.{table_weight}
 use Rattle.append_ends.specs.Placed.{as_vertices, as_length, as_vertex}
-use Rattle.append_ends.specs.Passes.{MetUpTo, met_start, so_far_small, met_next, met_end}
+use Rattle.append_ends.specs.Passes.{MetUpTo, met_start, so_far_small, met_end}
+use Rattle.append_ends.proofs.Passes.{met_next}
 use Rattle.append_ends.proofs.placed.ends_of.Goals as goal
 use Rattle.append_ends.proofs.placed.ends_of.Goals.{Start}
 
