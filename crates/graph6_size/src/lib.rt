@@ -27,6 +27,7 @@ pub fn find_size(bytes: &[u8]) -> SizeFound
 }
 
 // The form of one byte: up to 62 vertices. The byte 126 starts the other form.
+#[tactic(auto, using(crate::specs::Sizes::short_low, crate::specs::Sizes::short_high, crate::specs::Sizes::short_found), unfolding(model::specs::Charts::size_found))]
 fn short_size(byte: u8) -> SizeFound
     ensures { size_found result ≡ short_answer byte }
 {
@@ -64,6 +65,7 @@ fn long_size(high: u8, middle: u8, low: u8) -> SizeFound
 }
 
 // How many bytes the size part of n vertices has.
+#[tactic(auto, unfolding(model::specs::Graph6::size_part))]
 pub fn size_length(n: usize) -> usize
     ensures { result ≡ length (size_part n) }
 {
