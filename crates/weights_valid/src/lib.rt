@@ -10,6 +10,7 @@ ghost use Rattle.weights_valid.specs.Bytes.{on_edges, group_fits, bits_fit, byte
 
 // Are the words those of a graph, and do the weights fit them? Weights that fit have symmetric words, so
 // these are not asked for.
+#[tactic(auto, using(crate::specs::Fitting::bounded_few, crate::specs::Fitting::weighted_graph))]
 pub fn is_weighted_graph(n: usize, adjacency: &[u64; 64], weights: &[u8; 4096]) -> bool
     ensures { let a = adjacency.now in
         result ≡ (leb n 64 && symmetric n a && loopless n a && bits_below n a && zero_from n a && weights_fit n a weights.now) }
@@ -101,6 +102,7 @@ fn add_row(bits: &mut [u8], weights: &[u8; 4096], u: usize)
     }
 }
 
+#[tactic(auto, unfolding(model::specs::Lists::one))]
 fn not_zero(weight: u8) -> u8
     ensures { result ≡ one (ltb 0 weight) }
 {
