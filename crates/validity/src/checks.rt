@@ -8,6 +8,7 @@ use super::validity::is_valid;
 use model::Layout;
 
 // Is the layout valid, are both vertices its own, and do they differ? 0 if so.
+#[tactic(auto, unfolding(model::specs::Checks::refusal, model::specs::Checks::is_valid, model::specs::Checks::is_vertex, model::specs::Checks::differ, model::specs::Edits::move_checks))]
 pub fn pair_refusal(l: Layout, a: usize, b: usize) -> u8
     ensures { result ≡ refusal (move_checks l a b) }
 {
@@ -28,6 +29,7 @@ pub fn pair_refusal(l: Layout, a: usize, b: usize) -> u8
 }
 
 // Is the layout valid, and is the vertex its own? 0 if so.
+#[tactic(auto, unfolding(model::specs::Checks::refusal, model::specs::Checks::is_valid, model::specs::Checks::is_vertex))]
 pub fn vertex_refusal(l: Layout, v: usize) -> u8
     ensures { result ≡ refusal (is_valid l ∷ is_vertex l v ∷ []) }
 {
@@ -42,6 +44,7 @@ pub fn vertex_refusal(l: Layout, v: usize) -> u8
 }
 
 // Is the layout valid, and the limit from 1 to 1000? 0 if so.
+#[tactic(auto, unfolding(model::specs::Checks::refusal, model::specs::Checks::is_valid, model::specs::Checks::limit_fits, model::specs::Sifting::settle_checks))]
 pub fn limit_refusal(l: Layout, limit: u32) -> u8
     ensures { result ≡ refusal (settle_checks l limit) }
 {

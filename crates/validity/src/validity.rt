@@ -4,6 +4,7 @@ ghost use Rattle.model.specs.Layouts.{valid};
 
 use model::Layout;
 
+#[tactic(auto, unfolding(model::specs::Layouts::valid, model::specs::Layouts::vertex_order))]
 pub fn is_valid(l: Layout) -> bool
     ensures { result ≡ valid l }
 {
