@@ -16,7 +16,6 @@ use Rattle.laws.specs.Tables.Rows.{table_weight, RowsOf, TakenRow}
 use Rattle.laws.specs.Tables.Ends.{StillOpen, OpenOf, open_start, open_taken, open_front, open_back}
 use Rattle.laws.specs.Append.Order.{Placed, placed_start, placed_front, placed_back, placed_count}
 use Rattle.laws.specs.Append.Order.{Waiting, next_waiting}
-use Rattle.laws.specs.Append.Calls.{step_waiting}
 use Rattle.append_line.specs.declared.Line.{Line}
 use Rattle.append_line.specs.Lines.{entries, Centred, entries_length, alone_at, alone_centred, alone_entries, at_front, front_centred, front_entries, at_back}
 use Rattle.append_line.specs.Lines.{back_centred, back_entries}
@@ -68,7 +67,7 @@ pub record Underway (n : ℕ) (ws : List ℕ) (s : Partial) (opens : List ℕ) :
   pub bounded : s.tally ≤ most_at_end * s.line.size
 
 -- r is s with v placed
-record Stepped (n : ℕ) (ws : List ℕ) (s : Partial) (v : ℕ) (opens : List ℕ) (r : Partial) : Type 0 where
+pub record Stepped (n : ℕ) (ws : List ℕ) (s : Partial) (v : ℕ) (opens : List ℕ) (r : Partial) : Type 0 where
   pub part : Partly n r.line r.placed
   pub open_edges : StillOpen n (table_weight ws) (entries r.line) opens
   pub size : r.line.size ≡ s.line.size + 1
@@ -90,7 +89,7 @@ module _ {n : ℕ} {adj ws : List ℕ} {s : Partial} {opens : List ℕ} (g : Gra
   at_front_lem : Placed n (v ∷ entries s.line)
   at_front_lem = placed_front u.part.order q.below q.free
 
-  step_room : s.line.size < n
+  pub step_room : s.line.size < n
   step_room = omega (arith, entries_length u.part.centred, placed_count at_front_lem)
 
   room : s.line.size < 64
@@ -174,7 +173,7 @@ module _ {n : ℕ} {adj ws : List ℕ} {s : Partial} {opens : List ℕ} (g : Gra
         longer : length (entries s.line ++ (v ∷ [])) ≡ suc (length (entries s.line))
         longer = length-append (entries s.line) (v ∷ []) ∙ omega arith
 
-    step_right : Stepped n ws s v left (placed_of ws left s v)
+    pub step_right : Stepped n ws s v left (placed_of ws left s v)
     unfolding placed_of put_of
     step_right =
         elim (order ends.front ends.back) [
@@ -242,48 +241,14 @@ module _ {n : ℕ} {adj ws : List ℕ} (g : Graph n adj ws) {first : ℕ} where
 
   module _ {s : Partial} {opens : List ℕ} {v : ℕ} (p : PlacedUpTo n adj ws first s opens v) where
     module _ (h : v < n) where
-      next_is : (0 < length (to_come n adj s)) × (v ≡ next_vertex n adj (entries s.line) (to_come n adj s))
+      pub next_is : (0 < length (to_come n adj s)) × (v ≡ next_vertex n adj (entries s.line) (to_come n adj s))
       next_is = next_found g.words p.underway.part.order p.underway.part.held p.next h
 
-      next_waits : Waiting n (has_edges adj) (entries s.line) v
+      pub next_waits : Waiting n (has_edges adj) (entries s.line) v
       next_waits = rw next_is.1 (next_waiting n (has_edges adj) (entries s.line) adj next_is.0)
 
       pub next_fits : Fitting s v
       next_fits = step_fits g p.underway next_waits
-
-      module _ {left : List ℕ} {r : Partial} (t : TakenRow ws (v % 64) opens left) (e : r ≡ placed_of ws left s v) where
-        stepped : Stepped n ws s v left r
-        stepped = subst (Stepped n ws s v left) (sym e) (step_right g p.underway next_waits t)
-
-        -- one more place is taken
-        pub place_less : (s.line.size < n) × (r.line.size ≡ s.line.size + 1)
-        place_less = (step_room g p.underway next_waits, stepped.size)
-
-        -- and one less is to come
-        to_come_less : suc (length (to_come n adj r)) ≡ length (to_come n adj s)
-        unfolding placing_of
-        to_come_less =
-            ap (λ (x : Placing). suc (length (waiting n (has_edges adj) x.placed))) stepped.step
-            ∙ step_waiting n (table_weight ws) (placing_of s) next_waits
-
-        pub place_next_lem : {v' : ℕ} → r.tally ≤ s.tally + most_at_end → v' ≡ (best_below n adj r.placed n).vertex → PlacedUpTo n adj ws first r left v'
-        unfolding place_more placing_of
-        place_next_lem {v'} few found =
-            record {
-              underway =
-                  record {
-                    part = stepped.part;
-                    open_edges = stepped.open_edges;
-                    size = t.size;
-                    bounded = omega (arith, p.underway.bounded, stepped.size);
-                  };
-              next = found;
-              rest =
-                  ap (place_more n adj (table_weight ws) (has_edges adj) (length (to_come n adj r)))
-                  (stepped.step ∙ ap (place_vertex n (table_weight ws) (placing_of s)) next_is.1)
-                  ∙ ap (λ (k : ℕ). place_more n adj (table_weight ws) (has_edges adj) k (placing_of s)) to_come_less
-                  ∙ p.rest;
-            }
 
     pub place_end : n ≤ v → LinkedPlaced n adj ws first s
     unfolding place_more

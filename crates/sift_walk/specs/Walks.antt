@@ -1,7 +1,7 @@
 -- The walk: the vertex is exchanged with its next neighbour in the order, again and again. After each exchange the running number is that of the present
 -- candidate, and what is kept is right for the candidates so far.
 use Prim.Native.Nat.{ℕ, zero, suc, ◌+◌, ◌*◌, ◌-◌, ◌%◌, ◌≤◌, ◌<◌}
-use Rattle.std.proofs.Common.{lt_of_lt_of_le, mod-eq_of_lt, add-one, ap₂, ◌∙◌, subst, below_more}
+use Rattle.std.proofs.Common.{lt_of_lt_of_le, mod-eq_of_lt, ap₂, ◌∙◌, subst}
 use native.Mathlib.Omega.{arith}
 use Rattle.std.specs.Prelude.{◌≡◌, refl, List, length, take, replicate}
 use Rattle.std.proofs.Math.Path.{sym, ap}
@@ -19,7 +19,7 @@ use Rattle.laws.specs.Sifting.Keeping.{best_start}
 use Rattle.laws.specs.Sifting.Walk.{other_at_lem, walked, present_walked, candidate_walked}
 use Rattle.sift_walk.specs.declared.Kept.{Kept}
 use Rattle.sift_walk.specs.declared.Step.{Step}
-use Rattle.sift_walk.specs.Keeping.{KeptOf, kept_next, nothing, next_few, next_first, kept_next_lem}
+use Rattle.sift_walk.specs.Keeping.{KeptOf, kept_next, nothing, next_few, next_first}
 use Rattle.sift_walk.specs.Seats.{other_at, Seated, others_of, small, perm, below, other_right, taken_next}
 use Rattle.sift_walk.specs.Reaching.{ReachesOf}
 
@@ -120,7 +120,7 @@ small_start =
       not_higher = omega arith;
     }
 
-small_next : {step r : Step} {ws rs bs cs : List ℕ} {whole row behind u v j : ℕ} → j < 64 → SmallStep step bs j → Passed step ws rs whole row behind u v j r
+pub small_next : {step r : Step} {ws rs bs cs : List ℕ} {whole row behind u v j : ℕ} → j < 64 → SmallStep step bs j → Passed step ws rs whole row behind u v j r
     → AddedRow ws v bs cs → SmallStep r cs (j + 1)
 small_next {step} {r} {ws} {rs} {bs} {cs} {whole} {row} {behind} {u} {v} {j} l s p added =
     record {
@@ -155,7 +155,7 @@ module _ {n : ℕ} {places ws : List ℕ} {u p : ℕ} (seat : Seated n places ws
         behind_are = λ y l. get_or-replicate {A = ℕ} 64 y 0 0 (lt_of_lt_of_le l (small seat));
       }
 
-  crossings_walked : (j : ℕ) → j < n → walked_crossings n places ws u j ≡ walked W u others j
+  pub crossings_walked : (j : ℕ) → j < n → walked_crossings n places ws u j ≡ walked W u others j
   unfolding walked_crossings
   crossings_walked zero l = present_walked (perm seat) W symmetry u (below seat)
   crossings_walked (suc i) l = candidate_walked (perm seat) W symmetry u (below seat) i l
@@ -176,11 +176,11 @@ module _ {n : ℕ} {places ws : List ℕ} {u p : ℕ} (seat : Seated n places ws
     in_table : v < 64
     in_table = lt_of_lt_of_le inside_v (small seat)
 
-    factor : ℕ
+    unfoldable pub factor : ℕ
     factor = whole + W u v + 2 * step.met
 
     -- what the law of the walk says, in the sums of the code
-    law : walked W u others (suc j) + (factor * W u v + (row_sum ws v rs + 2 * whole * get_or bs v 0)) ≡ walked W u others j + factor * get_or rows v 0
+    pub law : walked W u others (suc j) + (factor * W u v + (row_sum ws v rs + 2 * whole * get_or bs v 0)) ≡ walked W u others j + factor * get_or rows v 0
     unfolding factor
     law =
         let more : suc j < n = omega arith in
@@ -190,23 +190,11 @@ module _ {n : ℕ} {places ws : List ℕ} {u p : ℕ} (seat : Seated n places ws
         let row : get_or rows v 0 ≡ sum_over (W v) (upto n) = given.row_is v in_table ∙ row_of v inside_v in
         rw (sums, row, s.behind_are v inside_v, e, row_of u (below seat), s.met_are) (omega (arith, by_rows))
 
-    number_next : r.number + present_crossings n places ws ≡ start + walked_crossings n places ws u (suc j)
-    unfolding factor
-    number_next =
-        omega (
-          arith,
-          law,
-          told.number_is.exact,
-          s.present,
-          crossings_walked j s.inside,
-          crossings_walked (suc j) (omega arith),
-        )
-
     -- one more of the others passed, in any sum over them
-    passed_more : (f : ℕ → ℕ) → sum_over f (take (suc j) others) ≡ sum_over f (take j others) + f v
+    pub passed_more : (f : ℕ → ℕ) → sum_over f (take (suc j) others) ≡ sum_over f (take j others) + f v
     passed_more f = ap (sum_over f) (taken_next seat j l there) ∙ sum_over_last v f (take j others)
 
-    behind_next : (y : ℕ) → y < n → get_or cs y 0 ≡ sum_over (W y) (take (suc j) others)
+    pub behind_next : (y : ℕ) → y < n → get_or cs y 0 ≡ sum_over (W y) (take (suc j) others)
     behind_next y b =
         let in_row : y < 64 = lt_of_lt_of_le b (small seat) in
         let fits : get_or bs y 0 + W v y < 65536 = omega (arith, small_step.behind_few y in_row, added.light y in_row, s.inside, small seat) in
@@ -214,23 +202,6 @@ module _ {n : ℕ} {places ws : List ℕ} {u p : ℕ} (seat : Seated n places ws
         ∙ mod-eq_of_lt fits
         ∙ ap₂ (λ (a b : ℕ). a + b) (s.behind_are y b) (symmetry.swap v y inside_v b)
         ∙ sym (passed_more (W y))
-
-    walk_next : WalkedUpTo n places ws u r cs (j + 1)
-    unfolding walked_crossings
-    walk_next =
-        let more : suc j < n = omega arith in
-        let now : r.number ≡ running n places ws u j = omega (arith, number_next) in
-        rw (add-one j)
-        (record {
-          inside = more;
-          present = number_next;
-          kept_right = rw told.kept_is (kept_next_lem s.kept_right now high);
-          exact =
-              rw (add-one j)
-              at (below_more (λ i. present_crossings n places ws ≤ start + candidate_crossings n places ws u i) j s.exact (omega (arith, number_next)));
-          met_are = told.met_is ∙ ap (λ (y : ℕ). y + W u v) s.met_are ∙ sym (passed_more (W u));
-          behind_are = behind_next;
-        })
 
 -- ---- the loop
 
@@ -245,21 +216,6 @@ module _ {n p : ℕ} {places ws rows : List ℕ} {u : ℕ} where
   walking_start = record { inside = omega arith; small_step = small_start; right = λ seat given. walk_start seat }
 
   module _ {step : Step} {bs : List ℕ} {j : ℕ} (s : WalkUpTo n p places ws rows u step bs j) (h : n ≤ 64) where
-    pub walking_next : {whole v : ℕ} {rs cs : List ℕ} {r : Step} → u < 64 → v < 64 → whole ≡ row_weight ws (u % 64)
-        → (Seated n places ws u p → ReachesOf n places ws u rs) → j + 1 < n → v ≡ other_at n p places j
-        → Passed step ws rs whole (get_or rows v 0) (get_or bs v 0) u v j r → (length bs ≡ 64 → AddedRow ws (v % 64) bs cs)
-        → WalkUpTo n p places ws rows u r cs (j + 1)
-    walking_next {whole} {v} {rs} {cs} {r} u-few v-few weighed started l there told row =
-        let e : whole ≡ row_weight ws u = rw (mod-eq_of_lt u-few) at weighed in
-        let added : AddedRow ws v bs cs = rw (mod-eq_of_lt v-few) at (row s.small_step.size) in
-        let small_then = small_next (omega arith) s.small_step told added in
-        record {
-          inside = omega arith;
-          small_step = small_then;
-          right = λ seat given.
-              walk_next seat e (started seat) given (s.right seat given) s.small_step (omega (arith, small_then.not_higher)) l there told added;
-        }
-
     pub walking_end : n ≤ j + 1
         → (step.kept.first ≤ 64) × (Seated n places ws u p → RowsOf ws rows → KeptRight n places ws u step.kept)
     walking_end l = (

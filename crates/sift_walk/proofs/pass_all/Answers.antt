@@ -1,5 +1,6 @@
 use native.Mathlib.Omega.{arith}
-use Rattle.sift_walk.specs.Walks.{walking_start, walking_next, walking_end}
+use Rattle.sift_walk.specs.Walks.{walking_start, walking_end}
+use Rattle.sift_walk.proofs.Walks.{walking_next}
 use Rattle.sift_walk.proofs.pass_all.Goals as goal
 
 pub loop-j-init : goal.loop-j-init

@@ -3,7 +3,8 @@ use Prim.Native.Nat.{◌<◌}
 use native.Mathlib.Omega.{arith}
 use borrow.Author.Tests.{le-leb}
 use Rattle.laws.specs.Sums.Bits.{set_within}
-use Rattle.append.specs.Steps.{place_start, next_fits, place_less, place_next_lem, place_end}
+use Rattle.append.specs.Steps.{place_start, next_fits, place_end}
+use Rattle.append.proofs.Stepping.{place_less, place_next_lem}
 use Rattle.append.proofs.steps.place_linked.Goals as goal
 use Rattle.append.proofs.steps.place_linked.Goals.{In-loop-v}
 
