@@ -7,7 +7,7 @@ use Rattle.std.proofs.Math.Bool.{true}
 use mathlib.Core.List.{List, [], ◌∷◌, ◌++◌, map}
 use Rattle.std.proofs.Math.ListN.{length, get_or, take}
 use borrow.Author.Tests.{leb-true, eqb-true}
-use Rattle.model.specs.declared.LayoutRead.{LayoutRead}
+use Rattle.model.specs.Answers.{LayoutRead}
 use Rattle.model.specs.declared.Asked.{Asked}
 use Rattle.model.specs.declared.Asked.TheVariants as asks
 use Rattle.model.specs.declared.SizeFound.{SizeFound}

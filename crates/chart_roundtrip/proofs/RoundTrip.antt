@@ -3,7 +3,7 @@ use Rattle.std.specs.Prelude.{ℕ, ◌≡◌, take, T}
 use Rattle.std.proofs.Common.{sym, ap, ap₂, ◌∙◌}
 use mathlib.Core.List.{List}
 use Rattle.model.specs.declared.Layout.{Layout}
-use Rattle.model.specs.declared.LayoutRead.{LayoutRead}
+use Rattle.model.specs.Answers.{LayoutRead}
 use Rattle.model.specs.Layouts.{crossings_of, valid}
 use Rattle.model.specs.Charts.{read_of}
 use Rattle.model.specs.Writing.{write_of, written_bytes}

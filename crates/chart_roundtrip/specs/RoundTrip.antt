@@ -7,7 +7,7 @@ use Rattle.std.proofs.Math.ListN.{length, get_or-eq_default}
 use Rattle.std.proofs.lemmas.List.{length-map}
 use Rattle.model.specs.declared.Edge.{Edge}
 use Rattle.model.specs.declared.Layout.{Layout}
-use Rattle.model.specs.declared.LayoutRead.{LayoutRead}
+use Rattle.model.specs.Answers.{LayoutRead}
 use Rattle.model.specs.Lists.{every, any}
 use Rattle.model.specs.Crossings.{linked, edges, edge_weight, crossings}
 use Rattle.model.specs.Layouts.{vertex_order, table_weight, weight, crossings_of, is_weight, valid}

@@ -5,12 +5,12 @@ use Rattle.std.proofs.Math.Path.{ap}
 use mathlib.Core.List.{List, [], ◌∷◌, ◌++◌, flat_map}
 use Rattle.std.proofs.Math.ListN.{length, length-map}
 use Rattle.model.specs.declared.Layout.{Layout}
-use Rattle.model.specs.declared.Added.{Added}
-use Rattle.model.specs.declared.Changed.{Changed}
-use Rattle.model.specs.declared.Appended.{Appended}
-use Rattle.model.specs.declared.Sifted.{Sifted}
-use Rattle.model.specs.declared.Rounded.{Rounded}
-use Rattle.model.specs.declared.Converged.{Converged}
+use Rattle.model.specs.Answers.{Added}
+use Rattle.model.specs.Answers.{Changed}
+use Rattle.model.specs.Answers.{Appended}
+use Rattle.model.specs.Answers.{Sifted}
+use Rattle.model.specs.Answers.{Rounded}
+use Rattle.model.specs.Answers.{Converged}
 use Rattle.model.specs.declared.Call.{Call}
 use Rattle.model.specs.declared.Call.TheVariants as call
 use Rattle.model.specs.Lists.{one, sum_over, All, none, also}

@@ -2,7 +2,7 @@
 -- every layout and every start in proofs/AsFormerly.antt.
 use Rattle.std.specs.Prelude.{ℕ, ◌≡◌, not, ◌++◌}
 use Rattle.model.specs.declared.Layout.{Layout}
-use Rattle.model.specs.declared.Appended.{Appended}
+use Rattle.model.specs.Answers.{Appended}
 use Rattle.model.specs.Lists.{upto, keep}
 use Rattle.model.specs.Layouts.{vertex_order, crossings_of}
 use Rattle.model.specs.GreedyAppend.{stays}

@@ -8,7 +8,7 @@ use mathlib.Core.List.{List, [], ◌∷◌, map, flat_map}
 use Rattle.std.proofs.lemmas.List.{length-replicate}
 use Rattle.std.proofs.lemmas.Bool.{lt-leb}
 use Rattle.model.specs.declared.Layout.{Layout}
-use Rattle.model.specs.declared.LayoutRead.{LayoutRead}
+use Rattle.model.specs.Answers.{LayoutRead}
 use Rattle.model.specs.declared.Edge.{Edge}
 use Rattle.model.specs.Lists.{upto, every, any}
 use Rattle.model.specs.Crossings.{edges, edge_weight}

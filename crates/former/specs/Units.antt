@@ -3,8 +3,8 @@ use Rattle.std.specs.Prelude.{ℕ, ◌≤◌, ◌<◌, ◌≡◌, List, length}
 use Rattle.std.proofs.Math.Decide.{ℕ_discrete}
 use Rattle.std.proofs.Common.{arith, sym, subst}
 use Rattle.model.specs.declared.Layout.{Layout}
-use Rattle.model.specs.declared.Added.{Added}
-use Rattle.model.specs.declared.Appended.{Appended}
+use Rattle.model.specs.Answers.{Added}
+use Rattle.model.specs.Answers.{Appended}
 use Rattle.model.specs.declared.Call.{Call}
 use Rattle.model.specs.declared.Call.TheVariants as call
 use Rattle.model.specs.Layouts.{table_places, changed, reordered}

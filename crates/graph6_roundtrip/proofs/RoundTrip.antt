@@ -6,7 +6,7 @@ use Rattle.std.proofs.Math.Path.{sym, ap}
 use mathlib.Core.List.{List, ◌++◌}
 use Rattle.std.proofs.Math.ListN.{length, drop}
 use Rattle.model.specs.declared.Layout.{Layout}
-use Rattle.model.specs.declared.LayoutRead.{LayoutRead}
+use Rattle.model.specs.Answers.{LayoutRead}
 use Rattle.model.specs.Checks.{refusal}
 use Rattle.model.specs.Writing.{write_of, written_bytes}
 use Rattle.model.specs.Graph6.{graph6_of, graph6_size, graph6_data}

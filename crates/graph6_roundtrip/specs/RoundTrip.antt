@@ -8,7 +8,7 @@ use Rattle.std.proofs.Math.ListN.{length, drop, get_or-eq_default}
 use Rattle.std.proofs.Math.Seq.{drop-append_seam}
 use Rattle.model.specs.declared.Edge.{Edge}
 use Rattle.model.specs.declared.Layout.{Layout}
-use Rattle.model.specs.declared.LayoutRead.{LayoutRead}
+use Rattle.model.specs.Answers.{LayoutRead}
 use Rattle.model.specs.Lists.{upto, every, keep}
 use Rattle.model.specs.Crossings.{linked, edges, crossings}
 use Rattle.model.specs.Layouts.{table_weight, weight, valid}

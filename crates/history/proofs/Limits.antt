@@ -4,7 +4,7 @@ use Rattle.std.proofs.Common.{arith, sym, ◌∙◌, true≢false}
 use Rattle.std.proofs.Math.Bool.{xor}
 use mathlib.Core.List.{flat_map}
 use Rattle.model.specs.declared.Layout.{Layout}
-use Rattle.model.specs.declared.Converged.{Converged}
+use Rattle.model.specs.Answers.{Converged}
 use Rattle.model.specs.Lists.{one, upto, every, any, keep, first_with, sum_pairs, sum_over, no_repeats, occurrences, place}
 use Rattle.model.specs.Crossings.{bit, linked, between, alternate, crosses, adjacent, weighted_edges, crossing_weight, crossings}
 use Rattle.model.specs.Layouts.{row_of, is_weight, even_weights, weighs_edges, blank_from, weights_fit, table_weight, carried}

@@ -4,7 +4,7 @@ use Rattle.std.specs.Prelude.{ℕ, ◌+◌, ◌≤◌, ◌<◌, ◌≡◌, Bool,
 use Rattle.std.proofs.Common.{arith, ap}
 use mathlib.Core.List.{List}
 use Rattle.model.specs.declared.Layout.{Layout}
-use Rattle.model.specs.declared.Converged.{Converged}
+use Rattle.model.specs.Answers.{Converged}
 use Rattle.model.specs.Layouts.{crossings_of}
 use Rattle.model.specs.Search.{least}
 use Rattle.model.specs.Sifting.{settled, rounds_up_to, settle_of}

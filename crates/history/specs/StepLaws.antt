@@ -5,7 +5,7 @@ use Rattle.std.proofs.Math.Path.{◌≡◌}
 use Rattle.std.proofs.lemmas.Bool.{false≢true}
 use mathlib.Core.List.{◌++◌, flat_map, append-nil}
 use Rattle.model.specs.declared.Layout.{Layout}
-use Rattle.model.specs.declared.Converged.{Converged}
+use Rattle.model.specs.Answers.{Converged}
 use Rattle.model.specs.declared.Call.{Call}
 use Rattle.model.specs.declared.Call.TheVariants as call
 use Rattle.model.specs.Lists.{one, sum_over, All}

@@ -3,11 +3,11 @@ use Rattle.std.specs.Prelude.{ℕ, ◌≤◌, ◌<◌, ◌≡◌, Bool, true, fa
 use Rattle.std.proofs.Common.{arith, sym, ap, ap₂, subst, ◌∙◌, length-append, lt-ltb, le-ltb}
 use mathlib.Core.List.{List, ◌++◌, flat_map}
 use Rattle.model.specs.declared.Layout.{Layout}
-use Rattle.model.specs.declared.Converged.{Converged}
+use Rattle.model.specs.Answers.{Converged}
 use Rattle.model.specs.Crossings.{edges}
 use Rattle.model.specs.Layouts.{vertex_order, crossings_of, valid}
 use Rattle.model.specs.Sifting.{settle_of}
-use Rattle.model.specs.declared.LayoutRead.{LayoutRead}
+use Rattle.model.specs.Answers.{LayoutRead}
 use Rattle.model.specs.Checks.{by_refusal}
 use Rattle.model.specs.Charts.{read_of}
 use Rattle.model.specs.Listing.{text, line, spaced, listing, listing_room, listing_of, listed_length, listed_bytes}

@@ -1,14 +1,10 @@
 -- Charts: fields, the questions, and the layout that an accepted chart gives.
-use Rattle.std.specs.Prelude.{ℕ, zero, suc, ◌+◌, ◌*◌, ◌^◌, ◌%◌, min, max, Bool, true, false, cond, ◌&&◌, ◌||◌, List, [], ◌∷◌, ◌++◌, map, length, get_or, take, drop, replicate, eqb, leb, ltb}
+use Rattle.std.specs.Prelude.{Option, Some, None, Result, Ok, Err, ℕ, zero, suc, ◌+◌, ◌*◌, ◌^◌, ◌%◌, min, max, Bool, true, false, cond, ◌&&◌, ◌||◌, List, [], ◌∷◌, ◌++◌, map, length, get_or, take, drop, replicate, eqb, leb, ltb}
 use Rattle.model.specs.declared.Edge.{Edge}
 use Rattle.model.specs.declared.Layout.{Layout}
-use Rattle.model.specs.declared.LayoutRead.{LayoutRead}
-use Rattle.model.specs.declared.Asked.{Asked}
-use Rattle.model.specs.declared.Asked.TheVariants as asks
-use Rattle.model.specs.declared.FieldFound.{FieldFound}
-use Rattle.model.specs.declared.FieldFound.TheVariants as field
-use Rattle.model.specs.declared.SizeFound.{SizeFound}
-use Rattle.model.specs.declared.SizeFound.TheVariants as size
+use Rattle.model.specs.Answers.{LayoutRead, number, told_by}
+use Rattle.model.specs.declared.Header.{Header}
+use Rattle.model.specs.declared.refusal.Refusal.{Refusal}
 use Rattle.model.specs.Lists.{upto, every, any, sum_over, no_repeats}
 use Rattle.model.specs.Crossings.{crossings}
 use Rattle.model.specs.Layouts.{capacity, table_places, empty_layout, each_once, uncounted, is_weight, weight}
@@ -202,6 +198,10 @@ chart_layout s = layout_with (chart_size s) (chart_edges s) (chart_weights s) (c
 abbrev pub read_as : List Check → Layout → LayoutRead
 read_as checks l = checked checks (record { refusal = 0; layout = l }) (λ r. record { refusal = r; layout = empty_layout })
 
+-- what a reader's result says
+unfoldable pub as_read : Result Layout Refusal → LayoutRead
+as_read a = told_by a (λ l. record { refusal = 0; layout = l }) (λ r. record { refusal = r; layout = empty_layout })
+
 unfoldable pub read_of : List ℕ → LayoutRead
 read_of s = read_as (chart_checks s) (chart_layout s)
 
@@ -219,20 +219,20 @@ accept values = record { accepted = true; code = 0; values = values }
 unfoldable pub refuse : ℕ → Answer
 refuse r = record { accepted = false; code = r; values = [] }
 
--- the number and the values of each case of the enums
-unfoldable pub asked : Asked → Answer
-asked asks.Passed = accept []
-asked (asks.Refused r) = refuse r
+-- the number and the values of each case of what a pass answers: of one that only asks
+unfoldable pub asked : Result (Unit {0}) Refusal → Answer
+asked (Ok x) = accept []
+asked (Err r) = refuse (number r)
 
 -- a field's tag and the length of its body; no field is no number yet
-unfoldable pub field_found : FieldFound → Answer
-field_found (field.Field tag length) = accept (tag ∷ length ∷ [])
-field_found field.Nothing = refuse 0
+unfoldable pub field_found : Option Header → Answer
+field_found (Some h) = accept (h.tag ∷ h.length ∷ [])
+field_found None = refuse 0
 
 -- the number of vertices (devices)
-unfoldable pub size_found : SizeFound → Answer
-size_found (size.Found n) = accept (n ∷ [])
-size_found (size.Refused r) = refuse r
+unfoldable pub size_found : Result ℕ Refusal → Answer
+size_found (Ok n) = accept (n ∷ [])
+size_found (Err r) = refuse (number r)
 
 -- the first number among the questions of a pass, or what it finds
 unfoldable pub answer : List Check → List ℕ → Answer

@@ -1,8 +1,8 @@
 -- The calls add, link, unlink and move.
 use Rattle.std.specs.Prelude.{ℕ, suc, ◌+◌, ◌*◌, ◌-◌, ◌^◌, not, cond, List, [], ◌∷◌, get_or, set, eqb}
 use Rattle.model.specs.declared.Layout.{Layout}
-use Rattle.model.specs.declared.Added.{Added}
-use Rattle.model.specs.declared.Changed.{Changed}
+use Rattle.model.specs.Answers.{Added}
+use Rattle.model.specs.Answers.{Changed}
 use Rattle.model.specs.Lists.{keep}
 use Rattle.model.specs.Crossings.{bit}
 use Rattle.model.specs.Layouts.{capacity, vertex_order, changed, reordered}

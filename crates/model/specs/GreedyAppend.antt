@@ -1,7 +1,7 @@
 -- The call lay: greedy append (document 004, Algorithm 1, Connectivity with Crossings), isolated vertices at the back (document 02, Note 2).
 use Rattle.std.specs.Prelude.{ℕ, zero, suc, ◌+◌, ◌*◌, ◌-◌, Bool, true, not, cond, ◌&&◌, ◌||◌, List, [], ◌∷◌, ◌++◌, length, get_or, eqb, ltb}
 use Rattle.model.specs.declared.Layout.{Layout}
-use Rattle.model.specs.declared.Appended.{Appended}
+use Rattle.model.specs.Answers.{Appended}
 use Rattle.model.specs.Lists.{one, upto, keep, sum_over, sum_pairs, member}
 use Rattle.model.specs.Crossings.{linked}
 use Rattle.model.specs.Layouts.{weight, reordered}

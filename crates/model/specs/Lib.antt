@@ -1,5 +1,6 @@
 -- The definitions of document 01, one file a subject, in the order in which they build on each other.
 -- Whoever believes these files, and the contracts that cite them, need read no proof.
+pub mod Answers
 pub mod Lists
 pub mod Crossings
 pub mod Layouts

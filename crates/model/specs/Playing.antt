@@ -1,14 +1,12 @@
 -- Lists of calls written as numbers, and what playing one gives: the layout at the end and a table of the answers.
-use Rattle.std.specs.Prelude.{ℕ, zero, suc, ◌*◌, ◌/◌, ◌%◌, cond, length, get_or, drop, eqb, leb}
+use Rattle.std.specs.Prelude.{Option, Some, None, ℕ, zero, suc, ◌*◌, ◌/◌, ◌%◌, cond, length, get_or, drop, eqb, leb}
 use mathlib.Core.List.{List, [], ◌∷◌, ◌++◌, flat_map}
 use Rattle.model.specs.declared.Layout.{Layout}
 use Rattle.model.specs.declared.Outcome.{Outcome}
-use Rattle.model.specs.declared.LayoutRead.{LayoutRead}
+use Rattle.model.specs.Answers.{LayoutRead}
 use Rattle.model.specs.declared.Played.{Played}
 use Rattle.model.specs.declared.Call.{Call}
 use Rattle.model.specs.declared.Call.TheVariants as call
-use Rattle.model.specs.declared.Decoded.{Decoded}
-use Rattle.model.specs.declared.Decoded.TheVariants as decoded
 use Rattle.model.specs.declared.Origin.{Origin}
 use Rattle.model.specs.declared.Origin.TheVariants as origin
 use Rattle.model.specs.Layouts.{empty_layout}
@@ -24,25 +22,25 @@ abbrev pub call_width : ℕ
 call_width = 4
 
 -- a number that stands for no call ends the list; of a weight one byte is taken
-unfoldable pub call_of : ℕ → ℕ → ℕ → ℕ → Decoded
+unfoldable pub call_of : ℕ → ℕ → ℕ → ℕ → Option Call
 call_of op a b w =
-    cond (eqb op 16) (decoded.Next call.AddVertex)
-    (cond (eqb op 17) (decoded.Next (call.AddEdge a b (w % 256)))
-    (cond (eqb op 18) (decoded.Next (call.RemoveEdge a b))
-    (cond (eqb op 19) (decoded.Next (call.MoveAfter a b))
-    (cond (eqb op 20) (decoded.Next (call.GreedyAppend a))
-    (cond (eqb op 21) (decoded.Next (call.Sift a))
-    (cond (eqb op 22) (decoded.Next call.SiftingRound)
-    (cond (eqb op 23) (decoded.Next (call.Converge a)) decoded.End)))))))
+    cond (eqb op 16) (Some call.AddVertex)
+    (cond (eqb op 17) (Some (call.AddEdge a b (w % 256)))
+    (cond (eqb op 18) (Some (call.RemoveEdge a b))
+    (cond (eqb op 19) (Some (call.MoveAfter a b))
+    (cond (eqb op 20) (Some (call.GreedyAppend a))
+    (cond (eqb op 21) (Some (call.Sift a))
+    (cond (eqb op 22) (Some call.SiftingRound)
+    (cond (eqb op 23) (Some (call.Converge a)) None)))))))
 
 -- the call that the first numbers are
-unfoldable pub first_call : List ℕ → Decoded
+unfoldable pub first_call : List ℕ → Option Call
 first_call s = call_of (get_or s 0 0) (get_or s 1 0) (get_or s 2 0) (get_or s 3 0)
 
 -- a call and those behind it, or none
-unfoldable pub followed : Decoded → List Call → List Call
-followed (decoded.Next c) rest = c ∷ rest
-followed decoded.End rest = []
+unfoldable pub followed : Option Call → List Call → List Call
+followed (Some c) rest = c ∷ rest
+followed None rest = []
 
 -- at most k calls
 unfoldable pub calls_in : ℕ → List ℕ → List Call

@@ -1,10 +1,10 @@
 -- The calls that only read: the carried count, the order, the shown crossing pair.
-use Rattle.std.specs.Prelude.{ℕ, Bool, true, false, cond, List, [], ◌∷◌, ◌++◌, length, drop, eqb}
+use Rattle.std.specs.Prelude.{Option, Some, None, Result, Ok, Err, ℕ, Bool, true, false, cond, List, [], ◌∷◌, ◌++◌, length, drop, eqb}
 use Rattle.model.specs.declared.Layout.{Layout}
 use Rattle.model.specs.declared.Edge.{Edge}
 use Rattle.model.specs.declared.Counted.{Counted}
-use Rattle.model.specs.declared.FirstCrossing.{FirstCrossing}
-use Rattle.model.specs.declared.FirstCrossing.TheVariants.{Pair, Nothing, Refused}
+use Rattle.model.specs.declared.refusal.Refusal.{Refusal}
+use Rattle.model.specs.Answers.{number}
 use Rattle.model.specs.Crossings.{edges, crosses}
 use Rattle.model.specs.Layouts.{vertex_order}
 use Rattle.model.specs.Checks.{Check, checked, refusal, is_valid, buffer_fits}
@@ -36,11 +36,11 @@ pub record Shown : Type 0 where
   pub none : Bool
   pub pair : List Edge
 
--- what each case of the enum says
-unfoldable pub shown : FirstCrossing → Shown
-shown (Pair e f) = record { refusal = 0; none = false; pair = e ∷ f ∷ [] }
-shown Nothing = record { refusal = 0; none = true; pair = [] }
-shown (Refused r) = record { refusal = r; none = false; pair = [] }
+-- what each case of the result says
+unfoldable pub shown : Result (Option (Edge × Edge)) Refusal → Shown
+shown (Ok (Some p)) = record { refusal = 0; none = false; pair = p.0 ∷ p.1 ∷ [] }
+shown (Ok None) = record { refusal = 0; none = true; pair = [] }
+shown (Err r) = record { refusal = number r; none = false; pair = [] }
 
 -- e and the first of the edges that crosses it, or no edge
 unfoldable pub pair_with : List ℕ → Edge → List Edge → List Edge

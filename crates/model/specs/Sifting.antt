@@ -2,9 +2,9 @@
 use Rattle.std.specs.Prelude.{ℕ, suc, ◌-◌, Bool, false, length, take, drop}
 use mathlib.Core.List.{List, [], ◌∷◌, ◌++◌, map, flat_map}
 use Rattle.model.specs.declared.Layout.{Layout}
-use Rattle.model.specs.declared.Sifted.{Sifted}
-use Rattle.model.specs.declared.Rounded.{Rounded}
-use Rattle.model.specs.declared.Converged.{Converged}
+use Rattle.model.specs.Answers.{Sifted}
+use Rattle.model.specs.Answers.{Rounded}
+use Rattle.model.specs.Answers.{Converged}
 use Rattle.model.specs.Lists.{sum_over, place}
 use Rattle.model.specs.Layouts.{vertex_order, crossings_of, reordered}
 use Rattle.model.specs.Checks.{Check, checked, is_valid, is_vertex, limit_fits}

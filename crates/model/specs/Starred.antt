@@ -6,7 +6,7 @@ use Rattle.std.proofs.Math.Bool.{xor}
 use mathlib.Core.List.{List, [], ◌∷◌, ◌++◌, flat_map}
 use Rattle.model.specs.declared.Edge.{Edge}
 use Rattle.model.specs.declared.Layout.{Layout}
-use Rattle.model.specs.declared.Appended.{Appended}
+use Rattle.model.specs.Answers.{Appended}
 use Rattle.model.specs.Lists.{one, upto, every, any, keep, first_with, sum_over, sum_pairs, no_repeats, member, occurrences, place}
 use Rattle.model.specs.Crossings.{bit, linked, edges, between, alternate, crosses, adjacent, weighted_edges, crossing_weight, crossings}
 use Rattle.model.specs.Layouts.{vertex_order, table_weight, weight, crossings_of, each_once, zero_from, symmetric, loopless, bits_below}

@@ -2,6 +2,12 @@
 
 #![tactic(auto)]
 
+mod refusal;
+mod reports;
+
+pub use refusal::Refusal;
+pub use reports::refusal_number;
+
 // A circular layout (document 01: a ring). Vertices (devices) are 0 to n - 1. The first n places
 // of order hold them clockwise. Bit i of adjacency[v] (the neighbour word of v) is set exactly
 // when v and i are joined by an edge (a link). The weight of u towards v stands at 64 * u + v of
@@ -24,48 +30,20 @@ pub struct Edge {
     pub high: usize,
 }
 
-// What the calls answer. refusal is 0 for an accepted call, and otherwise the number of the first
-// check (question) that failed; the layout is then the one handed in, every other number is 0 and
-// every bool false.
-
-// Adding or removing an edge, moving a vertex (link, unlink, move).
-#[derive(Clone, Copy)]
-pub struct Changed {
-    pub refusal: u8,
-    pub layout: Layout,
-}
-
-// Adding a vertex (add): its number.
-#[derive(Clone, Copy)]
-pub struct Added {
-    pub refusal: u8,
-    pub layout: Layout,
-    pub vertex: usize,
-}
-
-// Greedy append (lay): the tally of crossings at the ends taken.
-#[derive(Clone, Copy)]
-pub struct Appended {
-    pub refusal: u8,
-    pub layout: Layout,
-    pub tally: u64,
-}
+// What a call by value gives: the changed layout, or the layout and what the call tells besides, or else the
+// first check (question) that failed. specs/Answers.antt has the refusal number and the values of each answer.
 
 // Sifting one vertex (sift): the reduction (saving), crossings before less crossings after; and how
 // many of its candidate places have the least crossings.
 #[derive(Clone, Copy)]
-pub struct Sifted {
-    pub refusal: u8,
-    pub layout: Layout,
+pub struct SiftSummary {
     pub reduction: u64,
     pub optima: u32,
 }
 
 // A sifting round (round): the summed reduction, how many vertices moved, and the summed optima.
 #[derive(Clone, Copy)]
-pub struct Rounded {
-    pub refusal: u8,
-    pub layout: Layout,
+pub struct RoundSummary {
     pub reduction: u64,
     pub moved: u32,
     pub optima: u32,
@@ -74,13 +52,18 @@ pub struct Rounded {
 // Sifting rounds until a local minimum or the limit (settle): the summed reduction, the rounds run,
 // whether the last of them moved no vertex (settled), and the summed optima of all of them.
 #[derive(Clone, Copy)]
-pub struct Converged {
-    pub refusal: u8,
-    pub layout: Layout,
+pub struct ConvergeSummary {
     pub reduction: u64,
     pub rounds: u32,
     pub converged: bool,
     pub optima: u32,
+}
+
+// A field at the start of the bytes that are left of a chart: its tag and the length of its body.
+#[derive(Clone, Copy)]
+pub struct Header {
+    pub tag: u8,
+    pub length: usize,
 }
 
 // The carried count.
@@ -89,21 +72,6 @@ pub struct Converged {
 pub struct Counted {
     pub refusal: u8,
     pub count: u64,
-}
-
-// The search for a crossing pair of edges (the shown crossing pair).
-#[derive(Clone, Copy)]
-pub enum FirstCrossing {
-    Pair(Edge, Edge),
-    Nothing,
-    Refused(u8),
-}
-
-// A layout read from bytes, a chart or a graph in graph6: the empty one where they are refused.
-#[derive(Clone, Copy)]
-pub struct LayoutRead {
-    pub refusal: u8,
-    pub layout: Layout,
 }
 
 // A layout written into a lent buffer, as a chart or in graph6: how many bytes that is, 0 where it is refused.
@@ -129,31 +97,6 @@ pub struct EdgesCounted {
 pub struct LeastFound {
     pub refusal: u8,
     pub crossings: u64,
-}
-
-// What the passes of the chart reader and of the graph6 reader answer. specs/Charts.antt says for each
-// case which number and values of document 01 it stands for.
-
-// A pass that only asks: questions 1 and 2, 3, 5 and 6, 7, 8, and 24 and 25; of graph6 21 and 22.
-#[derive(Clone, Copy)]
-pub enum Asked {
-    Passed,
-    Refused(u8),
-}
-
-// A field at the start of the bytes that are left: its tag and the length of its body. Nothing where
-// no header and body stand there whole; questions 2 and 3 say what that means.
-#[derive(Clone, Copy)]
-pub enum FieldFound {
-    Field(u8, usize),
-    Nothing,
-}
-
-// Question 4, and 20 of graph6: the number of vertices.
-#[derive(Clone, Copy)]
-pub enum SizeFound {
-    Found(usize),
-    Refused(u8),
 }
 
 // A call that changes a layout, with what it names: any numbers at all.
@@ -186,13 +129,6 @@ pub const ANSWER_WIDTH: usize = 5;
 
 // How many numbers a call takes in a list: which one, what it names, and the weight of an edge.
 pub const CALL_WIDTH: usize = 4;
-
-// A call read from its numbers, or the end of the list.
-#[derive(Clone, Copy)]
-pub enum Decoded {
-    Next(Call),
-    End,
-}
 
 // Where a list of calls starts: from the empty layout, from a chart, or from a graph in graph6.
 #[derive(Clone, Copy)]

@@ -4,8 +4,8 @@ use Rattle.std.proofs.Common.{arith, ◌∙◌}
 use Rattle.std.proofs.Math.Path.{refl, sym, ap, ap₂}
 use Rattle.std.proofs.Math.ListN.{length-map}
 use Rattle.model.specs.declared.Layout.{Layout}
-use Rattle.model.specs.declared.Rounded.{Rounded}
-use Rattle.model.specs.declared.Converged.{Converged}
+use Rattle.model.specs.Answers.{Rounded}
+use Rattle.model.specs.Answers.{Converged}
 use Rattle.model.specs.Lists.{All, none, also}
 use Rattle.model.specs.Layouts.{vertex_order, valid, weight, crossings_of, modulus, carried, changed, reordered}
 use Rattle.model.specs.Edits.{moved_after}

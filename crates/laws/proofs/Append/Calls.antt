@@ -8,7 +8,7 @@ use Rattle.std.proofs.Math.Bool.{true}
 use mathlib.Core.List.{List, [], ◌∷◌, ◌++◌}
 use Rattle.std.proofs.Math.ListN.{length, drop, length-append}
 use Rattle.model.specs.declared.Layout.{Layout}
-use Rattle.model.specs.declared.Appended.{Appended}
+use Rattle.model.specs.Answers.{Appended}
 use Rattle.model.specs.Crossings.{crossings}
 use Rattle.model.specs.Layouts.{vertex_order, weight, crossings_of, valid, carried, changed, reordered}
 use Rattle.model.specs.GreedyAppend.{unplaced, waiting, isolated, has_edges, next_vertex, closing, open', front_crossings, back_crossings}

@@ -3,7 +3,7 @@ use Rattle.std.specs.Prelude.{ℕ, suc, ◌≡◌, set}
 use Rattle.std.proofs.Math.Path.{refl}
 use mathlib.Core.List.{List}
 use Rattle.model.specs.declared.Layout.{Layout}
-use Rattle.model.specs.declared.Added.{Added}
+use Rattle.model.specs.Answers.{Added}
 use Rattle.model.specs.Checks.{Check, refusal}
 use Rattle.model.specs.Edits.{added, add_checks, add_answer, add_refused, add_of, changed_or}
 use Rattle.model.specs.Edits.{at_both_ends, both_ways, with_edges, link_checks, link_of, unlink_checks, unlink_of}

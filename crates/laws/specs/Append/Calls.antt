@@ -8,7 +8,7 @@ use Rattle.std.proofs.Math.Bool.{true, false}
 use mathlib.Core.List.{List, [], ◌∷◌}
 use Rattle.std.proofs.Math.ListN.{length}
 use Rattle.model.specs.declared.Layout.{Layout}
-use Rattle.model.specs.declared.Appended.{Appended}
+use Rattle.model.specs.Answers.{Appended}
 use Rattle.model.specs.Lists.{sum_over}
 use Rattle.model.specs.Crossings.{crossings}
 use Rattle.model.specs.Layouts.{weight, valid}

@@ -3,7 +3,7 @@ use Rattle.std.specs.Prelude.{ℕ, ◌≡◌, refl, Bool, true, ◌&&◌, ◌||�
 use Rattle.std.proofs.Common.{sym, ap, ap₂, ◌∙◌, subst, lit<, leb-true, eqb-true}
 use mathlib.Core.List.{List, [], ◌∷◌, map, flat_map}
 use Rattle.model.specs.declared.Edge.{Edge}
-use Rattle.model.specs.declared.LayoutRead.{LayoutRead}
+use Rattle.model.specs.Answers.{LayoutRead}
 use Rattle.model.specs.declared.Layout.{Layout}
 use Rattle.model.specs.Lists.{one, upto, every, any, keep, sum_pairs, no_repeats}
 use Rattle.model.specs.Crossings.{weighted_edges, edge_weight, crossings}

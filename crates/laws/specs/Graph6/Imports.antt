@@ -7,7 +7,7 @@ use Rattle.std.proofs.Math.Dec.{eqb}
 use borrow.Author.Tests.{eq-eqb, eqb-true}
 use Rattle.model.specs.declared.Edge.{Edge}
 use Rattle.model.specs.declared.Layout.{Layout}
-use Rattle.model.specs.declared.LayoutRead.{LayoutRead}
+use Rattle.model.specs.Answers.{LayoutRead}
 use Rattle.model.specs.Lists.{upto, every}
 use Rattle.model.specs.Crossings.{edge_weight}
 use Rattle.model.specs.Charts.{layout_with}

@@ -6,7 +6,7 @@ use Rattle.std.proofs.Math.Path.{refl, sym}
 use mathlib.Core.List.{[], ◌∷◌}
 use borrow.Author.Tests.{ltb-true}
 use Rattle.model.specs.declared.Layout.{Layout}
-use Rattle.model.specs.declared.Added.{Added}
+use Rattle.model.specs.Answers.{Added}
 use Rattle.model.specs.Layouts.{capacity, valid}
 use Rattle.model.specs.Checks.{refusal, has_room}
 use Rattle.model.specs.Edits.{add_checks, add_answer, add_refused, add_of, change_refused}

@@ -9,7 +9,7 @@ use mathlib.Core.List.{List, [], ◌∷◌, ◌++◌}
 use Rattle.std.proofs.Math.Dec.{T, not_T}
 use Rattle.std.proofs.lemmas.Bool.{eqb-false, not-true}
 use Rattle.model.specs.declared.Layout.{Layout}
-use Rattle.model.specs.declared.Changed.{Changed}
+use Rattle.model.specs.Answers.{Changed}
 use Rattle.model.specs.Crossings.{linked}
 use Rattle.model.specs.Layouts.{is_weight, valid}
 use Rattle.model.specs.Checks.{Check, refusal, by_refusal, checked, is_valid, is_vertex, differ, is_unlinked, is_linked, weighs}

@@ -6,7 +6,7 @@ use mathlib.Core.List.{List, ◌++◌}
 use Rattle.std.proofs.Math.ListN.{drop}
 use Rattle.std.proofs.Math.Seq.{length_front, get_or-drop, take_at}
 use Rattle.model.specs.declared.Layout.{Layout}
-use Rattle.model.specs.declared.Changed.{Changed}
+use Rattle.model.specs.Answers.{Changed}
 use Rattle.model.specs.Crossings.{crossings}
 use Rattle.model.specs.Layouts.{vertex_order, weight, crossings_of, valid, modulus, carried, changed, reordered}
 use Rattle.model.specs.Checks.{refusal}

@@ -3,7 +3,7 @@ use Rattle.std.specs.Prelude.{ℕ, ◌≡◌, refl, List, length, T}
 use Rattle.std.proofs.Common.{◌∙◌, length-set}
 use Rattle.std.proofs.lemmas.List.{length-replicate}
 use Rattle.model.specs.declared.Layout.{Layout}
-use Rattle.model.specs.declared.Added.{Added}
+use Rattle.model.specs.Answers.{Added}
 use Rattle.model.specs.Layouts.{capacity, table_places, empty_layout, valid, changed, reordered}
 use Rattle.model.specs.Edits.{added, add_checks, add_answer, add_refused, add_of, move_checks, move_of}
 use Rattle.model.specs.Edits.{with_bit, without_bit, at_both_ends, both_ways, with_edges, link_checks, link_of, unlink_checks, unlink_of}

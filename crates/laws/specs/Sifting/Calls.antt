@@ -5,9 +5,9 @@ use Rattle.std.proofs.Math.Path.{refl}
 use mathlib.Core.List.{[], ◌∷◌}
 use borrow.Author.Tests.{leb-true}
 use Rattle.model.specs.declared.Layout.{Layout}
-use Rattle.model.specs.declared.Sifted.{Sifted}
-use Rattle.model.specs.declared.Rounded.{Rounded}
-use Rattle.model.specs.declared.Converged.{Converged}
+use Rattle.model.specs.Answers.{Sifted}
+use Rattle.model.specs.Answers.{Rounded}
+use Rattle.model.specs.Answers.{Converged}
 use Rattle.model.specs.Layouts.{valid}
 use Rattle.model.specs.Checks.{refusal, is_valid, is_vertex, limit_fits}
 use Rattle.model.specs.Sifting.{sifted, sift_checks, sift_answer, sift_refused, sift_of, sift_round, swept, round_refused, round_of, rounds_up_to, settled}

@@ -10,7 +10,7 @@ use Rattle.std.proofs.lemmas.Bool.{false≢true}
 use mathlib.Core.List.{List, [], ◌∷◌, ◌++◌}
 use Rattle.std.proofs.Math.Dec.{eqb}
 use Rattle.model.specs.declared.Layout.{Layout}
-use Rattle.model.specs.declared.Converged.{Converged}
+use Rattle.model.specs.Answers.{Converged}
 use Rattle.model.specs.Lists.{All, none, also}
 use Rattle.model.specs.Layouts.{crossings_of}
 use Rattle.model.specs.Search.{Search, Round, reached, last_still, round_at, rounds_within}

@@ -3,8 +3,8 @@ use Rattle.std.specs.Prelude.{ℕ, ◌+◌, ◌≤◌, ◌<◌, ◌≡◌, refl,
 use Rattle.std.proofs.Math.Nat.{le_trans}
 use Rattle.std.proofs.Common.{le_of_eq, sym, ap, ◌∙◌}
 use Rattle.model.specs.declared.Layout.{Layout}
-use Rattle.model.specs.declared.Changed.{Changed}
-use Rattle.model.specs.declared.Rounded.{Rounded}
+use Rattle.model.specs.Answers.{Changed}
+use Rattle.model.specs.Answers.{Rounded}
 use Rattle.model.specs.Lists.{upto}
 use Rattle.model.specs.Layouts.{vertex_order, weight, crossings_of, valid, changed, reordered}
 use Rattle.model.specs.Edits.{move_of}
