@@ -1,15 +1,12 @@
 -- A reader's passes, one after the other: what an answer says of the questions of its pass, and what the reader gives by them.
 use Prim.Native.Nat.{ℕ, zero, suc, ◌<◌}
 use Rattle.std.proofs.Common.{not-suc-le-zero, ◌∙◌, true≢false}
-use Rattle.std.specs.Prelude.{◌≡◌, Bool, true, false, cond}
+use Rattle.std.specs.Prelude.{Result, Ok, Err, ◌≡◌, Bool, true, false, cond}
 use Rattle.std.proofs.Math.Path.{refl, sym, ap}
 use Rattle.std.proofs.lemmas.Bool.{false≢true}
 use mathlib.Core.List.{List, [], ◌∷◌, ◌++◌}
-use Rattle.model.specs.Answers.{LayoutRead}
-use Rattle.model.specs.declared.Asked.{Asked}
-use Rattle.model.specs.declared.Asked.TheVariants as asks
-use Rattle.model.specs.declared.SizeFound.{SizeFound}
-use Rattle.model.specs.declared.SizeFound.TheVariants as size
+use Rattle.model.specs.Answers.{LayoutRead, number}
+use Rattle.model.specs.declared.refusal.Refusal.{Refusal}
 use Rattle.model.specs.declared.Layout.{Layout}
 use Rattle.model.specs.Layouts.{empty_layout, table_weight}
 use Rattle.model.specs.Checks.{Check, refusal, by_refusal, checked}
@@ -98,27 +95,18 @@ module _ {xs : List Check} (m : Numbered xs) (values : List ℕ) (ys : List Chec
   pass_refused e t = sym (checked_append m ys x refused_read ∙ answer_refused xs values e t (checked ys x refused_read) refused_read)
 
 -- of a pass that finds nothing but its answer
-pub asked_passed : {r : Asked} → r ≡ asks.Passed → (asked r).accepted ≡ true
-unfolding asked accept
-asked_passed told = ap (λ (y : Asked). (asked y).accepted) told
+module _ {r : Result (Unit {0}) Refusal} where
+  pub asked_passed : {x : Unit {0}} → r ≡ Ok x → (asked r).accepted ≡ true
+  unfolding asked accept
+  asked_passed told = ap (λ (y : Result (Unit {0}) Refusal). (asked y).accepted) told
 
--- the code of a refusal is handed back
-module _ {k code : ℕ} where
-  pub asked_number : {r : Asked} → r ≡ asks.Refused k → code ≡ (asked r).code → refused_read code ≡ refused_read k
-  unfolding asked refuse
-  asked_number e c = ap refused_read (c ∙ ap (λ (x : Asked). (asked x).code) e)
+  module _ {xs : List Check} (m : Numbered xs) (ys : List Check) (x : LayoutRead) where
+    pub asked_on : {y : Unit {0}} → r ≡ Ok y → asked r ≡ answer xs [] → checked ys x refused_read ≡ checked (xs ++ ys) x refused_read
+    asked_on told said = pass_accepted m [] ys x said (asked_passed told)
 
-  pub size_number : {r : SizeFound} → r ≡ size.Refused k → code ≡ (size_found r).code → refused_read code ≡ refused_read k
-  unfolding size_found refuse
-  size_number e c = ap refused_read (c ∙ ap (λ (x : SizeFound). (size_found x).code) e)
-
-module _ {xs : List Check} (m : Numbered xs) (ys : List Check) (x : LayoutRead) {r : Asked} where
-  pub asked_on : r ≡ asks.Passed → asked r ≡ answer xs [] → checked ys x refused_read ≡ checked (xs ++ ys) x refused_read
-  asked_on told said = pass_accepted m [] ys x said (asked_passed told)
-
-  pub asked_back : {k : ℕ} → r ≡ asks.Refused k → asked r ≡ answer xs [] → refused_read k ≡ checked (xs ++ ys) x refused_read
-  unfolding asked refuse
-  asked_back told said = pass_refused m [] ys x (ap asked (sym told) ∙ said) refl
+    pub asked_back : {e : Refusal} → r ≡ Err e → asked r ≡ answer xs [] → refused_read (number e) ≡ checked (xs ++ ys) x refused_read
+    unfolding asked refuse
+    asked_back told said = pass_refused m [] ys x (ap asked (sym told) ∙ said) refl
 
 -- the last of the questions passes
 pub last_passes : {c : Check} → All (λ c. c.passes ≡ true) (c ∷ []) → c.passes ≡ true

@@ -2,14 +2,16 @@
 use Prim.Native.Nat.{ℕ, zero, suc, ◌≤◌, ◌<◌}
 use Rattle.std.proofs.Common.{arith, ◌∙◌, subst, eqb→eq, lt→ltb, ltb-true}
 use Rattle.std.proofs.Math.Decide.{ℕ_discrete}
-use Rattle.std.specs.Prelude.{◌≡◌, Bool, true, false, not, eqb}
+use Rattle.std.specs.Prelude.{Result, Ok, Err, ◌≡◌, Bool, true, false, not, eqb}
 use Rattle.std.proofs.Math.Path.{refl, sym, ap}
 use Rattle.std.proofs.Math.Bool.{cond}
 use mathlib.Core.List.{List, [], ◌∷◌, ◌++◌}
 use Rattle.std.proofs.Math.Dec.{T, not_T}
 use Rattle.std.proofs.lemmas.Bool.{eqb-false, not-true}
 use Rattle.model.specs.declared.Layout.{Layout}
-use Rattle.model.specs.Answers.{Changed}
+use Rattle.model.specs.declared.refusal.Refusal.{Refusal}
+use Rattle.model.specs.declared.refusal.Refusal.TheVariants as because
+use Rattle.model.specs.Answers.{Changed, number, refusal_number, told_by, as_changed}
 use Rattle.model.specs.Crossings.{linked}
 use Rattle.model.specs.Layouts.{is_weight, valid}
 use Rattle.model.specs.Checks.{Check, refusal, by_refusal, checked, is_valid, is_vertex, differ, is_unlinked, is_linked, weighs}
@@ -125,6 +127,114 @@ module _ {A : Type 0} (cs : List Check) (accepted : A) (refused : ℕ → A) whe
       from : (k : ℕ) → refusal cs ≡ k → P (by_refusal k accepted refused) (by_refusal k other refused)
       from zero e = a e
       from (suc k) e = r k
+
+-- ---- what a result says
+
+-- no refusal has the number of an accepted call
+pub number_positive : (r : Refusal) → number r ≡ 0 → ⊥
+unfolding number
+number_positive because.TooLong e = omega arith
+number_positive because.Undivided e = omega arith
+number_positive because.WrongTags e = omega arith
+number_positive because.NoSize e = omega arith
+number_positive because.OddLinks e = omega arith
+number_positive because.NoEdge e = omega arith
+number_positive because.RepeatedEdge e = omega arith
+number_positive because.NoOrder e = omega arith
+number_positive because.NotValid e = omega arith
+number_positive because.NoVertex e = omega arith
+number_positive because.SameVertex e = omega arith
+number_positive because.Joined e = omega arith
+number_positive because.NotJoined e = omega arith
+number_positive because.Full e = omega arith
+number_positive because.WrongLimit e = omega arith
+number_positive because.ShortOrder e = omega arith
+number_positive because.ShortBuffer e = omega arith
+number_positive because.NoGraphSize e = omega arith
+number_positive because.WrongBits e = omega arith
+number_positive because.PaddingSet e = omega arith
+number_positive because.ShortTable e = omega arith
+number_positive because.WeightCount e = omega arith
+number_positive because.ZeroWeight e = omega arith
+number_positive because.Weighted e = omega arith
+number_positive because.NotSmall e = omega arith
+number_positive because.NoSuchOrder e = omega arith
+
+-- and no two have one number: the numbers tell the refusals apart
+numbered : ℕ → Refusal
+numbered n =
+    cond (eqb n 1) because.TooLong
+    (cond (eqb n 2) because.Undivided
+    (cond (eqb n 3) because.WrongTags
+    (cond (eqb n 4) because.NoSize
+    (cond (eqb n 5) because.OddLinks
+    (cond (eqb n 6) because.NoEdge
+    (cond (eqb n 7) because.RepeatedEdge
+    (cond (eqb n 8) because.NoOrder
+    (cond (eqb n 11) because.NotValid
+    (cond (eqb n 12) because.NoVertex
+    (cond (eqb n 13) because.SameVertex
+    (cond (eqb n 14) because.Joined
+    (cond (eqb n 15) because.NotJoined
+    (cond (eqb n 16) because.Full
+    (cond (eqb n 17) because.WrongLimit
+    (cond (eqb n 18) because.ShortOrder
+    (cond (eqb n 19) because.ShortBuffer
+    (cond (eqb n 20) because.NoGraphSize
+    (cond (eqb n 21) because.WrongBits
+    (cond (eqb n 22) because.PaddingSet
+    (cond (eqb n 23) because.ShortTable
+    (cond (eqb n 24) because.WeightCount
+    (cond (eqb n 25) because.ZeroWeight
+    (cond (eqb n 26) because.Weighted
+    (cond (eqb n 27) because.NotSmall because.NoSuchOrder))))))))))))))))))))))))
+
+pub number_tells : {r s : Refusal} → number r ≡ number s → r ≡ s
+unfolding number numbered
+number_tells {r} {s} e = sym (back r) ∙ ap numbered e ∙ back s
+  where
+    back : (r : Refusal) → numbered (number r) ≡ r
+    back because.TooLong = refl
+    back because.Undivided = refl
+    back because.WrongTags = refl
+    back because.NoSize = refl
+    back because.OddLinks = refl
+    back because.NoEdge = refl
+    back because.RepeatedEdge = refl
+    back because.NoOrder = refl
+    back because.NotValid = refl
+    back because.NoVertex = refl
+    back because.SameVertex = refl
+    back because.Joined = refl
+    back because.NotJoined = refl
+    back because.Full = refl
+    back because.WrongLimit = refl
+    back because.ShortOrder = refl
+    back because.ShortBuffer = refl
+    back because.NoGraphSize = refl
+    back because.WrongBits = refl
+    back because.PaddingSet = refl
+    back because.ShortTable = refl
+    back because.WeightCount = refl
+    back because.ZeroWeight = refl
+    back because.Weighted = refl
+    back because.NotSmall = refl
+    back because.NoSuchOrder = refl
+
+module _ {T : Type 0} {answer : Result T Refusal} where
+  -- where a result passes on, no check failed; where it refuses, that is the number of the check
+  module _ {k : ℕ} (said : refusal_number answer ≡ k) where
+    pub passed_on : {x : T} → answer ≡ Ok x → k ≡ 0
+    unfolding refusal_number
+    passed_on told = sym said ∙ ap refusal_number told
+
+    pub number_told : {e : Refusal} → answer ≡ Err e → number e ≡ k
+    unfolding refusal_number
+    number_told told = ap refusal_number (sym told) ∙ said
+
+  pub handed_back : {A : Type 0} (cs : List Check) (accepted : A) (refused : ℕ → A) → refusal_number answer ≡ refusal cs
+      → {e : Refusal} → answer ≡ Err e → refused (number e) ≡ checked cs accepted refused
+  handed_back cs accepted refused said {e} told = sym (when_refused cs accepted refused (number_told said told) (number_positive e))
 
 -- ---- calls on a layout
 
