@@ -1,46 +1,24 @@
 // Adding a vertex (document 01: add).
 ghost use Rattle.std.specs.Prelude.{◌≡◌, ◌<◌, length, set};
+ghost use Rattle.model.specs.Answers.{as_added};
 ghost use Rattle.model.specs.Edits.{add_of};
 
-use model::{Added, Layout};
-use validity::is_valid;
+use model::{Layout, Refusal};
+use validity::check_valid;
 
-pub fn add_vertex(l: Layout) -> Added
-    ensures { result ≡ add_of l }
+// Answers its number.
+pub fn add_vertex(l: Layout) -> Result<(Layout, usize), Refusal>
+    ensures { as_added l result ≡ add_of l }
 {
-    if !is_valid(l) {
-        return Added {
-            refusal: 11,
-            layout: l,
-            vertex: 0,
-        };
-    }
+    check_valid(l)?;
     let n = l.n;
     if 64 <= n {
-        return Added {
-            refusal: 16,
-            layout: l,
-            vertex: 0,
-        };
+        return Err(Refusal::Full);
     }
-    let before = l.order;
-    let order = with_last(before, n);
-    let adjacency = l.adjacency;
-    let weights = l.weights;
-    let size = n + 1;
+    let order = with_last(l.order, n);
     // without edges it crosses nothing: the count stays
-    let layout = Layout {
-        n: size,
-        order,
-        adjacency,
-        weights,
-        count: l.count,
-    };
-    Added {
-        refusal: 0,
-        layout,
-        vertex: n,
-    }
+    let next = Layout { n: n + 1, order, ..l };
+    Ok((next, n))
 }
 
 // The order with vertex n at place n.
@@ -49,7 +27,6 @@ fn with_last(order: [u8; 64], n: usize) -> [u8; 64]
     ensures { (result ≡ set order n n) × (length order ≡ 64) }
 {
     let mut next = order;
-    let places: &mut [u8] = &mut next;
-    places[n] = n as u8;
+    next[n] = n as u8;
     next
 }

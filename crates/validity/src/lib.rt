@@ -4,5 +4,5 @@
 mod checks;
 mod validity;
 
-pub use checks::{limit_refusal, pair_refusal, vertex_refusal};
+pub use checks::{check_limit, check_pair, check_valid, check_vertex};
 pub use validity::is_valid;

@@ -8,12 +8,6 @@ use model::Layout;
 pub fn is_valid(l: Layout) -> bool
     ensures { result ≡ valid l }
 {
-    let n = l.n;
-    let order = l.order;
-    let adjacency = l.adjacency;
-    let weights = l.weights;
-    if !orders::order_valid(n, &order) {
-        return false;
-    }
-    weights_valid::is_weighted_graph(n, &adjacency, &weights)
+    orders::order_valid(l.n, &l.order)
+        && weights_valid::is_weighted_graph(l.n, &l.adjacency, &l.weights)
 }

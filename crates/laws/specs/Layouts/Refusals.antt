@@ -221,6 +221,11 @@ number_tells {r} {s} e = sym (back r) ∙ ap numbered e ∙ back s
     back because.NotSmall = refl
     back because.NoSuchOrder = refl
 
+-- what is answered with a refusal whose number is that of the checks
+pub refused_by : {A : Type 0} (cs : List Check) (accepted : A) (refused : ℕ → A) (e : Refusal) → number e ≡ refusal cs
+    → refused (number e) ≡ checked cs accepted refused
+refused_by cs accepted refused e told = sym (when_refused cs accepted refused told (number_positive e))
+
 module _ {T : Type 0} {answer : Result T Refusal} where
   -- where a result passes on, no check failed; where it refuses, that is the number of the check
   module _ {k : ℕ} (said : refusal_number answer ≡ k) where
@@ -234,7 +239,17 @@ module _ {T : Type 0} {answer : Result T Refusal} where
 
   pub handed_back : {A : Type 0} (cs : List Check) (accepted : A) (refused : ℕ → A) → refusal_number answer ≡ refusal cs
       → {e : Refusal} → answer ≡ Err e → refused (number e) ≡ checked cs accepted refused
-  handed_back cs accepted refused said {e} told = sym (when_refused cs accepted refused (number_told said told) (number_positive e))
+  handed_back cs accepted refused said {e} told = refused_by cs accepted refused e (number_told said told)
+
+  -- the first check has failed, whatever others follow
+  pub first_failed : (c : Check) (cs : List Check) → refusal_number answer ≡ refusal (c ∷ []) → {e : Refusal} → answer ≡ Err e
+      → number e ≡ refusal (c ∷ cs)
+  unfolding refusal
+  first_failed c cs said {e} told = by_test c.passes (number_told said told)
+    where
+      by_test : (b : Bool) → number e ≡ cond b 0 c.code → number e ≡ cond b (refusal cs) c.code
+      by_test true z = absurd (number_positive e z)
+      by_test false z = z
 
 -- ---- calls on a layout
 

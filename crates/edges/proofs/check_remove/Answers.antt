@@ -1,0 +1,42 @@
+use Rattle.std.proofs.Common.{rules, ◌≡◌, ◌<◌, arith, Err, refl}
+use Rattle.model.specs.Answers.{refusal_number, number}
+use Rattle.model.specs.Checks.{refusal}
+use Rattle.model.specs.Crossings.{linked}
+use Rattle.model.specs.Edits.{move_checks}
+use Rattle.laws.specs.Layouts.Refusals.{number_told, number_positive, unlink_before}
+use Rattle.edges.specs.EdgeCalls.{first_inside, may_part}
+use Rattle.edges.proofs.check_remove.Goals as goal
+use Rattle.edges.proofs.check_remove.Goals.{In_ok-check_pair}
+
+passed : (c : In_ok-check_pair) → let s = c.args in 0 ≡ refusal (move_checks s.l s.a s.b)
+unfolding refusal_number
+passed c = c.in_ok-check_pair.ensures
+
+-- the first vertex is a place of the array
+inside : (c : In_ok-check_pair) → c.args.a < 64
+inside c = let s = c.args in first_inside s.l s.a s.b (passed c) refl
+
+pub returns-in_err-check_pair : goal.returns-in_err-check_pair
+unfolding refusal_number
+returns-in_err-check_pair c =
+    let s = c.args in
+    let back : c.from_residual.result ≡ Err c.in_err-check_pair.field-0.0 = search rules in
+    rw back (unlink_before s.l s.a s.b (number_told c.check_pair.ensures c.in_err-check_pair.was) (number_positive _))
+
+pub bounds-l-a : goal.bounds-l-a
+bounds-l-a c = inside (goal.at.bounds-l-a c).In_ok-check_pair
+
+pub returns-then-not-is_set : goal.returns-then-not-is_set
+unfolding linked refusal_number number
+returns-then-not-is_set c =
+    let s = c.args in
+    may_part s.l s.a s.b (passed (goal.at.returns-then-not-is_set c).In_ok-check_pair) refl c.is_set.ensures c.if-not-is_set.true
+
+pub returns : goal.returns
+unfolding linked refusal_number
+returns c =
+    let s = c.args in
+    may_part s.l s.a s.b (passed (goal.at.returns c).In_ok-check_pair) refl c.is_set.ensures c.if-not-is_set.false
+
+pub offset_bounds-l-a : goal.offset_bounds-l-a
+offset_bounds-l-a c = omega (arith, inside (goal.at.offset_bounds-l-a c).In_ok-check_pair)
