@@ -1,8 +1,9 @@
 // Sifting rounds until one moves no vertex, or the limit is reached (document 01: settle).
-ghost use Rattle.std.specs.Prelude.{◌≡◌, ◌+◌, ◌*◌, ◌<◌, ◌≤◌, T};
+ghost use Rattle.std.specs.Prelude.{◌≡◌, ◌+◌, ◌*◌, ◌<◌, ◌≤◌, T, Ok};
 ghost use Rattle.laws.specs.Crossings.Bound.{most_weighted};
 ghost use Rattle.laws.specs.Sifting.Optima.{most_optima};
 ghost use Rattle.laws.specs.Tables.Rows.{RowsOf};
+ghost use Rattle.model.specs.Answers.{as_converged};
 ghost use Rattle.model.specs.Layouts.{valid};
 ghost use Rattle.model.specs.Sifting.{settle_of, rounds_up_to};
 ghost use Rattle.sifting.specs.Arrays.{Drawn};
@@ -10,8 +11,8 @@ ghost use Rattle.sifting.specs.Settling.{settled_within, settled_next};
 
 use super::layouts::relaid;
 use super::rounds::{Swept, sift_all};
-use model::{Converged, Layout};
-use validity::limit_refusal;
+use model::{ConvergeSummary, Layout, Refusal};
+use validity::check_limit;
 use weights::row_weights;
 
 // What rounds one after the other have led to.
@@ -24,42 +25,28 @@ struct Settled {
     optima: u32,
 }
 
-pub fn converge(l: Layout, limit: u32) -> Converged
-    ensures { result ≡ settle_of l limit }
+pub fn converge(l: Layout, limit: u32) -> Result<(Layout, ConvergeSummary), Refusal>
+    ensures { as_converged l result ≡ settle_of l limit }
 {
-    let refusal = limit_refusal(l, limit);
-    if refusal != 0 {
-        return Converged {
-            refusal,
-            layout: l,
-            reduction: 0,
-            rounds: 0,
-            converged: false,
-            optima: 0,
-        };
-    }
-    settle(l, limit)
+    check_limit(l, limit)?;
+    Ok(settle(l, limit))
 }
 
 // A settling whose checks have passed.
-fn settle(l: Layout, limit: u32) -> Converged
+fn settle(l: Layout, limit: u32) -> (Layout, ConvergeSummary)
     requires { T (valid l) × (limit ≤ 1000) }
-    ensures { result ≡ rounds_up_to limit l }
+    ensures { as_converged l (Ok result) ≡ rounds_up_to limit l }
 {
-    let n = l.n;
-    let present = l.order;
     let rows = row_weights(&l.weights);
-    let end = run_rounds(n, present, &l.weights, &rows, limit);
-    let order = end.order;
+    let end = run_rounds(l.n, l.order, &l.weights, &rows, limit);
     let reduction = end.reduction;
-    Converged {
-        refusal: 0,
-        layout: relaid(l, order, reduction),
+    let summary = ConvergeSummary {
         reduction,
         rounds: end.rounds,
         converged: end.converged,
         optima: end.optima,
-    }
+    };
+    (relaid(l, end.order, reduction), summary)
 }
 
 // Rounds, counted against the limit.

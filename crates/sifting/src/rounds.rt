@@ -1,18 +1,19 @@
 // A sifting round (document 01: round): every vertex is sifted once, in rising number.
-ghost use Rattle.std.specs.Prelude.{◌≡◌, ◌+◌, ◌≤◌, T, if◌then◌else◌, nat_eq};
+ghost use Rattle.std.specs.Prelude.{◌≡◌, ◌+◌, ◌≤◌, T, Ok, if◌then◌else◌, nat_eq};
 ghost use Rattle.laws.specs.Sums.Numbers.{Bounded};
 ghost use Rattle.laws.specs.Crossings.Bound.{most_weighted};
 ghost use Rattle.laws.specs.Sifting.Optima.{most_optima};
 ghost use Rattle.laws.specs.Tables.Rows.{RowsOf};
+ghost use Rattle.model.specs.Answers.{as_rounded};
 ghost use Rattle.model.specs.Layouts.{valid};
 ghost use Rattle.model.specs.Sifting.{sift_round, round_of};
 ghost use Rattle.sifting.specs.Arrays.{Drawn};
 ghost use Rattle.sifting.specs.Sweeps.{swept_round, swept_next};
 
 use super::layouts::relaid;
-use model::{Layout, Rounded};
+use model::{Layout, Refusal, RoundSummary};
 use sift_walk::{Walk, best_order};
-use validity::is_valid;
+use validity::check_valid;
 use weights::row_weights;
 
 // What sifts one after the other have led to: the order, by how much its crossings are fewer than
@@ -25,39 +26,27 @@ pub(crate) struct Swept {
     pub(crate) optima: u32,
 }
 
-pub fn sifting_round(l: Layout) -> Rounded
-    ensures { result ≡ round_of l }
+pub fn sifting_round(l: Layout) -> Result<(Layout, RoundSummary), Refusal>
+    ensures { as_rounded l result ≡ round_of l }
 {
-    if !is_valid(l) {
-        return Rounded {
-            refusal: 11,
-            layout: l,
-            reduction: 0,
-            moved: 0,
-            optima: 0,
-        };
-    }
-    sift_vertices(l)
+    check_valid(l)?;
+    Ok(sift_vertices(l))
 }
 
 // A round whose check has passed.
-fn sift_vertices(l: Layout) -> Rounded
+fn sift_vertices(l: Layout) -> (Layout, RoundSummary)
     requires { T (valid l) }
-    ensures { result ≡ sift_round l }
+    ensures { as_rounded l (Ok result) ≡ sift_round l }
 {
-    let n = l.n;
-    let present = l.order;
     let rows = row_weights(&l.weights);
-    let swept = sift_all(n, present, &l.weights, &rows);
-    let order = swept.order;
+    let swept = sift_all(l.n, l.order, &l.weights, &rows);
     let reduction = swept.reduction;
-    Rounded {
-        refusal: 0,
-        layout: relaid(l, order, reduction),
+    let summary = RoundSummary {
         reduction,
         moved: swept.moved,
         optima: swept.optima,
-    }
+    };
+    (relaid(l, swept.order, reduction), summary)
 }
 
 // The vertices of an order sifted, over the table of weights alone. The weights of the vertices are

@@ -1,44 +1,33 @@
 // Sifting one vertex to its best place (document 01: sift).
-ghost use Rattle.std.specs.Prelude.{◌≡◌, ◌<◌, T};
+ghost use Rattle.std.specs.Prelude.{◌≡◌, ◌<◌, T, Ok};
+ghost use Rattle.model.specs.Answers.{as_sifted};
 ghost use Rattle.model.specs.Layouts.{valid};
 ghost use Rattle.model.specs.Sifting.{sift_answer, sift_of};
 
 use super::layouts::relaid;
-use model::{Layout, Sifted};
+use model::{Layout, Refusal, SiftSummary};
 use sift_walk::best_order;
-use validity::vertex_refusal;
+use validity::check_vertex;
 use weights::row_weights;
 
-pub fn sift(l: Layout, u: usize) -> Sifted
-    ensures { result ≡ sift_of l u }
+pub fn sift(l: Layout, u: usize) -> Result<(Layout, SiftSummary), Refusal>
+    ensures { as_sifted l result ≡ sift_of l u }
 {
-    let refusal = vertex_refusal(l, u);
-    if refusal != 0 {
-        return Sifted {
-            refusal,
-            layout: l,
-            reduction: 0,
-            optima: 0,
-        };
-    }
-    sift_vertex(l, u)
+    check_vertex(l, u)?;
+    Ok(sift_vertex(l, u))
 }
 
 // A sift whose checks have passed.
-fn sift_vertex(l: Layout, u: usize) -> Sifted
+fn sift_vertex(l: Layout, u: usize) -> (Layout, SiftSummary)
     requires { T (valid l) × (u < l.n) }
-    ensures { result ≡ sift_answer l u }
+    ensures { as_sifted l (Ok result) ≡ sift_answer l u }
 {
-    let n = l.n;
-    let present = l.order;
     let rows = row_weights(&l.weights);
-    let best = best_order(n, present, &l.weights, &rows, u);
-    let order = best.order;
+    let best = best_order(l.n, l.order, &l.weights, &rows, u);
     let reduction = best.saving;
-    Sifted {
-        refusal: 0,
-        layout: relaid(l, order, reduction),
+    let summary = SiftSummary {
         reduction,
         optima: best.optima,
-    }
+    };
+    (relaid(l, best.order, reduction), summary)
 }

@@ -1,4 +1,5 @@
 use Rattle.std.proofs.Common.{◌≡◌, ◌<◌, length, rules}
+use Rattle.model.specs.Answers.{told_by, as_converged}
 use Rattle.model.specs.Layouts.{modulus}
 use Rattle.sifting.specs.Layouts.{layout_drawn, rounds_answered}
 use Rattle.sifting.proofs.convergence.settle.Goals as goal
@@ -16,5 +17,6 @@ run_rounds-end-requires c =
     (layout_drawn c.args.l c.requires.0 (size (goal.at.run_rounds-end-requires c).Start), c.row_weights-rows.ensures, c.requires.1)
 
 pub returns : goal.returns
+unfolding as_converged told_by
 returns c =
     rounds_answered c.args.l c.requires.0 (fits (goal.at.returns c).Start) c.args.limit c.run_rounds-end.ensures c.relaid.ensures

@@ -1,28 +1,30 @@
-use Rattle.std.proofs.Common.{◌<◌, T, sym, ◌∙◌}
+use Rattle.std.proofs.Common.{rules, ◌≡◌, ◌<◌, Err, T, sym, ◌∙◌}
+use Rattle.model.specs.Answers.{refusal_number, told_by, as_sifted}
 use Rattle.model.specs.Layouts.{valid}
 use Rattle.model.specs.Sifting.{sift_checks, sift_answer, sift_refused, sift_of}
-use Rattle.laws.specs.Layouts.Refusals.{when_refused, vertex_passed}
+use Rattle.laws.specs.Layouts.Refusals.{handed_back, vertex_passed}
 use Rattle.laws.specs.Sifting.Calls.{sift_accepted}
 use Rattle.sifting.proofs.sifts.sift.Goals as goal
-use Rattle.sifting.proofs.sifts.sift.Goals.{Else-refusal-ne0}
+use Rattle.sifting.proofs.sifts.sift.Goals.{In_ok-check_vertex}
 
 -- the checks have passed
-checks : (c : Else-refusal-ne0) → let s = c.args in T (valid s.l) × (s.u < s.l.n)
-checks c =
-    let s = c.args in
-    vertex_passed s.l s.u (sym c.vertex_refusal-refusal.ensures ∙ c.if-refusal-ne0.false)
+passed : (c : In_ok-check_vertex) → let s = c.args in T (valid s.l) × (s.u < s.l.n)
+unfolding refusal_number
+passed c = let s = c.args in vertex_passed s.l s.u (sym c.in_ok-check_vertex.ensures)
 
-pub returns-then-refusal-ne0 : goal.returns-then-refusal-ne0
-unfolding sift_of sift_checks
-returns-then-refusal-ne0 c =
+pub returns-in_err-check_vertex : goal.returns-in_err-check_vertex
+unfolding sift_of sift_checks as_sifted told_by
+returns-in_err-check_vertex c =
     let l = c.args.l in
     let u = c.args.u in
-    sym (when_refused (sift_checks l u) (sift_answer l u) (sift_refused l) c.vertex_refusal-refusal.ensures c.if-refusal-ne0.true)
+    let back : c.from_residual.result ≡ Err c.in_err-check_vertex.field-0.0 = search rules in
+    rw back (handed_back (sift_checks l u) (sift_answer l u) (sift_refused l) c.check_vertex.ensures c.in_err-check_vertex.was)
 
 pub sift_vertex-requires : goal.sift_vertex-requires
-sift_vertex-requires c = checks c
+sift_vertex-requires c = passed (goal.at.sift_vertex-requires c).In_ok-check_vertex
 
 pub returns : goal.returns
 returns c =
     let s = c.args in
-    c.sift_vertex.ensures ∙ sym (sift_accepted s.l s.u (checks (goal.at.returns c).Else-refusal-ne0).0 (checks (goal.at.returns c).Else-refusal-ne0).1)
+    let there = passed (goal.at.returns c).In_ok-check_vertex in
+    c.sift_vertex.ensures ∙ sym (sift_accepted s.l s.u there.0 there.1)

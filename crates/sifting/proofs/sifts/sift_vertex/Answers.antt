@@ -1,4 +1,5 @@
 use Rattle.std.proofs.Common.{◌≡◌, ◌<◌, length, rules}
+use Rattle.model.specs.Answers.{told_by, as_sifted}
 use Rattle.model.specs.Layouts.{modulus}
 use Rattle.sifting.specs.Arrays.{walker}
 use Rattle.sifting.specs.Layouts.{layout_drawn, sift_answered}
@@ -13,6 +14,7 @@ size : (c : Start) → length c.args.l.order ≡ 64
 size c = search rules
 
 pub returns : goal.returns
+unfolding as_sifted told_by
 returns c =
     let drawn = layout_drawn c.args.l c.requires.0 (size (goal.at.returns c).Start) in
     let found = c.best_order-best.ensures (walker drawn c.requires.1) c.row_weights-rows.ensures in
