@@ -11,9 +11,6 @@ pub fn put_answer(a: Outcome, table: &mut [u64], at: usize)
     if text::lacks(table.len(), at, ANSWER_WIDTH) {
         return;
     }
-    table[at] = a.refusal as u64;
-    table[at + 1] = a.first;
-    table[at + 2] = a.second;
-    table[at + 3] = a.third;
-    table[at + 4] = a.fourth;
+    let numbers = [a.refusal as u64, a.first, a.second, a.third, a.fourth];
+    table[at..at + ANSWER_WIDTH].copy_from_slice(&numbers);
 }

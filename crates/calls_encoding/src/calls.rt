@@ -3,23 +3,23 @@ ghost use Rattle.std.specs.Prelude.{◌≡◌, length};
 ghost use Rattle.model.specs.Playing.{call_of, calls_of};
 ghost use Rattle.calls_encoding.specs.CallLists.{call_at};
 
-use model::{CALL_WIDTH, Call, Decoded};
+use model::{CALL_WIDTH, Call};
 
 // Of a weight one byte is taken.
-pub fn call_of(op: u64, a: usize, b: usize, weight: u64) -> Decoded
+pub fn call_of(op: u64, a: usize, b: usize, weight: u64) -> Option<Call>
     ensures { result ≡ call_of op a b weight }
 {
     let byte = (weight % 256) as u8;
     match op {
-        16 => Decoded::Next(Call::AddVertex),
-        17 => Decoded::Next(Call::AddEdge(a, b, byte)),
-        18 => Decoded::Next(Call::RemoveEdge(a, b)),
-        19 => Decoded::Next(Call::MoveAfter(a, b)),
-        20 => Decoded::Next(Call::GreedyAppend(a)),
-        21 => Decoded::Next(Call::Sift(a)),
-        22 => Decoded::Next(Call::SiftingRound),
-        23 => Decoded::Next(Call::Converge(a)),
-        _ => Decoded::End,
+        16 => Some(Call::AddVertex),
+        17 => Some(Call::AddEdge(a, b, byte)),
+        18 => Some(Call::RemoveEdge(a, b)),
+        19 => Some(Call::MoveAfter(a, b)),
+        20 => Some(Call::GreedyAppend(a)),
+        21 => Some(Call::Sift(a)),
+        22 => Some(Call::SiftingRound),
+        23 => Some(Call::Converge(a)),
+        _ => None,
     }
 }
 
@@ -28,22 +28,20 @@ pub fn count_calls(calls: &[u64]) -> usize
     ensures { result ≡ length (calls_of calls.now) }
 {
     let most = calls.len() / CALL_WIDTH;
-    let mut i = 0;
-    while i < most {
-        let Decoded::Next(_) = call_at(calls, i) else {
+    for i in 0..most {
+        let Some(_) = call_at(calls, i) else {
             return i;
         };
-        i += 1;
     }
-    i
+    most
 }
 
 // Call i of the list, counted from 0; none where the list has no numbers for it.
-pub fn call_at(calls: &[u64], i: usize) -> Decoded
+pub fn call_at(calls: &[u64], i: usize) -> Option<Call>
     ensures { result ≡ call_at calls.now i }
 {
     if calls.len() / CALL_WIDTH <= i {
-        return Decoded::End;
+        return None;
     }
     let at = CALL_WIDTH * i;
     call_of(

@@ -1,12 +1,11 @@
 -- Calls played one after the other, and their answers in the table.
-use Rattle.std.specs.Prelude.{ℕ, ◌+◌, ◌*◌, ◌≤◌, ◌<◌, ◌≡◌, refl, length, take, drop}
+use Rattle.std.specs.Prelude.{Some, None, ℕ, ◌+◌, ◌*◌, ◌≤◌, ◌<◌, ◌≡◌, refl, length, take, drop}
 use Rattle.std.proofs.Common.{arith, ap₂, ◌∙◌, subst, take_all}
 use Rattle.std.proofs.Math.Path.{sym, ap}
 use mathlib.Core.List.{List, [], ◌∷◌, ◌++◌, flat_map, append_assoc}
 use Rattle.model.specs.declared.Layout.{Layout}
 use Rattle.model.specs.declared.Outcome.{Outcome}
 use Rattle.model.specs.declared.Call.{Call}
-use Rattle.model.specs.declared.Decoded.TheVariants as decoded
 use Rattle.model.specs.Runs.{steps_from, played_from}
 use Rattle.model.specs.Histories.{answer_of, played}
 use Rattle.model.specs.Playing.{calls_of, answer_width, answer_numbers, answers_of}
@@ -37,7 +36,7 @@ answers_length l (c ∷ cs) = let rest = answers_length (answer_of l c).layout c
 
 module _ (s : List ℕ) (i : ℕ) (l : Layout) (table : List ℕ) where
   -- played, and its answer written
-  pub there_played : {c : Call} → call_at s i ≡ decoded.Next c → {a : Outcome} → a ≡ answer_of l c
+  pub there_played : {c : Call} → call_at s i ≡ Some c → {a : Outcome} → a ≡ answer_of l c
       → answer_width * i + answer_width ≤ length table → {after : List ℕ} → after ≡ with_answer a table (answer_width * i)
       → (a.layout ≡ played l (call_there s i)) × (after ≡ written table (answer_width * i) (answers_of l (call_there s i)))
   unfolding played_from answers_of steps_from flat_map answer_numbers
@@ -51,7 +50,7 @@ module _ (s : List ℕ) (i : ℕ) (l : Layout) (table : List ℕ) where
       )
 
   -- none there
-  pub there_ended : call_at s i ≡ decoded.End
+  pub there_ended : call_at s i ≡ None
       → (l ≡ played l (call_there s i)) × (table ≡ written table (answer_width * i) (answers_of l (call_there s i)))
   unfolding played_from answers_of steps_from flat_map
   there_ended e =

@@ -9,7 +9,7 @@ returns-in_default c =
 
 pub loop-i-preserved : goal.loop-i-preserved
 loop-i-preserved c =
-    counted_next _ c.loop-i-test.true c.loop-i.invariant (sym c.call_at.ensures ∙ c.in-Next.is)
+    counted_next _ (omega arith) c.loop-i.invariant (sym c.call_at.ensures ∙ c.in-Some.is)
 
 pub returns : goal.returns
 returns c = omega (arith, calls_fit c.args.calls.now)
