@@ -13,14 +13,10 @@ ghost use Rattle.laws.specs.Sums.Numbers.{Bounded};
 pub fn place_of(order: &[u8], v: usize) -> usize
     ensures { result ≡ place order.now v }
 {
-    let mut i = 0;
-    while i < order.len() {
-        if order[i] as usize == v {
-            return i;
-        }
-        i += 1;
-    }
-    i
+    order
+        .iter()
+        .position(|u| usize::from(*u) == v)
+        .unwrap_or(order.len())
 }
 
 // The place of each vertex of an order of n. Of bytes that hold no order nothing is said.
@@ -31,11 +27,8 @@ pub fn places_of(n: usize, order: &[u8; 64]) -> [u8; 64]
     if 64 < n {
         return places;
     }
-    let mut p = 0;
-    while p < n {
-        let v = (order[p] % 64) as usize;
-        places[v] = p as u8;
-        p += 1;
+    for (p, v) in order[..n].iter().enumerate() {
+        places[usize::from(*v % 64)] = p as u8;
     }
     places
 }
