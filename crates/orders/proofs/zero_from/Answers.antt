@@ -1,4 +1,4 @@
-use Rattle.std.proofs.Common.{◌≡◌, ℕ, ◌<◌, ◌↔◌, true, length, get_or, drop, rules}
+use Rattle.std.proofs.Common.{◌≡◌, ℕ, ◌+◌, ◌<◌, ◌↔◌, true, length, get_or, rules}
 use Rattle.words.specs.Each.{told_zeros}
 use Rattle.orders.proofs.zero_from.Goals as goal
 
@@ -6,5 +6,6 @@ pub returns : goal.returns
 returns c =
     let n = c.args.n in
     let xs = c.args.order.now in
-    let told : c.all.result ≡ true ↔ ((k : ℕ) → k < length (drop n xs) → get_or (drop n xs) k 0 ≡ 0) = search rules in
-    told_zeros n xs (search rules) told
+    let size : length xs ≡ 64 = search rules in
+    let told : c.all.result ≡ true ↔ ((k : ℕ) → n + k < length xs → get_or xs (n + k) 0 ≡ 0) = search rules in
+    told_zeros n xs size told

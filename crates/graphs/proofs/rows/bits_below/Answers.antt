@@ -1,4 +1,6 @@
-use Rattle.std.proofs.Common.{◌≡◌, ℕ, suc, ◌^◌, ◌≤◌, ◌<◌, ◌↔◌, true, length, get_or, ltb, min-eq_left, pow_pos, ap, arith, rules}
+use Rattle.std.proofs.Common.{◌≡◌, ℕ, suc, ◌^◌, ◌≤◌, ◌<◌, ◌↔◌, true, length, get_or, ltb, ap, arith, rules}
+use Rattle.std.proofs.Math.Nat.{min-eq_left}
+use lib.Pow.{pow_pos}
 use Rattle.model.specs.Layouts.{bits_below}
 use Rattle.words.specs.Each.{told_each}
 use Rattle.graphs.specs.Bounds.{told_most}
