@@ -35,20 +35,16 @@ pub fn places_of(n: usize, order: &[u8; 64]) -> [u8; 64]
 
 // The entries after the one at place p was taken out and put directly behind the one at place q.
 // A place of 64 or above changes nothing.
+#[tactic(auto, using(std::proofs::lemmas::Bool::Decides::nat_tests))]
 pub fn moved(order: [u8; 64], p: usize, q: usize) -> [u8; 64]
     ensures { result ≡ cond (ltb p 64 && ltb q 64) (shifted order p q) order }
 {
-    if 64 <= p {
-        return order;
-    }
-    if 64 <= q {
+    if 64 <= p || 64 <= q {
         return order;
     }
     let mut next = order;
-    let mut i = 0;
-    while i < 64 {
-        next[i] = order[moved_from(p, q, i)];
-        i += 1;
+    for (i, entry) in next.iter_mut().enumerate() {
+        *entry = order[moved_from(p, q, i)];
     }
     next
 }

@@ -23,7 +23,12 @@ fn even(n: usize, weights: &[u8; 4096]) -> bool
     requires { n ≤ 64 }
     ensures { result ≡ even_below n weights.now }
 {
-    (0..n).all(|u| even_row(weights, u))
+    for u in 0..n {
+        if !even_row(weights, u) {
+            return false;
+        }
+    }
+    true
 }
 
 // The same of u with each vertex up to u itself. No branch on what is read, and 32 bits for what was

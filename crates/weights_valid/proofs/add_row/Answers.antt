@@ -7,13 +7,13 @@ use Rattle.weights_valid.proofs.add_row.Goals as goal
 pub loop-v-init : goal.loop-v-init
 loop-v-init c = added_start (search rules)
 
-pub overflow_mul-bits : goal.overflow_mul-bits
-overflow_mul-bits c =
+pub overflow_mul-byte : goal.overflow_mul-byte
+overflow_mul-byte c =
     record { fits = omega (arith, doubled_fits c.loop-v.invariant (omega arith) c.requires.1) }
 
-pub overflow_add-bits : goal.overflow_add-bits
+pub overflow_add-byte : goal.overflow_add-byte
 unfolding table_weight
-overflow_add-bits c =
+overflow_add-byte c =
     let few = added_fits c.loop-v.invariant (omega arith) c.not_zero.ensures c.requires.1 in
     record { fits = omega (arith, few) }
 
