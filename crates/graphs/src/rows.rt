@@ -7,30 +7,17 @@ ghost use Rattle.model.specs.Layouts.{zero_from, loopless as loopless_words, bit
 pub fn is_bounded(n: usize, adjacency: &[u64; 64]) -> bool
     ensures { let a = adjacency.now in result ≡ (leb n 64 && loopless_words n a && bits_below n a && zero_from n a) }
 {
-    if 64 < n {
-        return false;
-    }
-    if !loopless(n, adjacency) {
-        return false;
-    }
-    if !bits_below(n, adjacency) {
-        return false;
-    }
-    zero_from(n, adjacency)
+    n <= 64
+        && loopless(n, adjacency)
+        && bits_below(n, adjacency)
+        && zero_from(n, adjacency)
 }
 
 // Are the words of vertices that are not there 0?
 fn zero_from(n: usize, adjacency: &[u64; 64]) -> bool
     ensures { result ≡ zero_from n adjacency.now }
 {
-    let mut i = n;
-    while i < 64 {
-        if adjacency[i] != 0 {
-            return false;
-        }
-        i += 1;
-    }
-    true
+    adjacency.iter().skip(n).all(|word| *word == 0)
 }
 
 // Has no word a bit at or above n?
@@ -39,14 +26,7 @@ fn bits_below(n: usize, adjacency: &[u64; 64]) -> bool
     ensures { result ≡ bits_below n adjacency.now }
 {
     let most = words::low_bits(n);
-    let mut v = 0;
-    while v < 64 {
-        if most < adjacency[v] {
-            return false;
-        }
-        v += 1;
-    }
-    true
+    adjacency.iter().all(|word| *word <= most)
 }
 
 // Is no vertex joined to itself?
@@ -54,12 +34,8 @@ fn loopless(n: usize, adjacency: &[u64; 64]) -> bool
     requires { n ≤ 64 }
     ensures { result ≡ loopless_words n adjacency.now }
 {
-    let mut v = 0;
-    while v < n {
-        if words::is_set(adjacency[v], v) {
-            return false;
-        }
-        v += 1;
-    }
-    true
+    adjacency[..n]
+        .iter()
+        .enumerate()
+        .all(|(v, word)| !words::is_set(*word, v))
 }

@@ -8,10 +8,7 @@ ghost use Rattle.model.specs.Layouts.{each_once, zero_from};
 pub fn order_valid(n: usize, order: &[u8; 64]) -> bool
     ensures { result ≡ (leb n 64 && each_once n (take n order.now) && zero_from n order.now) }
 {
-    if !is_order(n, order) {
-        return false;
-    }
-    zero_from(n, order)
+    is_order(n, order) && zero_from(n, order)
 }
 
 // Are n vertices few enough, and do the first n bytes hold each of them once?
@@ -19,13 +16,7 @@ pub fn order_valid(n: usize, order: &[u8; 64]) -> bool
 pub fn is_order(n: usize, bytes: &[u8]) -> bool
     ensures { result ≡ (leb n 64 && each_once n (take n bytes.now)) }
 {
-    if 64 < n {
-        return false;
-    }
-    if bytes.len() < n {
-        return false;
-    }
-    each_once(n, bytes)
+    n <= 64 && n <= bytes.len() && each_once(n, bytes)
 }
 
 // Do the first n places hold each vertex once?
@@ -34,17 +25,12 @@ fn each_once(n: usize, order: &[u8]) -> bool
     ensures { result ≡ each_once n (take n order.now) }
 {
     let mut seen: u64 = 0;
-    let mut p = 0;
-    while p < n {
-        let v = order[p] as usize;
-        if n <= v {
-            return false;
-        }
-        if words::is_set(seen, v) {
+    for v in &order[..n] {
+        let v = usize::from(*v);
+        if n <= v || words::is_set(seen, v) {
             return false;
         }
         seen = words::set(seen, v);
-        p += 1;
     }
     true
 }
@@ -53,12 +39,5 @@ fn each_once(n: usize, order: &[u8]) -> bool
 fn zero_from(n: usize, order: &[u8; 64]) -> bool
     ensures { result ≡ zero_from n order.now }
 {
-    let mut i = n;
-    while i < 64 {
-        if order[i] != 0 {
-            return false;
-        }
-        i += 1;
-    }
-    true
+    order.iter().skip(n).all(|v| *v == 0)
 }

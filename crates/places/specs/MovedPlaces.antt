@@ -1,6 +1,6 @@
 -- A vertex moved in an array: the entries shift by places.
-use Rattle.std.specs.Prelude.{ℕ, zero, suc, ◌+◌, ◌-◌, ◌≤◌, ◌<◌, ◌≡◌, refl, Bool, true, false, cond, ◌&&◌, List, [], ◌∷◌, ◌++◌, map, length, get_or, take, drop, T, eqb, ltb, leb}
-use Rattle.std.proofs.Common.{suc-le-suc, not-suc-le-zero, le_of_suc-le-suc, arith, sym, ap, ap₂, ◌∙◌, length-append, length-drop, get_or-take, get_or-drop, get_or-append-add, ext_get_or, lt-ltb, le-ltb, eq-eqb, ne_eqb}
+use Rattle.std.specs.Prelude.{ℕ, zero, suc, ◌+◌, ◌-◌, ◌≤◌, ◌<◌, ◌≡◌, refl, Bool, true, false, cond, ◌&&◌, List, [], ◌∷◌, ◌++◌, map, length, get_or, take, drop, T, eqb, ltb, leb, Option, Some, None, MatchOption, unwrap_or}
+use Rattle.std.proofs.Common.{le_refl, suc-le-suc, not-suc-le-zero, le_of_suc-le-suc, arith, sym, ap, ap₂, ◌∙◌, length-append, length-drop, get_or-take, get_or-drop, get_or-append-add, ext_get_or, lt-ltb, le-ltb, eq-eqb, ne_eqb}
 use Rattle.std.proofs.lemmas.List.{length-map}
 use Rattle.std.proofs.Math.ListN.{get_or-append}
 use Rattle.laws.specs.Layouts.Refusals.{Pair}
@@ -119,6 +119,13 @@ place_missing v (x ∷ xs) zero n h = absurd (not-suc-le-zero h)
 place_missing v (x ∷ xs) (suc i) n h =
     rw (ne_eqb v x (λ d. n.1 0 (omega arith) (sym d)))
     (ap suc (place_missing v xs i (le_of_suc-le-suc n.0, λ k l. n.1 (suc k) (suc-le-suc l)) (le_of_suc-le-suc h)))
+
+-- so of what a search answers: the place found, or else the length
+pub place_at : (v : ℕ) (xs : List ℕ) (found : Option ℕ) {r : ℕ}
+    → MatchOption found (NotBefore v xs (length xs)) (λ i. NotBefore v xs i × (i < length xs) × (get_or xs i 0 ≡ v))
+    → r ≡ unwrap_or found (length xs) → r ≡ place xs v
+place_at v xs None t e = e ∙ place_missing v xs (length xs) t (le_refl (length xs))
+place_at v xs (Some i) t e = e ∙ place_found v xs i t.0 t.1 t.2
 
 -- the array that moving by places gives
 pub moved_array : {l : Layout} {a b : ℕ} → Pair l a b → length l.order ≡ 64 → {p q : ℕ} {places : List ℕ}

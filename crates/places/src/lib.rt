@@ -13,14 +13,10 @@ ghost use Rattle.laws.specs.Sums.Numbers.{Bounded};
 pub fn place_of(order: &[u8], v: usize) -> usize
     ensures { result ≡ place order.now v }
 {
-    let mut i = 0;
-    while i < order.len() {
-        if order[i] as usize == v {
-            return i;
-        }
-        i += 1;
-    }
-    i
+    order
+        .iter()
+        .position(|u| usize::from(*u) == v)
+        .unwrap_or(order.len())
 }
 
 // The place of each vertex of an order of n. Of bytes that hold no order nothing is said.
@@ -31,31 +27,24 @@ pub fn places_of(n: usize, order: &[u8; 64]) -> [u8; 64]
     if 64 < n {
         return places;
     }
-    let mut p = 0;
-    while p < n {
-        let v = (order[p] % 64) as usize;
-        places[v] = p as u8;
-        p += 1;
+    for (p, v) in order[..n].iter().enumerate() {
+        places[usize::from(*v % 64)] = p as u8;
     }
     places
 }
 
 // The entries after the one at place p was taken out and put directly behind the one at place q.
 // A place of 64 or above changes nothing.
+#[tactic(auto, using(std::proofs::lemmas::Bool::Decides::nat_tests))]
 pub fn moved(order: [u8; 64], p: usize, q: usize) -> [u8; 64]
     ensures { result ≡ cond (ltb p 64 && ltb q 64) (shifted order p q) order }
 {
-    if 64 <= p {
-        return order;
-    }
-    if 64 <= q {
+    if 64 <= p || 64 <= q {
         return order;
     }
     let mut next = order;
-    let mut i = 0;
-    while i < 64 {
-        next[i] = order[moved_from(p, q, i)];
-        i += 1;
+    for (i, entry) in next.iter_mut().enumerate() {
+        *entry = order[moved_from(p, q, i)];
     }
     next
 }

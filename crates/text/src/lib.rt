@@ -3,7 +3,6 @@
 #![tactic(auto)]
 
 ghost use Rattle.std.specs.Prelude.{◌≡◌, ◌+◌, ◌≤◌, length, ltb};
-ghost use Rattle.laws.specs.Buffers.Writing.{Written};
 ghost use Rattle.text.specs.Room.{Put};
 
 pub fn put_text(out: &mut [u8], at: usize, t: &[u8]) -> usize
@@ -12,30 +11,14 @@ pub fn put_text(out: &mut [u8], at: usize, t: &[u8]) -> usize
     if lacks(out.len(), at, t.len()) {
         return at;
     }
-    copy_text(out, at, t)
+    let end = at + t.len();
+    out[at..end].copy_from_slice(t);
+    end
 }
 
 // Are there not so many places from place at on?
 pub fn lacks(size: usize, at: usize, room: usize) -> bool
     ensures { result ≡ ltb size (at + room) }
 {
-    if size < room {
-        return true;
-    }
-    if size - room < at {
-        return true;
-    }
-    false
-}
-
-fn copy_text(out: &mut [u8], at: usize, t: &[u8]) -> usize
-    requires { at + length t.now ≤ length out.old }
-    ensures { Written out.old at t.now out.new result }
-{
-    let mut i = 0;
-    while i < t.len() {
-        out[at + i] = t[i];
-        i += 1;
-    }
-    at + i
+    size < room || size - room < at
 }

@@ -6,10 +6,10 @@
 mod light;
 mod units;
 
-ghost use Rattle.std.specs.Prelude.{◌≡◌, ◌+◌, ◌*◌, ◌-◌, ◌%◌, ◌<◌, ◌≤◌, length};
+ghost use Rattle.std.specs.Prelude.{◌≡◌, ℕ, ◌*◌, ◌%◌, ◌<◌, ◌≤◌, length};
 ghost use Rattle.model.specs.Edits.{both_ways};
 ghost use Rattle.laws.specs.Sums.Numbers.{Bounded};
-ghost use Rattle.laws.specs.Tables.Rows.{table_weight, row_weight, row_sum, most_weight, most_sum, RowsOf, AddedRow, TakenRow};
+ghost use Rattle.laws.specs.Tables.Rows.{table_weight, row_weight, row_sum, most_weight, most_sum, RowsOf, AddedRow, TakenRow, ChangingUpTo};
 
 pub use light::all_unit;
 pub use units::unit_table;
@@ -25,13 +25,7 @@ fn entry(weights: &[u8; 4096], u: usize, v: usize) -> u32
     requires { (u < 64) × (v < 64) }
     ensures { Bounded (table_weight weights.now u v) 255 result }
 {
-    wide(weights[64 * u + v])
-}
-
-fn wide(b: u8) -> u32
-    ensures { Bounded b 255 result }
-{
-    b as u32
+    u32::from(weights[64 * u + v])
 }
 
 // The weight of a vertex: the sum of its row.
@@ -45,11 +39,9 @@ fn row_total(weights: &[u8; 4096], v: usize) -> u32
     requires { v < 64 }
     ensures { Bounded (row_weight weights.now v) most_weight result }
 {
-    let mut total: u32 = 0;
-    let mut i = 0;
-    while i < 64 {
+    let mut total = 0;
+    for i in 0..64 {
         total += entry(weights, v, i);
-        i += 1;
     }
     total
 }
@@ -58,11 +50,9 @@ fn row_total(weights: &[u8; 4096], v: usize) -> u32
 pub fn row_weights(weights: &[u8; 4096]) -> [u16; 64]
     ensures { RowsOf weights.now result }
 {
-    let mut rows = [0u16; 64];
-    let mut v = 0;
-    while v < 64 {
-        rows[v] = row_total(weights, v) as u16;
-        v += 1;
+    let mut rows = [0; 64];
+    for (v, row) in rows.iter_mut().enumerate() {
+        *row = row_total(weights, v) as u16;
     }
     rows
 }
@@ -78,11 +68,9 @@ fn row_products(weights: &[u8; 4096], v: usize, numbers: &[u16; 64]) -> u32
     requires { v < 64 }
     ensures { Bounded (row_sum weights.now v numbers.now) most_sum result }
 {
-    let mut total: u32 = 0;
-    let mut i = 0;
-    while i < 64 {
+    let mut total = 0;
+    for i in 0..64 {
         total += product(entry(weights, v, i), numbers[i]);
-        i += 1;
     }
     total
 }
@@ -93,59 +81,34 @@ fn product(a: u32, b: u16) -> u32
     ensures { Bounded (a * (b % 32768)) 8355585 result }
 {
     let low = b % 32768;
-    a * low as u32
+    a * u32::from(low)
 }
 
 // A row added to 64 numbers, each modulo 2^16.
 pub fn add_row(numbers: &mut [u16; 64], weights: &[u8; 4096], v: usize)
     ensures { length numbers.old ≡ 64 → AddedRow weights.now (v % 64) numbers.old numbers.new }
 {
-    add_entries(numbers, weights, v % 64)
-}
-
-fn add_entries(numbers: &mut [u16; 64], weights: &[u8; 4096], v: usize)
-    requires { v < 64 }
-    ensures { length numbers.old ≡ 64 → AddedRow weights.now v numbers.old numbers.new }
-{
-    let mut y = 0;
-    while y < 64 {
-        let w = entry(weights, v, y);
-        numbers[y] = grown(numbers[y], w);
-        y += 1;
-    }
-}
-
-fn grown(x: u16, w: u32) -> u16
-    requires { w ≤ 255 }
-    ensures { (result ≡ (x + w) % 65536) × (x < 65536) }
-{
-    ((x as u32 + w) % 65536) as u16
+    change(numbers, weights, v % 64, |x, w| x.wrapping_add(w))
 }
 
 // A row taken away from 64 numbers, each modulo 2^16.
 pub fn sub_row(numbers: &mut [u16; 64], weights: &[u8; 4096], v: usize)
     ensures { length numbers.old ≡ 64 → TakenRow weights.now (v % 64) numbers.old numbers.new }
 {
-    sub_entries(numbers, weights, v % 64)
+    change(numbers, weights, v % 64, |x, w| x.wrapping_sub(w))
 }
 
-fn sub_entries(numbers: &mut [u16; 64], weights: &[u8; 4096], v: usize)
-    requires { v < 64 }
-    ensures { length numbers.old ≡ 64 → TakenRow weights.now v numbers.old numbers.new }
+// Each of 64 numbers changed by its weight in a row: f says what is made of the two.
+fn change<F: Fn(u16, u16) -> u16>(numbers: &mut [u16; 64], weights: &[u8; 4096], v: usize, by: F)
+    ghost f: { ℕ → ℕ → ℕ }
+    requires row { v < 64 }
+    requires callable { F.IsAlwaysCallable by }
+    requires computes { (x w r : ℕ) → F.post by x w r → r ≡ f x w }
+    ensures { length numbers.old ≡ 64 → ChangingUpTo f weights.now v numbers.old numbers.new 64 }
 {
-    let mut y = 0;
-    while y < 64 {
-        let w = entry(weights, v, y);
-        numbers[y] = lessened(numbers[y], w);
-        y += 1;
+    for (y, number) in numbers.iter_mut().enumerate() {
+        *number = by(*number, entry(weights, v, y) as u16);
     }
-}
-
-fn lessened(x: u16, w: u32) -> u16
-    requires { w ≤ 255 }
-    ensures { (result ≡ (x + (65536 - w)) % 65536) × (x < 65536) }
-{
-    ((x as u32 + (65536 - w)) % 65536) as u16
 }
 
 // A weight between two vertices, both ways round. Vertices are taken modulo 64.

@@ -15,13 +15,7 @@ pub fn is_weighted_graph(n: usize, adjacency: &[u64; 64], weights: &[u8; 4096]) 
     ensures { let a = adjacency.now in
         result ≡ (leb n 64 && symmetric n a && loopless n a && bits_below n a && zero_from n a && weights_fit n a weights.now) }
 {
-    if !graphs::is_bounded(n, adjacency) {
-        return false;
-    }
-    if !even(n, weights) {
-        return false;
-    }
-    on_edges(adjacency, weights)
+    graphs::is_bounded(n, adjacency) && even(n, weights) && on_edges(adjacency, weights)
 }
 
 // Does each two of the vertices have equal weights both ways round?
@@ -29,12 +23,10 @@ fn even(n: usize, weights: &[u8; 4096]) -> bool
     requires { n ≤ 64 }
     ensures { result ≡ even_below n weights.now }
 {
-    let mut u = 0;
-    while u < n {
+    for u in 0..n {
         if !even_row(weights, u) {
             return false;
         }
-        u += 1;
     }
     true
 }
@@ -46,10 +38,8 @@ fn even_row(weights: &[u8; 4096], u: usize) -> bool
     ensures { result ≡ even_row weights.now u }
 {
     let mut differences: u32 = 0;
-    let mut v = 0;
-    while v <= u {
+    for v in 0..=u {
         differences = joined(differences, weights[64 * u + v], weights[64 * v + u]);
-        v += 1;
     }
     differences == 0
 }
@@ -58,21 +48,14 @@ fn even_row(weights: &[u8; 4096], u: usize) -> bool
 fn joined(differences: u32, a: u8, b: u8) -> u32
     ensures { eqb result 0 ≡ (eqb differences 0 && (eqb a b && leb a 255)) }
 {
-    differences | ((a as u32) ^ (b as u32))
+    differences | u32::from(a ^ b)
 }
 
 // Is a weight 0 exactly where the word of its second vertex has no bit for the first?
 fn on_edges(adjacency: &[u64; 64], weights: &[u8; 4096]) -> bool
     ensures { result ≡ on_edges adjacency.now weights.now }
 {
-    let mut k = 0;
-    while k < 8 {
-        if !group_fits(adjacency, weights, k) {
-            return false;
-        }
-        k += 1;
-    }
-    true
+    (0..8).all(|k| group_fits(adjacency, weights, k))
 }
 
 // The same of rows 8 * k to 8 * k + 7. Of each column the eight weights become the bits of a byte, 64
@@ -82,23 +65,19 @@ fn group_fits(adjacency: &[u64; 64], weights: &[u8; 4096], k: usize) -> bool
     ensures { result ≡ group_fits adjacency.now weights.now k }
 {
     let mut bits = [0u8; 64];
-    let mut j = 8;
-    while 0 < j {
-        j -= 1;
+    for j in (0..8).rev() {
         add_row(&mut bits, weights, 8 * k + j);
     }
     bits_fit(adjacency, &bits, k)
 }
 
 // Row u becomes the lowest bits.
-fn add_row(bits: &mut [u8], weights: &[u8; 4096], u: usize)
-    requires { (u < 64) × (length bits.old ≡ 64) × Few bits.old }
+fn add_row(bits: &mut [u8; 64], weights: &[u8; 4096], u: usize)
+    requires { (u < 64) × Few bits.old }
     ensures { RowAdded weights.now u bits.old bits.new }
 {
-    let mut v = 0;
-    while v < 64 {
-        bits[v] = 2 * bits[v] + not_zero(weights[64 * u + v]);
-        v += 1;
+    for (v, byte) in bits.iter_mut().enumerate() {
+        *byte = 2 * *byte + not_zero(weights[64 * u + v]);
     }
 }
 
@@ -106,7 +85,7 @@ fn add_row(bits: &mut [u8], weights: &[u8; 4096], u: usize)
 fn not_zero(weight: u8) -> u8
     ensures { result ≡ one (ltb 0 weight) }
 {
-    if 0 < weight { 1 } else { 0 }
+    u8::from(0 < weight)
 }
 
 // Is each column's byte that of the vertex's word? No branch on what is read, as in even_row.
@@ -115,10 +94,8 @@ fn bits_fit(adjacency: &[u64; 64], bits: &[u8; 64], k: usize) -> bool
     ensures { result ≡ bits_fit adjacency.now bits.now k }
 {
     let mut differences: u32 = 0;
-    let mut v = 0;
-    while v < 64 {
+    for v in 0..64 {
         differences = joined(differences, byte_of(adjacency[v], k), bits[v]);
-        v += 1;
     }
     differences == 0
 }

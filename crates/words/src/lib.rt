@@ -8,13 +8,15 @@ ghost use Rattle.model.specs.Crossings.{bit};
 ghost use Rattle.model.specs.Edits.{with_bit, without_bit};
 ghost use Rattle.laws.specs.Sums.Bits.{masked_ones};
 
+#[tactic(auto, unfolding(model::specs::Crossings::bit))]
 pub fn is_set(word: u64, i: usize) -> bool
     ensures { result ≡ eqb (bit word i) 1 }
 {
-    if i < 64 { (word >> i) % 2 == 1 } else { false }
+    i < 64 && (word >> i) % 2 == 1
 }
 
 // The bit at a place: 0 or 1.
+#[tactic(auto, unfolding(model::specs::Crossings::bit))]
 pub fn bit_at(word: u64, i: usize) -> u32
     ensures { result ≡ bit word i }
 {
@@ -48,7 +50,7 @@ pub fn common(a: u64, b: u64) -> u64
 pub fn count(word: u64, mask: u64) -> u32
     ensures { result ≡ masked_ones word mask }
 {
-    u64::count_ones(word & mask)
+    (word & mask).count_ones()
 }
 
 // The n lowest bits set; all 64 for an n above 64.

@@ -1,9 +1,5 @@
-use Prim.Native.Nat.{◌-◌}
 use Rattle.orders.specs.Seen.{SeenUpTo}
 use Rattle.orders.proofs.each_once.Given as goal
 
-abbrev pub invariant-loop-p : goal.invariant-loop-p
-invariant-loop-p l = SeenUpTo l.n l.order l.seen l.p
-
-abbrev pub decreases-loop-p : goal.decreases-loop-p
-decreases-loop-p l = l.n - l.p
+abbrev pub invariant-loop-v : goal.invariant-loop-v
+invariant-loop-v l = SeenUpTo l.n l.order l.seen l.v-index

@@ -1,14 +1,11 @@
-use Rattle.laws.specs.Layouts.Zeros.{zero_none, zero_next, zero_all, zero_fails}
+use Rattle.std.proofs.Common.{◌≡◌, ℕ, ◌+◌, ◌<◌, ◌↔◌, true, length, get_or, rules}
+use Rattle.words.specs.Each.{told_zeros}
 use Rattle.orders.proofs.zero_from.Goals as goal
 
-pub loop-i-init : goal.loop-i-init
-loop-i-init c = zero_none
-
-pub returns-then-order-i-ne0 : goal.returns-then-order-i-ne0
-returns-then-order-i-ne0 c = zero_fails c.loop-i.invariant c.loop-i-test.true c.if-order-i-ne0.true
-
-pub loop-i-preserved : goal.loop-i-preserved
-loop-i-preserved c = zero_next c.loop-i.invariant c.if-order-i-ne0.false
-
 pub returns : goal.returns
-returns c = zero_all c.loop-i.invariant c.loop-i-test.false
+returns c =
+    let n = c.args.n in
+    let xs = c.args.order.now in
+    let size : length xs ≡ 64 = search rules in
+    let told : c.all.result ≡ true ↔ ((k : ℕ) → n + k < length xs → get_or xs (n + k) 0 ≡ 0) = search rules in
+    told_zeros n xs size told

@@ -5,7 +5,5 @@ use Rattle.laws.specs.Orders.Moves.{moved_from}
 use Rattle.places.proofs.moved.Given as goal
 
 abbrev pub invariant-loop-i : goal.invariant-loop-i
-invariant-loop-i l = FilledUpTo (λ k. get_or l.order (moved_from l.p l.q k) 0) 64 l.next l.i
+invariant-loop-i l = FilledUpTo (λ k. get_or l.order (moved_from l.p l.q k) 0) 64 l.entry-items l.i
 
-abbrev pub decreases-loop-i : goal.decreases-loop-i
-decreases-loop-i l = 64 - l.i

@@ -1,4 +1,4 @@
-use native.Mathlib.Omega.{arith}
+use Rattle.std.proofs.Common.{◌<◌, get_or-take, length-take-le, arith}
 use Rattle.places.specs.AllPlaces.{places_start, places_next, places_end}
 use Rattle.places.proofs.places_of.Goals as goal
 
@@ -9,7 +9,10 @@ pub loop-p-init : goal.loop-p-init
 loop-p-init c = places_start c.if-n-gt64.false
 
 pub loop-p-preserved : goal.loop-p-preserved
-loop-p-preserved c = places_next c.loop-p.invariant c.loop-p-test.true
+loop-p-preserved c =
+    let inside : c.loop-p.p < c.args.n = omega (arith, length-take-le c.args.n c.args.order.now (omega arith)) in
+    let entry = get_or-take c.args.n c.args.order.now c.loop-p.p 0 inside in
+    rw (c.from.ensures, entry) (places_next c.loop-p.invariant inside)
 
 pub returns : goal.returns
-returns c few = places_end c.loop-p.invariant c.loop-p-test.false
+returns c few = places_end c.loop-p.invariant (omega (arith, length-take-le c.args.n c.args.order.now (omega arith)))

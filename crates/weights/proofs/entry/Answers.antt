@@ -1,6 +1,7 @@
+use Rattle.std.proofs.Common.{arith}
 use Rattle.laws.specs.Tables.Rows.{table_weight}
 use Rattle.weights.proofs.entry.Goals as goal
 
 pub returns : goal.returns
 unfolding table_weight
-returns c = record { is = c.wide.ensures.is; small = c.wide.ensures.small }
+returns c = record { is = c.from.ensures; small = omega (arith, c.from.ensures) }

@@ -1,29 +1,26 @@
 use native.Mathlib.Omega.{arith}
-use mathlib.Core.Path.{sym, ◌∙◌}
+use Rattle.std.proofs.Common.{rules}
 use Rattle.model.specs.Layouts.{table_weight}
 use Rattle.weights_valid.specs.Bytes.{added_start, doubled_fits, added_fits, added_next, added_end}
 use Rattle.weights_valid.proofs.add_row.Goals as goal
 
 pub loop-v-init : goal.loop-v-init
-loop-v-init c = added_start c.requires.1
+loop-v-init c = added_start (search rules)
 
-pub overflow_mul-bits : goal.overflow_mul-bits
-overflow_mul-bits c =
-    record { fits = omega (arith, doubled_fits c.loop-v.invariant c.loop-v-test.true c.requires.2) }
+pub overflow_mul-byte : goal.overflow_mul-byte
+overflow_mul-byte c =
+    record { fits = omega (arith, doubled_fits c.loop-v.invariant (omega arith) c.requires.1) }
 
-pub overflow_add-bits : goal.overflow_add-bits
+pub overflow_add-byte : goal.overflow_add-byte
 unfolding table_weight
-overflow_add-bits c =
-    let few = added_fits c.loop-v.invariant c.loop-v-test.true c.not_zero.ensures c.requires.2 in
+overflow_add-byte c =
+    let few = added_fits c.loop-v.invariant (omega arith) c.not_zero.ensures c.requires.1 in
     record { fits = omega (arith, few) }
 
 pub loop-v-preserved : goal.loop-v-preserved
 unfolding table_weight
 loop-v-preserved c =
-    added_next c.loop-v.invariant c.loop-v-test.true c.not_zero.ensures
-
-pub shape_of-bits : goal.shape_of-bits
-shape_of-bits c = c.loop-v.invariant.size ∙ sym c.requires.1
+    added_next c.loop-v.invariant (omega arith) c.not_zero.ensures
 
 pub returns : goal.returns
-returns c = added_end c.loop-v.invariant (omega (arith, c.loop-v-test.false))
+returns c = added_end c.loop-v.invariant (omega (arith, c.loop-v.invariant.size))

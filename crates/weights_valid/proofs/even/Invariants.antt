@@ -6,5 +6,3 @@ use Rattle.weights_valid.proofs.even.Given as goal
 abbrev pub invariant-loop-u : goal.invariant-loop-u
 invariant-loop-u l = PassedBelow (even_row l.weights) l.n l.u
 
-abbrev pub decreases-loop-u : goal.decreases-loop-u
-decreases-loop-u l = l.n - l.u

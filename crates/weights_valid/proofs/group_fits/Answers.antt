@@ -1,13 +1,9 @@
 use native.Mathlib.Omega.{arith}
-use mathlib.Core.Path.{sym}
 use Rattle.weights_valid.specs.Bytes.{bits_start, bits_few, bits_next, bits_group}
 use Rattle.weights_valid.proofs.group_fits.Goals as goal
 
 pub loop-j-init : goal.loop-j-init
 loop-j-init c = bits_start
-
-pub slice_bounds-add_row-end : goal.slice_bounds-add_row-end
-slice_bounds-add_row-end c = sym c.loop-j.invariant.size
 
 pub overflow_add-k : goal.overflow_add-k
 overflow_add-k c = omega (arith, c.loop-j.invariant.inside)
@@ -15,7 +11,7 @@ overflow_add-k c = omega (arith, c.loop-j.invariant.inside)
 pub add_row-requires : goal.add_row-requires
 add_row-requires c =
     let so_far = c.loop-j.invariant in
-    (omega (arith, so_far.inside, c.requires), so_far.size, bits_few so_far (omega (arith, c.loop-j-test.true)))
+    (omega (arith, so_far.inside, c.requires), bits_few so_far (omega (arith, c.loop-j-test.true)))
 
 pub loop-j-preserved : goal.loop-j-preserved
 loop-j-preserved c =

@@ -1,23 +1,12 @@
-use native.Mathlib.Omega.{arith}
-use Rattle.laws.specs.Sums.Below.{below_start, below_next, below_all, below_fails}
-use Rattle.weights_valid.specs.Bytes.{on_edges}
+use Rattle.std.proofs.Common.{◌≡◌, ℕ, ◌<◌, ◌↔◌, true, rules}
+use Rattle.std.proofs.iter.runs.Sources.{ranges}
+use Rattle.words.specs.Each.{told_each}
+use Rattle.weights_valid.specs.Bytes.{group_fits, on_edges}
 use Rattle.weights_valid.proofs.on_edges.Goals as goal
-
-pub loop-k-init : goal.loop-k-init
-loop-k-init c = below_start
-
-pub group_fits-requires : goal.group_fits-requires
-group_fits-requires c = omega (arith, c.loop-k-test.true)
-
-pub returns-then-not-group_fits : goal.returns-then-not-group_fits
-unfolding on_edges
-returns-then-not-group_fits c =
-    below_fails c.loop-k.invariant (omega (arith, c.loop-k-test.true)) c.group_fits.ensures (c.if-not-group_fits.true)
-
-pub loop-k-preserved : goal.loop-k-preserved
-loop-k-preserved c =
-    below_next c.loop-k.invariant (omega (arith, c.loop-k-test.true)) c.group_fits.ensures (c.if-not-group_fits.false)
 
 pub returns : goal.returns
 unfolding on_edges
-returns c = below_all c.loop-k.invariant (omega (arith, c.loop-k-test.false))
+returns c =
+    let fits = group_fits c.args.adjacency.now c.args.weights.now in
+    let told : c.all.result ≡ true ↔ ((k : ℕ) → k < 8 → fits k ≡ true) = search (rules, ranges) in
+    told_each fits 8 told

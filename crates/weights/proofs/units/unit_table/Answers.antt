@@ -1,6 +1,4 @@
-use borrow.Author.Rules.{rules}
-use native.Mathlib.Omega.{arith}
-use mathlib.Core.Path.{refl}
+use Rattle.std.proofs.Common.{arith, rules, refl}
 use Rattle.model.specs.Crossings.{bit}
 use Rattle.laws.specs.Sums.Loops.{filled_start, filled_next, filled_end}
 use Rattle.weights.specs.Units.{unit_table}
@@ -11,9 +9,8 @@ loop-i-init c = filled_start (search rules)
 
 pub loop-i-preserved : goal.loop-i-preserved
 unfolding bit
-loop-i-preserved c =
-    filled_next c.loop-i.invariant (omega (arith, c.loop-i-test.true)) refl
+loop-i-preserved c = filled_next c.loop-i.invariant (omega (arith, c.loop-i.invariant.size)) refl
 
 pub returns : goal.returns
 unfolding unit_table
-returns c = filled_end c.loop-i.invariant (omega (arith, c.loop-i-test.false))
+returns c = filled_end c.loop-i.invariant (omega (arith, c.loop-i.invariant.size))

@@ -1,0 +1,2 @@
+-- Each: what a test of every entry says.
+pub mod Each
