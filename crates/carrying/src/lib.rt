@@ -10,14 +10,15 @@ use model::Layout;
 
 // The count plus the crossings after, less the crossings before, modulo 2^64, whatever count came
 // in.
+#[tactic(auto, unfolding(model::specs::Layouts::carried))]
 pub fn carried(count: u64, before: u64, after: u64) -> u64
     ensures { result ≡ carried_count count before after }
 {
-    let raised = std::num::wrapping_add_u64(count, after);
-    std::num::wrapping_sub_u64(raised, before)
+    count.wrapping_add(after).wrapping_sub(before)
 }
 
 // A layout changed whose crossings are known after the change: those before it are counted.
+#[tactic(auto, unfolding(laws::specs::Layouts::Recount::carried_to))]
 pub fn carried_to(
     l: Layout,
     n: usize,
@@ -39,6 +40,7 @@ pub fn carried_to(
 }
 
 // Both crossings counted: for a call that knows neither.
+#[tactic(auto, unfolding(laws::specs::Layouts::Recount::recounted))]
 pub fn recounted(
     l: Layout,
     n: usize,

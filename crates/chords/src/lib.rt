@@ -25,38 +25,34 @@ pub fn chord_crossings(n: usize, order: &[u8; 64], weights: &[u8; 4096]) -> [u32
         return chords;
     }
     let rows = weights::row_weights(weights);
-    let mut i = 0;
-    while i < n {
+    for i in 0..n {
         chord_row(&mut chords, n, order, weights, &rows, i);
-        i += 1;
     }
     chords
 }
 
 // The chords from place i to every later one, with the weights of all vertices given.
 fn chord_row(
-    chords: &mut [u32],
+    chords: &mut [u32; 4096],
     n: usize,
     order: &[u8; 64],
     weights: &[u8; 4096],
     rows: &[u16; 64],
     i: usize,
 )
-    requires { (n ≤ 64) × (i < n) × (length chords.old ≡ 4096) × (RowsOf weights.now rows.now) }
+    requires { (n ≤ 64) × (i < n) × (RowsOf weights.now rows.now) }
     ensures { RowOf n order.now weights.now i chords.old chords.new }
 {
     let first = (order[i] % 64) as usize;
     let mut passed = [0u16; 64];
     let mut outgoing = 0;
-    let mut k = i + 1;
-    while k < n {
+    for k in i + 1..n {
         let v = (order[k] % 64) as usize;
         let start = weights::weight_at(weights, v, first);
         let chord = next_chord(outgoing, passed[v], rows[v], start);
         chords[i * 64 + k] = chord.crossed;
         outgoing = chord.outgoing;
         weights::add_row(&mut passed, weights, v);
-        k += 1;
     }
 }
 
@@ -65,9 +61,7 @@ fn chord_row(
 fn next_chord(outgoing: u32, ending: u16, row: u16, start: u32) -> Chord
     ensures { NextChord outgoing ending row start result }
 {
-    let crossed = std::num::wrapping_sub_u32(outgoing, ending as u32);
-    let others = std::num::wrapping_sub_u32(row as u32, ending as u32);
-    let leaving = std::num::wrapping_sub_u32(others, start);
-    let outgoing = std::num::wrapping_add_u32(crossed, leaving);
-    Chord { crossed, outgoing }
+    let crossed = outgoing.wrapping_sub(u32::from(ending));
+    let leaving = u32::from(row).wrapping_sub(u32::from(ending)).wrapping_sub(start);
+    Chord { crossed, outgoing: crossed.wrapping_add(leaving) }
 }

@@ -28,12 +28,10 @@ pub fn count_crossings(n: usize, order: &[u8; 64], weights: &[u8; 4096]) -> u64
     }
     let mut before = [0u16; 64];
     let mut total: u64 = 0;
-    let mut j = 0;
-    while j < n {
+    for j in 0..n {
         total += count_row(n, order, weights, &before, j);
         let u = (order[j] % 64) as usize;
         weights::add_row(&mut before, weights, u);
-        j += 1;
     }
     total
 }
@@ -47,18 +45,10 @@ fn count_row(n: usize, order: &[u8; 64], weights: &[u8; 4096], before: &[u16; 64
     let u = (order[j] % 64) as usize;
     let mut beyond: u32 = 0;
     let mut total: u64 = 0;
-    let mut k = n;
-    while j + 1 < k {
-        k -= 1;
+    for k in (j + 1..n).rev() {
         let x = (order[k] % 64) as usize;
-        total += product(before[x], beyond);
+        total += u64::from(before[x]) * u64::from(beyond);
         beyond += weights::weight_at(weights, u, x);
     }
     total
-}
-
-fn product(a: u16, b: u32) -> u64
-    ensures { result ≡ a * b }
-{
-    (a as u64) * (b as u64)
 }

@@ -15,30 +15,32 @@ use text::{lacks, put_text};
 pub fn put_number(out: &mut [u8], at: usize, x: u64) -> usize
     ensures { Put 21 out.old at (spaced x) out.new result }
 {
-    if lacks(out.len(), at, 21) {
-        return at;
-    }
-    put_spaced(out, at, x)
+    put_at_most(out, at, x, 21)
 }
 
 // A number below 256.
 pub fn put_small(out: &mut [u8], at: usize, x: u8) -> usize
     ensures { Put 4 out.old at (spaced x) out.new result }
 {
-    if lacks(out.len(), at, 4) {
+    put_at_most(out, at, u64::from(x), 4)
+}
+
+// A number of at most so many bytes, its space counted.
+fn put_at_most(out: &mut [u8], at: usize, x: u64, most: usize) -> usize
+    requires { length (spaced x) ≤ most }
+    ensures { Put most out.old at (spaced x) out.new result }
+{
+    if lacks(out.len(), at, most) {
         return at;
     }
-    put_spaced(out, at, x as u64)
+    put_spaced(out, at, x)
 }
 
 // Each byte as a number.
 pub fn put_bytes(out: &mut [u8], at: usize, bytes: &[u8]) -> usize
     ensures { Put (4 * length bytes.now) out.old at (flat_map spaced bytes.now) out.new result }
 {
-    if out.len() / 4 < bytes.len() {
-        return at;
-    }
-    if lacks(out.len(), at, 4 * bytes.len()) {
+    if out.len() / 4 < bytes.len() || lacks(out.len(), at, 4 * bytes.len()) {
         return at;
     }
     each_byte(out, at, bytes)
@@ -69,10 +71,8 @@ fn each_byte(out: &mut [u8], at: usize, bytes: &[u8]) -> usize
     ensures { Written out.old at (flat_map spaced bytes.now) out.new result × (result ≤ at + 4 * length bytes.now) }
 {
     let mut to = at;
-    let mut i = 0;
-    while i < bytes.len() {
-        to = put_small(out, to, bytes[i]);
-        i += 1;
+    for &byte in bytes {
+        to = put_small(out, to, byte);
     }
     to
 }

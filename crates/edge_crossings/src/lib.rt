@@ -65,15 +65,14 @@ fn put_each(
     ensures { let all = numbered chords.now places.now weights.now ends.now count in
         Written table.old 0 all table.new result }
 {
-    let mut i = 0;
-    while i < count {
+    for i in 0..count {
         table[i] = number_of(chords, places, weights, ends[2 * i], ends[2 * i + 1]);
-        i += 1;
     }
-    i
+    count
 }
 
 // The crossings of the edge with these ends: its weight with that of each edge that it crosses.
+#[tactic(auto, unfolding(crate::specs::Numbers::number_of))]
 fn number_of(
     chords: &[u32; 4096],
     places: &[u8; 64],
@@ -85,32 +84,24 @@ fn number_of(
 {
     let weight = weights::weight_at(weights, low as usize, high as usize);
     let crossed = chord_at(chords, places, low, high);
-    product(weight, crossed)
+    u64::from(weight) * u64::from(crossed)
 }
 
 // The weight of the edges that a chord between two vertices crosses.
+#[tactic(auto, unfolding(crate::specs::Numbers::chord_at))]
 fn chord_at(chords: &[u32; 4096], places: &[u8; 64], low: u8, high: u8) -> u32
     ensures { result ≡ chord_at chords.now places.now low high }
 {
     let p = place_at(places, low);
     let q = place_at(places, high);
-    if p < q {
-        chords[p * 64 + q]
-    } else {
-        chords[q * 64 + p]
-    }
+    chords[p.min(q) * 64 + p.max(q)]
 }
 
 // The place of a vertex; vertices and places are taken modulo 64.
+#[tactic(auto, unfolding(crate::specs::Numbers::place_at))]
 fn place_at(places: &[u8; 64], v: u8) -> usize
     ensures { Bounded (place_at places.now v) 63 result }
 {
     let u = (v % 64) as usize;
     (places[u] % 64) as usize
-}
-
-fn product(a: u32, b: u32) -> u64
-    ensures { result ≡ a * b }
-{
-    (a as u64) * (b as u64)
 }

@@ -17,10 +17,8 @@ pub fn edge_count(n: usize, adjacency: &[u64; 64]) -> u32
         return 0;
     }
     let mut total: u32 = 0;
-    let mut a = 0;
-    while a < n {
+    for a in 0..n {
         total += row_count(n, adjacency[a], a);
-        a += 1;
     }
     total
 }
@@ -32,10 +30,7 @@ pub fn put_edges(out: &mut [u8], at: usize, n: usize, adjacency: &[u64; 64]) -> 
         Put (2 * length es) out.old at (edge_bytes es) out.new result }
 {
     let count = edge_count(n, adjacency) as usize;
-    if text::lacks(out.len(), at, 2 * count) {
-        return at;
-    }
-    if 64 < n {
+    if 64 < n || text::lacks(out.len(), at, 2 * count) {
         return at;
     }
     put_rows(out, at, n, adjacency)
@@ -46,10 +41,8 @@ fn put_rows(out: &mut [u8], at: usize, n: usize, adjacency: &[u64; 64]) -> usize
     ensures { Written out.old at (edge_bytes (edges n adjacency.now)) out.new result }
 {
     let mut to = at;
-    let mut a = 0;
-    while a < n {
+    for a in 0..n {
         to = put_row(out, to, n, adjacency[a], a);
-        a += 1;
     }
     to
 }
@@ -60,14 +53,12 @@ fn put_row(out: &mut [u8], at: usize, n: usize, word: u64, a: usize) -> usize
     ensures { Written out.old at (edge_bytes (row_edges word a n)) out.new result }
 {
     let mut to = at;
-    let mut b = a + 1;
-    while b < n {
+    for b in a + 1..n {
         if words::is_set(word, b) {
             out[to] = a as u8;
             out[to + 1] = b as u8;
             to += 2;
         }
-        b += 1;
     }
     to
 }

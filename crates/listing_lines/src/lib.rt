@@ -52,10 +52,7 @@ pub fn put_order_line(out: &mut [u8], at: usize, order: &[u8]) -> usize
     ensures { Put (4 * length order.now + 6) out.old at
         (line "order" (flat_map spaced order.now)) out.new result }
 {
-    if out.len() / 4 < order.len() {
-        return at;
-    }
-    if lacks(out.len(), at, 4 * order.len() + 6) {
+    if out.len() / 4 < order.len() || lacks(out.len(), at, 4 * order.len() + 6) {
         return at;
     }
     order_line(out, at, order)

@@ -35,12 +35,10 @@ fn put_each(out: &mut [u8], at: usize, weights: &[u8; 4096], ends: &[u8], count:
     requires { (2 * count ≤ length ends.now) × (at + count ≤ length out.old) }
     ensures { Written out.old at (weighed weights.now ends.now count) out.new result }
 {
-    let mut i = 0;
-    while i < count {
+    for i in 0..count {
         out[at + i] = weight_of(weights, ends[2 * i], ends[2 * i + 1]);
-        i += 1;
     }
-    at + i
+    at + count
 }
 
 fn weight_of(weights: &[u8; 4096], low: u8, high: u8) -> u8

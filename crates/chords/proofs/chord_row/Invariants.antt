@@ -1,10 +1,5 @@
-use Rattle.std.proofs.Common.{◌-◌}
 use Rattle.chords.specs.Chords.{ChordsTo}
 use Rattle.chords.proofs.chord_row.Given as goal
 
 abbrev pub invariant-loop-k : goal.invariant-loop-k
-invariant-loop-k l =
-    ChordsTo l.n l.order l.weights l.i l.initial.chords l.chords l.passed l.outgoing l.k
-
-abbrev pub decreases-loop-k : goal.decreases-loop-k
-decreases-loop-k l = l.n - l.k
+invariant-loop-k l = ChordsTo l.n l.order l.weights l.i l.initial.chords l.chords l.passed l.outgoing l.k

@@ -1,5 +1,5 @@
-use native.Mathlib.Omega.{arith}
-use borrow.Author.Tests.{le-leb, lt-leb}
+use Rattle.std.proofs.Common.{arith, le-leb}
+use Rattle.std.proofs.lemmas.Bool.{lt-leb}
 use Rattle.laws.specs.Crossings.Masks.{vertex_at}
 use Rattle.laws.specs.Tables.Counts.{counted}
 use Rattle.counting.specs.Loops.{count_start, count_next, count_end}
@@ -11,19 +11,6 @@ returns-then-n-gt64 c = rw (lt-leb _ _ c.if-n-gt64.true)
 
 pub loop-j-init : goal.loop-j-init
 loop-j-init c = count_start c.if-n-gt64.false
-
-pub count_row-total-requires : goal.count_row-total-requires
-count_row-total-requires c =
-    let so_far = c.loop-j.invariant in
-    (so_far.small, c.loop-j-test.true, so_far.passed)
-
-pub overflow_add-total : goal.overflow_add-total
-overflow_add-total c =
-    let so_far = c.loop-j.invariant in
-    omega (arith, c.count_row-total.ensures.few, so_far.few, so_far.inside, so_far.small)
-
-pub bounds-order-j : goal.bounds-order-j
-bounds-order-j c = omega (arith, c.loop-j.invariant.small, c.loop-j-test.true)
 
 pub loop-j-preserved : goal.loop-j-preserved
 unfolding vertex_at

@@ -1,6 +1,4 @@
-use native.Mathlib.Omega.{arith}
-use mathlib.Core.Path.{sym, ap}
-use lib.ListN.{length}
+use Rattle.std.proofs.Common.{arith, length, sym, ap}
 use Rattle.edge_list.specs.Rows.{count_none, count_next, count_all, listed_many}
 use Rattle.edge_list.proofs.edge_count.Goals as goal
 
@@ -9,9 +7,6 @@ returns-then-n-gt64 c = sym (ap length (listed_many _ _ c.if-n-gt64.true))
 
 pub loop-a-init : goal.loop-a-init
 loop-a-init c = count_none c.if-n-gt64.false
-
-pub row_count-total-requires : goal.row_count-total-requires
-row_count-total-requires c = (c.loop-a.invariant.few, c.loop-a-test.true)
 
 pub overflow_add-total : goal.overflow_add-total
 overflow_add-total c =

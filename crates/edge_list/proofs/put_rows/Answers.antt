@@ -1,4 +1,4 @@
-use Rattle.edge_list.specs.Rows.{rows_start, rows_size, rows_room, rows_next, rows_end}
+use Rattle.edge_list.specs.Rows.{rows_start, rows_room, rows_next, rows_end}
 use Rattle.edge_list.proofs.put_rows.Goals as goal
 
 pub loop-a-init : goal.loop-a-init
@@ -13,9 +13,6 @@ put_row-to-requires c =
 pub loop-a-preserved : goal.loop-a-preserved
 loop-a-preserved c =
     rows_next c.loop-a.invariant c.loop-a-test.true c.put_row-to.ensures
-
-pub shape_of-out : goal.shape_of-out
-shape_of-out c = rows_size c.loop-a.invariant
 
 pub returns : goal.returns
 returns c = rows_end c.loop-a.invariant c.loop-a-test.false

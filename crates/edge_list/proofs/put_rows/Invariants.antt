@@ -1,9 +1,5 @@
-use Prim.Native.Nat.{◌-◌}
 use Rattle.edge_list.specs.Rows.{RowsPut}
 use Rattle.edge_list.proofs.put_rows.Given as goal
 
 abbrev pub invariant-loop-a : goal.invariant-loop-a
 invariant-loop-a l = RowsPut l.n l.adjacency l.initial.out l.at l.out l.to l.a
-
-abbrev pub decreases-loop-a : goal.decreases-loop-a
-decreases-loop-a l = l.n - l.a
