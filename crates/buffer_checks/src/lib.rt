@@ -2,24 +2,30 @@
 #![tactic(auto)]
 
 ghost use Rattle.std.specs.Prelude.{◌≡◌};
+ghost use Rattle.model.specs.Answers.{number, refusal_number};
 ghost use Rattle.model.specs.Checks.{refusal};
 ghost use Rattle.buffer_checks.specs.Answers.{asks};
 
+use model::Refusal;
+
 // Is the layout valid, do the format's own checks pass, and has a buffer of size entries room for length
-// of them? own is the code of the first of its own checks that fails, or 0, and short that of too little
-// room.
-#[tactic(auto, unfolding(model::specs::Checks::refusal))]
-pub fn write_refusal(valid: bool, own: u8, length: usize, size: usize, short: u8) -> u8
-    ensures { result ≡ refusal (asks short valid own length size) }
+// of them? own is what its own checks answer, and short the refusal of too little room.
+#[tactic(auto, unfolding(model::specs::Checks::refusal, model::specs::Answers::refusal_number, model::specs::Answers::number))]
+pub fn write_refusal(
+    valid: bool,
+    own: Result<(), Refusal>,
+    length: usize,
+    size: usize,
+    short: Refusal,
+) -> Result<(), Refusal>
+    ensures { refusal_number result ≡ refusal (asks (number short) valid (refusal_number own) length size) }
 {
     if !valid {
-        return 11;
+        return Err(Refusal::NotValid);
     }
-    if own != 0 {
-        return own;
-    }
+    own?;
     if size < length {
-        return short;
+        return Err(short);
     }
-    0
+    Ok(())
 }

@@ -1,11 +1,12 @@
 -- A field written: its header, and the body behind it. A chart written: three fields, one behind the other, and the weights.
-use Rattle.std.specs.Prelude.{ℕ, ◌+◌, ◌*◌, ◌/◌, ◌%◌, ◌≤◌, ◌<◌, ◌≡◌, refl, Bool, true, false, cond}
+use Rattle.std.specs.Prelude.{Option, Some, None, ℕ, ◌+◌, ◌*◌, ◌/◌, ◌%◌, ◌≤◌, ◌<◌, ◌≡◌, refl}
 use Rattle.std.proofs.Common.{mod-eq_of_lt, arith, ◌∙◌}
 use Rattle.std.proofs.Math.Path.{ap}
 use mathlib.Core.List.{List, [], ◌∷◌, ◌++◌, map, append-nil}
 use Rattle.std.proofs.Math.ListN.{length, length-map}
 use Rattle.model.specs.declared.Edge.{Edge}
 use Rattle.model.specs.Crossings.{edges, edge_weight}
+use Rattle.model.specs.Layouts.{table_weight}
 use Rattle.model.specs.WrittenCharts.{field_bytes, edge_bytes}
 use Rattle.laws.specs.Crossings.Bound.{edges_few}
 use Rattle.laws.specs.Buffers.Writing.{Written, written_none, written_size}
@@ -53,37 +54,39 @@ chart_last : (n : ℕ) (es : List Edge) (o last : List ℕ) → chart_with n es 
 unfolding chart_with
 chart_last n es o last = rw append-nil
 
--- the bytes of field 57: none where all edges weigh 1
-unfoldable pub weight_bytes : Bool → (ℕ → ℕ → ℕ) → List Edge → List ℕ
-weight_bytes unit W es = cond unit [] (field_bytes 0x57 (map (edge_weight W) es))
+-- the bytes of field 57: none where there are no weights to write
+unfoldable pub weight_bytes : Option (List ℕ) → List Edge → List ℕ
+weight_bytes None es = []
+weight_bytes (Some ws) es = field_bytes 0x57 (map (edge_weight (table_weight ws)) es)
 
 -- how many they are
-abbrev pub weight_room : Bool → ℕ → ℕ
-weight_room unit edges = cond unit 0 (3 + edges)
+abbrev pub weight_room : Option (List ℕ) → ℕ → ℕ
+weight_room None edges = 0
+weight_room (Some ws) edges = 3 + edges
 
-pub room_small : (unit : Bool) (edges : ℕ) → weight_room unit edges ≤ 3 + edges
-room_small true edges = omega arith
-room_small false edges = omega arith
+pub room_small : (weights : Option (List ℕ)) (edges : ℕ) → weight_room weights edges ≤ 3 + edges
+room_small None edges = omega arith
+room_small (Some ws) edges = omega arith
 
-pub weight_bytes_length : (unit : Bool) (W : ℕ → ℕ → ℕ) (es : List Edge) → length (weight_bytes unit W es) ≡ weight_room unit (length es)
+pub weight_bytes_length : (weights : Option (List ℕ)) (es : List Edge) → length (weight_bytes weights es) ≡ weight_room weights (length es)
 unfolding weight_bytes field_bytes
-weight_bytes_length true W es = refl
-weight_bytes_length false W es = omega (arith, length-map es (edge_weight W))
+weight_bytes_length None es = refl
+weight_bytes_length (Some ws) es = omega (arith, length-map es (edge_weight (table_weight ws)))
 
-module _ {unit : Bool} (n : ℕ) (adj : List ℕ) (W : ℕ → ℕ → ℕ) {start : List ℕ} {at : ℕ} where
-  pub weights_none : unit ≡ true → Written start at (weight_bytes unit W (edges n adj)) start at
+module _ (n : ℕ) (adj : List ℕ) {start : List ℕ} {at : ℕ} {weights : Option (List ℕ)} where
+  pub weights_none : weights ≡ None → Written start at (weight_bytes weights (edges n adj)) start at
   unfolding weight_bytes
   weights_none e = rw e (written_none start at)
 
   -- the weights behind the header of field 57
-  pub weights_put : unit ≡ false → n ≤ 64 → at + weight_room unit (length (edges n adj)) ≤ length start → {bytes next : List ℕ} {to count end : ℕ}
-      → count ≡ length (listed_edges n adj) → Put 3 start at (header 0x57 count) bytes to
-      → (let es = listed_edges n adj in Put (length es) bytes to (map (edge_weight W) es) next end)
-      → Written start at (weight_bytes unit W (edges n adj)) next end
+  pub weights_put : {ws : List ℕ} → weights ≡ Some ws → n ≤ 64 → at + weight_room weights (length (edges n adj)) ≤ length start
+      → {bytes next : List ℕ} {to count end : ℕ} → count ≡ length (listed_edges n adj) → Put 3 start at (header 0x57 count) bytes to
+      → (let es = listed_edges n adj in Put (length es) bytes to (map (edge_weight (table_weight ws)) es) next end)
+      → Written start at (weight_bytes weights (edges n adj)) next end
   unfolding weight_bytes
-  weights_put some few room c h p =
+  weights_put {ws} some few room c h p =
       let counted = c ∙ ap length (listed_few n adj few) in
-      let bytes_long = length-map (edges n adj) (edge_weight W) in
+      let bytes_long = length-map (edges n adj) (edge_weight (table_weight ws)) in
       let fits = rw some at room in
       rw some
       (field_put h (omega (arith, counted, bytes_long)) (omega (arith, counted, edges_few n adj few)) (omega (arith, fits))
@@ -95,11 +98,11 @@ pub record FieldsFit (n : ℕ) (adj start : List ℕ) : Type 0 where
   pub room : 10 + 2 * length (edges n adj) + n ≤ length start
 
 -- and for all of it
-pub record ChartFits (n : ℕ) (adj : List ℕ) (unit : Bool) (start : List ℕ) : Type 0 where
+pub record ChartFits (n : ℕ) (adj : List ℕ) (weights : Option (List ℕ)) (start : List ℕ) : Type 0 where
   pub few : n ≤ 64
-  pub room : 10 + 2 * length (edges n adj) + n + weight_room unit (length (edges n adj)) ≤ length start
+  pub room : 10 + 2 * length (edges n adj) + n + weight_room weights (length (edges n adj)) ≤ length start
 
-module _ {n : ℕ} {adj : List ℕ} {unit : Bool} {start : List ℕ} (f : ChartFits n adj unit start) where
+module _ {n : ℕ} {adj : List ℕ} {weights : Option (List ℕ)} {start : List ℕ} (f : ChartFits n adj weights start) where
   pub fields_fit : FieldsFit n adj start
   fields_fit = record { few = f.few; room = omega (arith, f.room) }
 
@@ -108,12 +111,12 @@ module _ {n : ℕ} {adj : List ℕ} {unit : Bool} {start : List ℕ} (f : ChartF
     at_is = omega (arith, fields.place, chart_length n (edges n adj) o [], long)
 
     -- there is room for field 57
-    pub weights_room : at + weight_room unit (length (edges n adj)) ≤ length bytes
+    pub weights_room : at + weight_room weights (length (edges n adj)) ≤ length bytes
     weights_room = omega (arith, f.room, at_is, written_size fields (omega (arith, f.room, at_is)))
 
-    pub all_put : (W : ℕ → ℕ → ℕ) {next : List ℕ} {end : ℕ} → Written bytes at (weight_bytes unit W (edges n adj)) next end
-        → Written start 0 (chart_with n (edges n adj) o (weight_bytes unit W (edges n adj))) next end
-    all_put W w = rw (← (chart_last n (edges n adj) o (weight_bytes unit W (edges n adj)))) (behind fields w (omega (arith, f.room, at_is)))
+    pub all_put : {next : List ℕ} {end : ℕ} → Written bytes at (weight_bytes weights (edges n adj)) next end
+        → Written start 0 (chart_with n (edges n adj) o (weight_bytes weights (edges n adj))) next end
+    all_put w = rw (← (chart_last n (edges n adj) o (weight_bytes weights (edges n adj)))) (behind fields w (omega (arith, f.room, at_is)))
 
 module _ {n : ℕ} {adj start : List ℕ} (f : FieldsFit n adj start) {bytes : List ℕ} {at : ℕ}
     (size : Written start 0 (field_bytes 0x44 (n ∷ [])) bytes at) where

@@ -2,6 +2,7 @@
 #![tactic(auto)]
 
 ghost use Rattle.std.specs.Prelude.{◌≡◌, ◌*◌, ◌≤◌, ◌<◌, length};
+ghost use Rattle.model.specs.Answers.{as_edges};
 ghost use Rattle.model.specs.Crossings.{edges};
 ghost use Rattle.model.specs.EdgeCrossings.{edge_crossings_of, crossing_table};
 ghost use Rattle.laws.specs.Buffers.Writing.{Written};
@@ -11,27 +12,22 @@ ghost use Rattle.laws.specs.Sums.Numbers.{Bounded};
 use buffer_checks::write_refusal;
 use chords::chord_crossings;
 use edge_list::{edge_count, put_edges};
-use model::{EdgesCounted, Layout};
+use model::{Layout, Refusal};
 use places::places_of;
 use validity::is_valid;
 
 // Fills the start of the table with a number for each edge, in the sequence of a written chart, and
 // answers how many edges there are. The entries beyond them keep their contents.
-pub fn edge_crossings(l: Layout, table: &mut [u64]) -> EdgesCounted
-    ensures value { result ≡ edge_crossings_of l table.old }
+pub fn edge_crossings(l: Layout, table: &mut [u64]) -> Result<usize, Refusal>
+    ensures value { as_edges result ≡ edge_crossings_of l table.old }
     ensures table_after { table.new ≡ crossing_table l table.old }
 {
     let n = l.n;
-    let adjacency = l.adjacency;
-    let edges = edge_count(n, &adjacency) as usize;
-    let refusal = write_refusal(is_valid(l), 0, edges, table.len(), 23);
-    if refusal != 0 {
-        return EdgesCounted { refusal, edges: 0 };
-    }
-    let order = l.order;
-    let weights = l.weights;
-    put_numbers(table, n, &order, &adjacency, &weights);
-    EdgesCounted { refusal: 0, edges }
+    let edges = edge_count(n, &l.adjacency) as usize;
+    let size = table.len();
+    write_refusal(is_valid(l), Ok(()), edges, size, Refusal::ShortTable)?;
+    put_numbers(table, n, &l.order, &l.adjacency, &l.weights);
+    Ok(edges)
 }
 
 // The edges listed, and for each its weight times what the chord between the places of its ends crosses.

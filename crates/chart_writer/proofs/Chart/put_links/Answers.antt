@@ -1,6 +1,6 @@
-use mathlib.Core.Path.{refl}
+use Rattle.std.proofs.Common.{refl}
 use Rattle.chart_writer.specs.Fields.{links_put}
-use Rattle.chart_writer.proofs.put_links.Goals as goal
+use Rattle.chart_writer.proofs.Chart.put_links.Goals as goal
 
 pub returns : goal.returns
 returns c =
