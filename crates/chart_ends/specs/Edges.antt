@@ -1,47 +1,38 @@
--- Questions 5 and 6: the edges of a chart, asked one after the other.
-use Rattle.std.specs.Prelude.{ℕ, ◌+◌, ◌%◌, ◌≤◌, ◌<◌, ◌≡◌, refl, Bool, true, false, ◌&&◌, List, [], length, get_or, drop}
-use Rattle.std.proofs.Common.{zero-le, arith, ◌∙◌, eq-eqb, ne_eqb}
-use Rattle.std.proofs.Math.Path.{ap}
-use Rattle.model.specs.declared.Asked.TheVariants as asks
+-- Questions 5 and 6: the edges of a chart, two bytes each.
+use Rattle.std.specs.Prelude.{ℕ, suc, ◌/◌, ◌%◌, ◌≡◌, refl, Bool, true, false, ◌&&◌, Ok, Err, List, [], ◌∷◌, length, get_or}
+use Rattle.std.specs.List.{list_all}
+use Rattle.std.specs.Simd.{first_chunks}
+use Rattle.std.proofs.Common.{arith, ◌∙◌, ap, eq-eqb, ne_eqb}
+use Rattle.model.specs.declared.refusal.Refusal.TheVariants as because
+use Rattle.model.specs.Answers.{number}
 use Rattle.model.specs.Lists.{every}
 use Rattle.model.specs.Checks.{refusal, by_refusal, checked}
 use Rattle.model.specs.Charts.{edges_in, edge_within, asked, answer, end_checks}
-use Rattle.laws.specs.Charts.Ends.{edge, edges_next, edges_last}
+use Rattle.laws.specs.Charts.Ends.{edge}
 
--- up to place i all edges have their ends below n, and different
-pub record EndsUpTo (n : ℕ) (s : List ℕ) (i : ℕ) : Type 0 where
-  pub inside : i ≤ length s
-  pub rest : every (edge_within n) (edges_in s) ≡ every (edge_within n) (edges_in (drop i s))
+-- the two bytes of an edge
+abbrev pub pair_within : ℕ → List ℕ → Bool
+pair_within n pair = edge_within n (edge (get_or pair 0 0) (get_or pair 1 0))
 
-module _ {n : ℕ} {s : List ℕ} where
-  pub ends_start : EndsUpTo n s 0
-  ends_start = record { inside = zero-le; rest = refl }
-
-  ends_split : {i : ℕ} → EndsUpTo n s i → i + 1 < length s
-      → every (edge_within n) (edges_in s) ≡ (edge_within n (edge (get_or s i 0) (get_or s (i + 1) 0)) && every (edge_within n) (edges_in (drop (i + 2) s)))
-  unfolding every
-  ends_split {i} r h = r.rest ∙ ap (every (edge_within n)) (edges_next s i h)
-
-  pub ends_next : {i : ℕ} → EndsUpTo n s i → i + 1 < length s → edge_within n (edge (get_or s i 0) (get_or s (i + 1) 0)) ≡ true → EndsUpTo n s (i + 2)
-  ends_next {i} r h e = record { inside = omega arith; rest = ends_split r h ∙ ap (λ (x : Bool). x && every (edge_within n) (edges_in (drop (i + 2) s))) e }
-
-  pub ends_bad : {i : ℕ} → EndsUpTo n s i → i + 1 < length s → edge_within n (edge (get_or s i 0) (get_or s (i + 1) 0)) ≡ false → every (edge_within n)
-      (edges_in s) ≡ false
-  ends_bad {i} r h e = ends_split r h ∙ ap (λ (x : Bool). x && every (edge_within n) (edges_in (drop (i + 2) s))) e
-
-  pub ends_end : {i : ℕ} → EndsUpTo n s i → length s ≤ i + 1 → every (edge_within n) (edges_in s) ≡ true
-  unfolding every
-  ends_end {i} r h = r.rest ∙ ap (every (edge_within n)) (edges_last s i h)
+pub pairs_within : (n : ℕ) (s : List ℕ) → list_all (pair_within n) (first_chunks 2 (length s / 2) s) ≡ every (edge_within n) (edges_in s)
+unfolding every edges_in edge
+pairs_within n [] = refl
+pairs_within n (a ∷ []) = refl
+pairs_within n (a ∷ b ∷ rest) =
+    let half : length (a ∷ b ∷ rest) / 2 ≡ suc (length rest / 2) = omega arith in
+    ap (λ (k : ℕ). list_all (pair_within n) (first_chunks 2 k (a ∷ b ∷ rest))) half
+    ∙ ap (λ (x : Bool). pair_within n (a ∷ b ∷ []) && x) (pairs_within n rest)
 
 module _ (n : ℕ) (s : List ℕ) where
-  pub answer_odd : (length s % 2 ≡ 0 → ⊥) → asked (asks.Refused 5) ≡ answer (end_checks n s) []
-  unfolding end_checks answer checked by_refusal refusal asked
+  pub answer_odd : (length s % 2 ≡ 0 → ⊥) → asked (Err because.OddLinks) ≡ answer (end_checks n s) []
+  unfolding end_checks answer checked by_refusal refusal asked number
   answer_odd d = rw (ne_eqb (length s % 2) 0 d)
 
-  pub answer_outside : length s % 2 ≡ 0 → every (edge_within n) (edges_in s) ≡ false → asked (asks.Refused 6) ≡ answer (end_checks n s) []
-  unfolding end_checks answer checked by_refusal refusal asked
-  answer_outside d e = rw (eq-eqb (length s % 2) 0 d, e)
+  module _ (d : length s % 2 ≡ 0) where
+    pub answer_outside : every (edge_within n) (edges_in s) ≡ false → asked (Err because.NoEdge) ≡ answer (end_checks n s) []
+    unfolding end_checks answer checked by_refusal refusal asked number
+    answer_outside e = rw (eq-eqb (length s % 2) 0 d, e)
 
-  pub answer_within : length s % 2 ≡ 0 → every (edge_within n) (edges_in s) ≡ true → asked asks.Passed ≡ answer (end_checks n s) []
-  unfolding end_checks answer checked by_refusal refusal asked
-  answer_within d e = rw (eq-eqb (length s % 2) 0 d, e)
+    pub answer_within : every (edge_within n) (edges_in s) ≡ true → asked (Ok tt) ≡ answer (end_checks n s) []
+    unfolding end_checks answer checked by_refusal refusal asked
+    answer_within e = rw (eq-eqb (length s % 2) 0 d, e)

@@ -5,34 +5,30 @@ ghost use Rattle.std.specs.Prelude.{◌≡◌, []};
 ghost use Rattle.model.specs.Charts.{asked, answer, end_checks, edge_within};
 ghost use Rattle.laws.specs.Charts.Ends.{edge};
 
-use model::Asked;
+use model::Refusal;
 
 // Questions 5 and 6: an even length, and the ends of each edge below n and different.
-pub fn ask_ends(n: usize, links: &[u8]) -> Asked
+pub fn ask_ends(n: usize, links: &[u8]) -> Result<(), Refusal>
     ensures { asked result ≡ answer (end_checks n links.now) [] }
 {
-    if links.len() % 2 != 0 {
-        return Asked::Refused(5);
+    let (pairs, odd) = links.as_chunks::<2>();
+    if !odd.is_empty() {
+        return Err(Refusal::OddLinks);
     }
-    let mut i = 0;
-    while i + 1 < links.len() {
-        if !is_edge(n, links[i] as usize, links[i + 1] as usize) {
-            return Asked::Refused(6);
-        }
-        i += 2;
+    if pairs
+        .iter()
+        .all(|&[a, b]| is_edge(n, a as usize, b as usize))
+    {
+        Ok(())
+    } else {
+        Err(Refusal::NoEdge)
     }
-    Asked::Passed
 }
 
 // Are a and b the ends of an edge of n vertices?
+#[tactic(auto, unfolding(model::specs::Charts::edge_within, laws::specs::Charts::Ends::edge))]
 fn is_edge(n: usize, a: usize, b: usize) -> bool
     ensures { result ≡ edge_within n (edge a b) }
 {
-    if n <= a {
-        return false;
-    }
-    if n <= b {
-        return false;
-    }
-    a != b
+    a < n && b < n && a != b
 }

@@ -1,34 +1,36 @@
 -- The weights of a chart's links, listed or all 1: asked, and set in a table one after the other.
-use Rattle.std.specs.Prelude.{ℕ, zero, suc, ◌+◌, ◌*◌, ◌/◌, ◌%◌, ◌≤◌, ◌<◌, min, ◌≡◌, Bool, replicate}
+use Rattle.std.specs.Prelude.{Option, Some, None, Ok, Err, MatchOption, ℕ, zero, suc, ◌+◌, ◌*◌, ◌/◌, ◌%◌, ◌<◌, ◌≡◌, refl, Bool, true, false, not, ◌&&◌, eqb, List, [], ◌∷◌, map, length, get_or, replicate}
+use Rattle.std.specs.List.{list_all}
+use Rattle.std.specs.Simd.{first_chunks}
+use Rattle.std.proofs.Common.{Bor, le_of_lt, le_refl, arith, sym, ap, ap₂, ◌∙◌, le-leb, eq-eqb, ne_eqb}
+use Rattle.std.proofs.lemmas.Bool.{lt-leb}
 use Rattle.std.proofs.Math.Nat.{min-eq_left, min-eq_right, max-eq_left, max-eq_right}
-use Rattle.std.proofs.Common.{le_of_lt, le_refl, add-one, ◌∙◌, drop_of_length-le, drop-cons}
-use Rattle.std.proofs.Math.Decide.{ℕ_discrete, dec_lt}
-use native.Mathlib.Omega.{arith}
-use Rattle.std.proofs.Math.Path.{refl, sym, ap, ap₂}
-use Rattle.std.proofs.Math.Bool.{true, false, cond}
-use mathlib.Core.List.{List, [], ◌∷◌}
-use Rattle.std.proofs.Math.ListN.{length, get_or, drop, length-replicate}
-use Rattle.std.proofs.lemmas.List.{get_or-replicate, set_comm}
-use borrow.Author.Tests.{le-leb, lt-leb, eq-eqb, ne_eqb}
+use Rattle.std.proofs.Math.Decide.{ℕ_discrete}
+use Rattle.std.proofs.Math.ListN.{length-replicate}
+use Rattle.std.proofs.lemmas.List.{set_comm}
 use Rattle.model.specs.declared.Edge.{Edge}
-use Rattle.model.specs.declared.Asked.TheVariants as asks
+use Rattle.model.specs.declared.refusal.Refusal.TheVariants as because
+use Rattle.model.specs.Answers.{number}
 use Rattle.model.specs.Lists.{every}
 use Rattle.model.specs.Layouts.{is_weight}
 use Rattle.model.specs.Checks.{refusal, by_refusal, checked}
 use Rattle.model.specs.Edits.{both_ways}
 use Rattle.model.specs.Charts.{edges_in, asked, answer, weight_checks, with_weights, body_of, chart_edges, has_weights, chart_weights}
 use Rattle.laws.specs.Sums.Indicators.{less, same, more, order}
-use Rattle.laws.specs.Charts.Ends.{edge, edges_next, edges_last}
-use Rattle.laws.specs.Charts.Wrapped.{wrapped, wrapped_length, wrapped_at, edges_number}
+use Rattle.laws.specs.Charts.Ends.{edge}
+use Rattle.laws.specs.Charts.Wrapped.{wrapped, edges_number}
 
 -- the body of field 57, or 1 for each link where there is none
-unfoldable pub weights_in : Bool → List ℕ → List ℕ → List ℕ
-weights_in listed links body = cond listed body (replicate (length (edges_in links)) 1)
+unfoldable pub weights_in : List ℕ → Option (Bor (List ℕ)) → List ℕ
+weights_in links None = replicate (length (edges_in links)) 1
+weights_in links (Some body) = body.now
 
 -- of a chart
-pub chart_weights_lem : (s : List ℕ) → weights_in (has_weights s) (body_of s 1) (body_of s 3) ≡ chart_weights s
+pub chart_weights_lem : (s : List ℕ) (listed : Option (Bor (List ℕ)))
+    → MatchOption listed (has_weights s ≡ false) (λ body. (has_weights s ≡ true) × (body.now ≡ body_of s 3)) → weights_in (body_of s 1) listed ≡ chart_weights s
 unfolding weights_in chart_weights chart_edges
-chart_weights_lem s = refl
+chart_weights_lem s None e = rw e
+chart_weights_lem s (Some body) t = rw (t.0, t.1)
 
 -- ---- the questions
 
@@ -41,58 +43,39 @@ pub weighs_not : {w : ℕ} → w ≡ 0 → is_weight w ≡ false
 unfolding is_weight
 weighs_not {w} e = rw (lt-leb 1 w (omega arith))
 
+one_weighs : (w : ℕ) → w < 256 → not (eqb w 0) ≡ is_weight w
+one_weighs w small = elim (ℕ_discrete w 0) [ yes e ↦ rw (eq-eqb w 0 e, weighs_not e) | no d ↦ rw (ne_eqb w 0 d, weighs small d) ]
+
+pub bytes_weigh : (body : List ℕ) → ((i : ℕ) → get_or body i 0 < 256) → list_all (λ w. not (eqb w 0)) body ≡ every is_weight body
+unfolding every
+bytes_weigh [] small = refl
+bytes_weigh (w ∷ ws) small = ap₂ (λ (a b : Bool). a && b) (one_weighs w (small 0)) (bytes_weigh ws (λ i. small (suc i)))
+
 all_ones : (k : ℕ) → every is_weight (replicate k 1) ≡ true
 unfolding every is_weight
 all_ones zero = refl
 all_ones (suc k) = all_ones k
 
-module _ (links body : List ℕ) {listed : Bool} where
-  pub ask_none : listed ≡ false → asked asks.Passed ≡ answer (weight_checks links (weights_in listed links body)) []
+module _ (links : List ℕ) where
+  pub ask_none : asked (Ok tt) ≡ answer (weight_checks links (weights_in links None)) []
   unfolding weights_in weight_checks answer checked by_refusal refusal asked
-  ask_none e =
+  ask_none =
       let many = length-replicate {A = ℕ} (length (edges_in links)) 1 in
-      rw (e, eq-eqb (length (replicate (length (edges_in links)) 1)) (length (edges_in links)) many, all_ones (length (edges_in links)))
+      rw (eq-eqb (length (replicate (length (edges_in links)) 1)) (length (edges_in links)) many, all_ones (length (edges_in links)))
 
-  module _ (e : listed ≡ true) where
-    pub ask_many : (length body ≡ length links / 2 → ⊥) → asked (asks.Refused 24) ≡ answer (weight_checks links (weights_in listed links body)) []
-    unfolding weights_in weight_checks answer checked by_refusal refusal asked
-    ask_many d = rw (e, edges_number links, ne_eqb (length body) (length links / 2) d)
+  module _ (body : Bor (List ℕ)) where
+    pub ask_many : (length body.now ≡ length links / 2 → ⊥) → asked (Err because.WeightCount) ≡ answer (weight_checks links (weights_in links (Some body))) []
+    unfolding weights_in weight_checks answer checked by_refusal refusal asked number
+    ask_many d = rw (edges_number links, ne_eqb (length body.now) (length links / 2) d)
 
-    module _ (many : length body ≡ length links / 2) where
-      pub ask_all : every is_weight body ≡ true → asked asks.Passed ≡ answer (weight_checks links (weights_in listed links body)) []
+    module _ (many : length body.now ≡ length links / 2) where
+      pub ask_all : every is_weight body.now ≡ true → asked (Ok tt) ≡ answer (weight_checks links (weights_in links (Some body))) []
       unfolding weights_in weight_checks answer checked by_refusal refusal asked
-      ask_all t = rw (e, edges_number links, eq-eqb (length body) (length links / 2) many, t)
+      ask_all t = rw (edges_number links, eq-eqb (length body.now) (length links / 2) many, t)
 
-      pub ask_zero : every is_weight body ≡ false → asked (asks.Refused 25) ≡ answer (weight_checks links (weights_in listed links body)) []
-      unfolding weights_in weight_checks answer checked by_refusal refusal asked
-      ask_zero t = rw (e, edges_number links, eq-eqb (length body) (length links / 2) many, t)
-
--- ---- how many links have a weight, and which
-
-module _ (links body : List ℕ) {listed : Bool} where
-  pub count_none : listed ≡ false → length links / 2 ≡ min (length (edges_in links)) (length (weights_in listed links body))
-  unfolding weights_in
-  count_none e = rw e (omega (arith, edges_number links, length-replicate {A = ℕ} (length (edges_in links)) 1))
-
-  pub count_listed : listed ≡ true → {k : ℕ} → k ≡ min (length links / 2) (length body)
-      → k ≡ min (length (edges_in links)) (length (weights_in listed links body))
-  unfolding weights_in
-  count_listed e m = rw e (omega (arith, m, edges_number links))
-
-module _ (listed : Bool) (links body : List ℕ) (i : ℕ) (h : i < length (weights_in listed links body)) where
-  pub listed_inside : listed ≡ true → i < length body
-  unfolding weights_in
-  listed_inside e = rw e at h
-
-  pub weight_is : cond listed (get_or body i 0) 1 ≡ get_or (weights_in listed links body) i 0
-  unfolding weights_in
-  weight_is = by_test listed h
-    where
-      by_test : (t : Bool) → i < length (cond t body (replicate (length (edges_in links)) 1))
-          → cond t (get_or body i 0) 1 ≡ get_or (cond t body (replicate (length (edges_in links)) 1)) i 0
-      by_test true l = refl
-      by_test false l =
-          sym (get_or-replicate {A = ℕ} (length (edges_in links)) i 1 0 (omega (arith, length-replicate {A = ℕ} (length (edges_in links)) 1)))
+      pub ask_zero : every is_weight body.now ≡ false → asked (Err because.ZeroWeight) ≡ answer (weight_checks links (weights_in links (Some body))) []
+      unfolding weights_in weight_checks answer checked by_refusal refusal asked number
+      ask_zero t = rw (edges_number links, eq-eqb (length body.now) (length links / 2) many, t)
 
 -- ---- the weights set one after the other
 
@@ -119,51 +102,69 @@ unfolding with_weights
 no_weights table [] = refl
 no_weights table (e ∷ es) = refl
 
--- the links before link i are done: what is left is set in the table as it is now
-pub record SetUpTo (start links ws : List ℕ) (table : List ℕ) (i : ℕ) : Type 0 where
-  pub rest : with_weights start (edges_in (wrapped links)) ws ≡ with_weights table (edges_in (drop (2 * i) (wrapped links))) (drop i ws)
+-- the edge of two bytes, each modulo 64
+unfoldable pub pair_edge : List ℕ → Edge
+pair_edge pair = edge (get_or pair 0 0 % 64) (get_or pair 1 0 % 64)
 
-module _ {start links ws : List ℕ} where
-  pub set_start : SetUpTo start links ws start 0
-  set_start = record { rest = refl }
+-- a weight of 1 for each link
+abbrev pub ones : List (List ℕ) → List ℕ
+ones pairs = map {B = ℕ} (λ _. 1) pairs
 
-  module _ {table : List ℕ} {i count : ℕ} (s : SetUpTo start links ws table i) (many : count ≡ min (length (edges_in links)) (length ws)) where
-    -- both ends of link i are there, and its weight
-    pub set_inside : i < count → (2 * i + 1 < length links) × (i < length ws)
-    set_inside h = (omega (arith, edges_number links), omega arith)
+pub ones_number : (links : List ℕ) → ones (first_chunks 2 (length links / 2) links) ≡ replicate (length (edges_in links)) 1
+unfolding edges_in
+ones_number [] = refl
+ones_number (a ∷ []) = refl
+ones_number (a ∷ b ∷ rest) =
+    let half : length (a ∷ b ∷ rest) / 2 ≡ suc (length rest / 2) = omega arith in
+    ap (λ (k : ℕ). ones (first_chunks 2 k (a ∷ b ∷ rest))) half
+    ∙ ap (λ (ws : List ℕ). 1 ∷ ws) (ones_number rest)
 
-    pub set_next : i < count → {w : ℕ} {next : List ℕ} → w ≡ get_or ws i 0
-        → next ≡ both_ways table (get_or links (2 * i) 0 % 64) (get_or links (2 * i + 1) 0 % 64) w → SetUpTo start links ws next (i + 1)
-    unfolding with_weights
-    set_next h {w} {next} e n =
-        let a = get_or links (2 * i) 0 % 64 in
-        let b = get_or links (2 * i + 1) 0 % 64 in
-        let there = set_inside h in
-        let twice : 2 * i + 2 ≡ 2 * (i + 1) = omega arith in
-        let left = drop (suc i) ws in
-        let more = edges_in (drop (2 * (i + 1)) (wrapped links)) in
+pub pairs_wrapped : (s : List ℕ) → map pair_edge (first_chunks 2 (length s / 2) s) ≡ edges_in (wrapped s)
+unfolding wrapped edges_in edge pair_edge
+pairs_wrapped [] = refl
+pairs_wrapped (a ∷ []) = refl
+pairs_wrapped (a ∷ b ∷ rest) =
+    let half : length (a ∷ b ∷ rest) / 2 ≡ suc (length rest / 2) = omega arith in
+    ap (λ (k : ℕ). map pair_edge (first_chunks 2 k (a ∷ b ∷ rest))) half
+    ∙ ap (λ (es : List Edge). pair_edge (a ∷ b ∷ []) ∷ es) (pairs_wrapped rest)
+
+-- what is left of the links and of the weights is set in the table as it is now
+pub record SetUpTo (start : List ℕ) (all : List (List ℕ)) (weights table : List ℕ) (pairs : List (List ℕ)) (left : List ℕ) : Type 0 where
+  pub rest : with_weights start (map pair_edge all) weights ≡ with_weights table (map pair_edge pairs) left
+
+module _ {start : List ℕ} {all : List (List ℕ)} {weights : List ℕ} where
+  pub set_start : {pairs : List (List ℕ)} {left : List ℕ} → pairs ≡ all → left ≡ weights → SetUpTo start all weights start pairs left
+  set_start p q = record { rest = ap₂ (λ (x : List (List ℕ)) (y : List ℕ). with_weights start (map pair_edge x) y) (sym p) (sym q) }
+
+  module _ {table : List ℕ} {pairs : List (List ℕ)} {left : List ℕ} (s : SetUpTo start all weights table pairs left) where
+    pub set_next : {pair : List ℕ} {more : List (List ℕ)} {w : ℕ} {behind next : List ℕ} → pairs ≡ pair ∷ more → left ≡ w ∷ behind
+        → next ≡ both_ways table (get_or pair 0 0 % 64) (get_or pair 1 0 % 64) w → SetUpTo start all weights next more behind
+    unfolding with_weights pair_edge
+    set_next {pair} {more} {w} {behind} p q n =
         record {
           rest =
-              s.rest
-              ∙ ap₂ (with_weights table)
-              (edges_next (wrapped links) (2 * i) (omega (arith, there.0, wrapped_length links))
-              ∙ ap₂ (λ (x y : ℕ). edge x y ∷ edges_in (drop (2 * i + 2) (wrapped links))) (wrapped_at links (2 * i)) (wrapped_at links (2 * i + 1))
-              ∙ ap (λ (k : ℕ). edge a b ∷ edges_in (drop k (wrapped links))) twice)
-              (drop-cons ws i 0 there.1)
-              ∙ ap (λ (t : List ℕ). with_weights t more left) (both_edge table a b (get_or ws i 0) ∙ ap (both_ways table a b) (sym e) ∙ sym n)
-              ∙ ap (λ (k : ℕ). with_weights next more (drop k ws)) (sym (add-one i));
+              s.rest ∙ ap₂ (λ (x : List (List ℕ)) (y : List ℕ). with_weights table (map pair_edge x) y) p q
+              ∙ ap (λ (t : List ℕ). with_weights t (map pair_edge more) behind) (both_edge table (get_or pair 0 0 % 64) (get_or pair 1 0 % 64) w ∙ sym n);
         }
 
-    pub set_end : count ≤ i → table ≡ with_weights start (edges_in (wrapped links)) ws
+    pub set_all : pairs ≡ [] → table ≡ with_weights start (map pair_edge all) weights
     unfolding with_weights
-    set_end h =
-        sym
-        (s.rest
-        ∙ elim (dec_lt i (length ws)) [
-          | yes l ↦
-              ap (λ (es : List Edge). with_weights table es (drop i ws))
-              (edges_last (wrapped links) (2 * i) (omega (arith, many, edges_number links, wrapped_length links)))
-          | no l ↦
-              ap (with_weights table (edges_in (drop (2 * i) (wrapped links)))) (drop_of_length-le ws {i = i} (omega arith))
-              ∙ no_weights table (edges_in (drop (2 * i) (wrapped links)))
-        ])
+    set_all p = sym (s.rest ∙ ap (λ (x : List (List ℕ)). with_weights table (map pair_edge x) left) p)
+
+    pub set_listed : left ≡ [] → table ≡ with_weights start (map pair_edge all) weights
+    set_listed q = sym (s.rest ∙ ap (with_weights table (map pair_edge pairs)) q ∙ no_weights table (map pair_edge pairs))
+
+-- the links two bytes at a time, with the weights that are listed, or with 1 for each
+module _ (table links : List ℕ) {pairs : List (List ℕ)} (whole : pairs ≡ first_chunks 2 (length links / 2) links) where
+  same_edges : map pair_edge pairs ≡ edges_in (wrapped links)
+  same_edges = ap (map pair_edge) whole ∙ pairs_wrapped links
+
+  pub listed_set : {next : List ℕ} {listed : Option (Bor (List ℕ))} {body : Bor (List ℕ)} → listed ≡ Some body → next ≡ with_weights table (map pair_edge pairs) body.now
+      → next ≡ with_weights table (edges_in (wrapped links)) (weights_in links listed)
+  unfolding weights_in
+  listed_set told e = e ∙ ap₂ (with_weights table) same_edges (sym (ap (weights_in links) told))
+
+  pub ones_set : {next : List ℕ} {listed : Option (Bor (List ℕ))} → listed ≡ None → next ≡ with_weights table (map pair_edge pairs) (ones pairs)
+      → next ≡ with_weights table (edges_in (wrapped links)) (weights_in links listed)
+  unfolding weights_in
+  ones_set told e = e ∙ ap₂ (with_weights table) same_edges (ap ones whole ∙ ones_number links ∙ sym (ap (weights_in links) told))

@@ -1,29 +1,30 @@
-use Prim.Native.Nat.{◌+◌}
-use native.Mathlib.Omega.{arith}
-use mathlib.Core.Path.{sym, ◌∙◌}
-use Rattle.chart_ends.specs.Edges.{ends_start, ends_next, ends_bad, ends_end, answer_odd, answer_outside, answer_within}
+use Rattle.std.specs.Prelude.{◌≡◌, ◌/◌, ◌%◌, length}
+use Rattle.std.specs.Simd.{first_chunks}
+use Rattle.std.proofs.Common.{rules, tests, arith, sym, ◌∙◌, eqb-true}
+use Rattle.std.proofs.lemmas.Bool.Decides.{nat_tests}
+use Rattle.std.proofs.lemmas.Iterator.{YieldsList-from_slice}
+use Rattle.std.proofs.lemmas.Iterator.Search.{all_from_yields_List}
+use Rattle.model.specs.Lists.{every}
+use Rattle.model.specs.Charts.{edges_in, edge_within}
+use Rattle.chart_ends.specs.Edges.{pair_within, pairs_within, answer_odd, answer_outside, answer_within}
 use Rattle.chart_ends.proofs.ask_ends.Goals as goal
+use Rattle.chart_ends.proofs.ask_ends.Goals.{After-all}
 
-pub returns-then-links-ne0 : goal.returns-then-links-ne0
-returns-then-links-ne0 c = answer_odd _ _ c.if-links-ne0.true
+told : (c : After-all) → c.all.result ≡ every (edge_within c.args.n) (edges_in c.args.links.now)
+told c =
+    let s = c.args.links.now in
+    all_from_yields_List (pair_within c.args.n) _ _ c.all.result c.all.ensures.ran (YieldsList-from_slice (first_chunks 2 (length s / 2) s) cc)
+    (λ x b q k. search (rules, tests))
+    ∙ pairs_within c.args.n s
 
-pub loop-i-init : goal.loop-i-init
-loop-i-init c = ends_start
+even : (c : After-all) → length c.args.links.now % 2 ≡ 0
+even c = sym c.as_chunks.ensures.back_len ∙ eqb-true _ 0 (sym c.is_empty.ensures ∙ c.if-not-is_empty.false)
 
-pub overflow_cast-links : goal.overflow_cast-links
-overflow_cast-links c = omega (arith, c.shared_slice_known-in-loop-i-1.given c.loop-i.i)
+pub returns-then-not-is_empty : goal.returns-then-not-is_empty
+returns-then-not-is_empty c = answer_odd _ _ (λ e. grind (arith, nat_tests, c.as_chunks.ensures.back_len))
 
-pub overflow_cast-links-in-loop-i : goal.overflow_cast-links-in-loop-i
-overflow_cast-links-in-loop-i c = omega (arith, c.shared_slice_known-in-loop-i-2-1.given (c.loop-i.i + 1))
+pub returns-then-all : goal.returns-then-all
+returns-then-all c = let known = (goal.at.returns-then-all c).After-all in answer_within _ _ (even known) (sym (told known) ∙ c.if-all.true)
 
-pub returns-then-not-is_edge : goal.returns-then-not-is_edge
-returns-then-not-is_edge c =
-    answer_outside _ _ c.if-links-ne0.false
-    (ends_bad c.loop-i.invariant c.loop-i-test.true (sym c.is_edge.ensures ∙ c.if-not-is_edge.true))
-
-pub loop-i-preserved : goal.loop-i-preserved
-loop-i-preserved c =
-    ends_next c.loop-i.invariant c.loop-i-test.true (sym c.is_edge.ensures ∙ c.if-not-is_edge.false)
-
-pub returns : goal.returns
-returns c = answer_within _ _ c.if-links-ne0.false (ends_end c.loop-i.invariant c.loop-i-test.false)
+pub returns-else-all : goal.returns-else-all
+returns-else-all c = let known = (goal.at.returns-else-all c).After-all in answer_outside _ _ (even known) (sym (told known) ∙ c.if-all.false)

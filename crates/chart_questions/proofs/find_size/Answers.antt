@@ -6,7 +6,7 @@ pub returns-then-body-ne1 : goal.returns-then-body-ne1
 returns-then-body-ne1 c = size_long _ c.if-body-ne1.true
 
 pub overflow_cast-n : goal.overflow_cast-n
-overflow_cast-n c = omega (arith, c.shared_slice_known-1.given 0)
+overflow_cast-n c = omega (arith, c.type_inv.body 0)
 
 pub returns-then-n-gt64 : goal.returns-then-n-gt64
 returns-then-n-gt64 c = size_large _ c.if-body-ne1.false c.if-n-gt64.true

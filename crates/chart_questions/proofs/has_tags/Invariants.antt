@@ -1,10 +1,5 @@
-use Prim.Native.Nat.{◌-◌}
-use lib.ListN.{length}
 use Rattle.chart_questions.specs.Fields.{TagsUpTo}
 use Rattle.chart_questions.proofs.has_tags.Given as goal
 
-abbrev pub invariant-loop-i : goal.invariant-loop-i
-invariant-loop-i l = TagsUpTo l.bytes l.tags l.at l.i
-
-abbrev pub decreases-loop-i : goal.decreases-loop-i
-decreases-loop-i l = length l.tags - l.i
+abbrev pub invariant-loop-tag : goal.invariant-loop-tag
+invariant-loop-tag l = TagsUpTo l.bytes l.tags l.fields.rest.now l.tag-index
