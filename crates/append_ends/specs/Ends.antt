@@ -10,7 +10,8 @@ use Rattle.laws.specs.Sums.Lists.{All, none, also, all_mono}
 use Rattle.laws.specs.Tables.Rows.{table_weight}
 use Rattle.laws.specs.Tables.Ends.{OpenOf, front_open, back_open}
 use Rattle.append_line.specs.declared.Line.{Line}
-use Rattle.append_line.specs.Lines.{entries, Centred}
+use Rattle.append_line.specs.Lines.{entries, placed_in, Centred}
+use Rattle.append_ends.specs.Placed.{as_vertices}
 use Rattle.append_ends.specs.declared.Ends.{Ends}
 
 -- ---- the list of any line
@@ -46,6 +47,11 @@ vertices_entries {l} c below =
     let first : l.first % 65 ≡ l.first = omega (arith, c.left) in
     let size : l.size % 65 ≡ l.size = omega (arith, c.few) in
     rw (first, size) (all_vertices below)
+
+-- they are the bytes that the line lends, as vertices
+pub placed_vertices : (l : Line) → as_vertices (placed_in l) ≡ vertices l
+unfolding as_vertices placed_in vertices_from
+placed_vertices l = refl
 
 -- ---- the crossings
 

@@ -1,5 +1,5 @@
 -- Placed vertices as bytes: for the ends of any list of them.
-use Rattle.std.specs.Prelude.{ℕ, ◌%◌, ◌<◌, ◌≡◌, List, [], ◌∷◌, map, length, get_or, refl}
+use Rattle.std.specs.Prelude.{ℕ, ◌%◌, ◌<◌, ◌≡◌, List, ◌∷◌, map, length, get_or, refl}
 use Rattle.std.proofs.Common.{mod-eq_of_lt, sym, ap₂}
 use Rattle.std.proofs.Math.ListN.{length-map, get_or-map}
 use Rattle.model.specs.Lists.{All, none, also}

@@ -1,6 +1,6 @@
 -- A list of vertices in the middle of a buffer that has room for 64, however they are divided between its two ends.
 use Prim.Native.Nat.{ℕ, zero, suc, ◌+◌, ◌-◌, ◌%◌, ◌≤◌, ◌<◌}
-use Rattle.std.proofs.Common.{le_of_lt, le_antisymm, add-one, ◌∙◌, length-set, length-take-le}
+use Rattle.std.proofs.Common.{le_of_lt, add-one, ◌∙◌, length-set, length-take-le}
 use Rattle.std.proofs.Math.Nat.{add-sub_cancel_left}
 use native.Mathlib.Omega.{arith}
 use Rattle.std.specs.Prelude.{◌≡◌, length, set, replicate, eqb}
@@ -51,9 +51,18 @@ unfoldable pub rest_of : Line → ℕ → ℕ → Line
 rest_of l placed zero = l
 rest_of l placed (suc k) = cond (eqb (bit placed k) 1) (rest_of l placed k) (at_back (rest_of l placed k) k)
 
+-- the list as it lies in the buffer, a byte each
+unfoldable pub placed_in : Line → List ℕ
+placed_in l = take (l.size % 65) (drop (l.first % 65) l.places)
+
 -- the list over the start of another one
 unfoldable pub written_over : Line → List ℕ → List ℕ
 written_over l order = take (l.size % 65) (drop (l.first % 65) l.places) ++ drop (l.size % 65) order
+
+pub placed_length : (l : Line) → length l.places ≡ 128 → length (placed_in l) ≡ l.size % 65
+unfolding placed_in
+placed_length l room =
+    length-take-le (l.size % 65) (drop (l.first % 65) l.places) (omega (arith, room, length-drop (l.first % 65) l.places))
 
 -- copied as a part of the buffer, from a start to an end
 pub copied_over : (l : Line) (order : List ℕ) → length l.places ≡ 128
@@ -146,23 +155,3 @@ module _ {l : Line} (c : Centred l) (more : l.size < 64) {v : ℕ} (h : v < 64) 
       ∙ ap (λ (xs : List ℕ). take (l.size + 1) xs) (drop-set-add l.first l.places l.size v)
       ∙ ap (λ (k : ℕ). take k (set (drop l.first l.places) l.size v)) (add-one l.size)
       ∙ take-suc-set (drop l.first l.places) l.size v (omega (arith, c.room, c.left, length-drop l.first l.places))
-
--- ---- the loop over the vertices
-
-pub record RestUpTo (n : ℕ) (l : Line) (placed : ℕ) (line : Line) (k : ℕ) : Type 0 where
-  pub inside : k ≤ n
-  pub found : line ≡ rest_of l placed k
-
-module _ {n : ℕ} {l : Line} {placed : ℕ} where
-  pub rest_start : RestUpTo n l placed l 0
-  unfolding rest_of
-  rest_start = record { inside = omega arith; found = refl }
-
-  pub rest_next : {line next : Line} {k : ℕ} → RestUpTo n l placed line k → k < n → next ≡ cond (eqb (bit placed k) 1) line (at_back line k)
-      → RestUpTo n l placed next (k + 1)
-  unfolding rest_of
-  rest_next {line} {next} {k} r h e =
-      rw (add-one k) (record { inside = h; found = e ∙ ap (λ (x : Line). cond (eqb (bit placed k) 1) x (at_back x k)) r.found })
-
-  pub rest_end : {line : Line} {k : ℕ} → RestUpTo n l placed line k → n ≤ k → line ≡ rest_of l placed n
-  rest_end {line} {k} r h = r.found ∙ ap (rest_of l placed) (le_antisymm r.inside h)

@@ -1,11 +1,10 @@
-// A list of vertices that grows at both ends, held in the middle of a buffer. Each function holds
+// A list of vertices that grows at both ends, held in the middle of a buffer. Each method holds
 // for any line: a vertex is taken modulo 64, a place modulo 128, and what is written modulo 65. For
 // 64 vertices or fewer, beginning with one in the middle, that changes nothing.
 #![tactic(auto)]
 
-ghost use Rattle.std.specs.Prelude.{◌≡◌, cond, eqb};
-ghost use Rattle.model.specs.Crossings.{bit};
-ghost use Rattle.append_line.specs.Lines.{alone_at, at_front, at_back, rest_of, written_over};
+ghost use Rattle.std.specs.Prelude.{◌≡◌, ◌≤◌, length};
+ghost use Rattle.append_line.specs.Lines.{alone_at, at_front, at_back, rest_of, placed_in, written_over};
 
 // The size places from first on are taken.
 #[derive(Clone, Copy)]
@@ -15,76 +14,68 @@ pub struct Line {
     pub size: usize,
 }
 
-// One vertex, with room for 63 more at either end.
-pub fn alone(v: usize) -> Line
-    ensures { result ≡ alone_at v }
-{
-    let mut places = [0u8; 128];
-    places[64] = (v % 64) as u8;
-    Line {
-        places,
-        first: 64,
-        size: 1,
+impl Line {
+    // One vertex, with room for 63 more at either end.
+    #[tactic(auto, unfolding(crate::specs::Lines::alone_at))]
+    pub fn alone(v: usize) -> Line
+        ensures { result ≡ alone_at v }
+    {
+        let mut places = [0; 128];
+        places[64] = (v % 64) as u8;
+        Line {
+            places,
+            first: 64,
+            size: 1,
+        }
     }
-}
 
-pub fn put_front(l: Line, v: usize) -> Line
-    ensures { result ≡ at_front l v }
-{
-    let mut places = l.places;
-    let first = (l.first % 128 + 127) % 128;
-    places[first] = (v % 64) as u8;
-    Line {
-        places,
-        first,
-        size: l.size % 128 + 1,
+    #[tactic(auto, unfolding(crate::specs::Lines::at_front))]
+    pub fn put_front(&mut self, v: usize)
+        ensures { self.new ≡ at_front self.old v }
+    {
+        let first = (self.first % 128 + 127) % 128;
+        self.places[first] = (v % 64) as u8;
+        self.first = first;
+        self.size = self.size % 128 + 1;
     }
-}
 
-pub fn put_back(l: Line, v: usize) -> Line
-    ensures { result ≡ at_back l v }
-{
-    let mut places = l.places;
-    let end = (l.first % 128 + l.size % 128) % 128;
-    places[end] = (v % 64) as u8;
-    Line {
-        places,
-        first: l.first,
-        size: l.size % 128 + 1,
+    #[tactic(auto, unfolding(crate::specs::Lines::at_back))]
+    pub fn put_back(&mut self, v: usize)
+        ensures { self.new ≡ at_back self.old v }
+    {
+        let end = (self.first % 128 + self.size % 128) % 128;
+        self.places[end] = (v % 64) as u8;
+        self.size = self.size % 128 + 1;
     }
-}
 
-// Every vertex that is not placed, at the back in rising number.
-pub fn put_rest(n: usize, l: Line, placed: u64) -> Line
-    ensures { result ≡ rest_of l placed n }
-{
-    let mut line = l;
-    let mut v = 0;
-    while v < n {
-        line = put_unplaced(line, v, placed);
-        v += 1;
+    // Every vertex that is not placed, at the back in rising number.
+    #[tactic(auto, unfolding(crate::specs::Lines::rest_of))]
+    pub fn put_rest(&mut self, n: usize, placed: u64)
+        ensures { self.new ≡ rest_of self.old placed n }
+    {
+        for v in 0..n {
+            if !words::is_set(placed, v) {
+                self.put_back(v);
+            }
+        }
     }
-    line
-}
 
-// v at the back, if it is not placed.
-fn put_unplaced(l: Line, v: usize, placed: u64) -> Line
-    ensures { result ≡ cond (eqb (bit placed v) 1) l (at_back l v) }
-{
-    if words::is_set(placed, v) {
-        return l;
+    // The list, a byte each.
+    pub fn placed(&self) -> &[u8]
+        ensures value { result.now ≡ placed_in self.now }
+        ensures few { length result.now ≤ 64 }
+    {
+        let first = self.first % 65;
+        let end = first + self.size % 65;
+        &self.places[first..end]
     }
-    put_back(l, v)
-}
 
-// The list over the first places of an order, whose other places stay.
-pub fn written(l: Line, order: [u8; 64]) -> [u8; 64]
-    ensures { result ≡ written_over l order }
-{
-    let mut next = order;
-    let places = l.places;
-    let first = l.first % 65;
-    let end = first + l.size % 65;
-    next[..end - first].copy_from_slice(&places[first..end]);
-    next
+    // The list over the first places of an order, whose other places stay.
+    pub fn written(&self, mut order: [u8; 64]) -> [u8; 64]
+        ensures { result ≡ written_over self.now order }
+    {
+        let placed = self.placed();
+        order[..placed.len()].copy_from_slice(placed);
+        order
+    }
 }

@@ -9,7 +9,7 @@ ghost use Rattle.laws.specs.Small.Index.{rest_at};
 ghost use Rattle.small_prefix.specs.Prefixes.{entries, Ready};
 ghost use Rattle.small_order.specs.Indices.{free};
 
-use small_prefix::{Prefix, extended, zero_first};
+use small_prefix::Prefix;
 
 // How many orders of n vertices there are.
 pub fn number_of_orders(n: usize) -> usize
@@ -30,7 +30,7 @@ pub fn order_of(n: usize, index: usize) -> [u8; 8]
     if n == 0 {
         return [0; 8];
     }
-    let done = order_rest(n, zero_first(), n - 1, index);
+    let done = order_rest(n, Prefix::zero_first(), n - 1, index);
     done.places
 }
 
@@ -46,25 +46,23 @@ fn order_rest(n: usize, p: Prefix, left: usize, index: usize) -> Prefix
     }
     let each = orders_of(left - 1);
     let v = unplaced_at(n, p.bits, index / each);
-    let next = extended(p, v);
+    let next = p.extended(v);
     order_rest(n, next, left - 1, index % each)
 }
 
-// The unplaced vertex with k lower ones: bits are those of the placed ones.
+// The unplaced vertex with k lower ones, 0 where there is none: bits are those of the placed ones.
 fn unplaced_at(n: usize, bits: u64, k: usize) -> usize
     requires { n ≤ 64 }
     ensures { result ≡ get_or (keep (free bits) (upto n)) k 0 }
 {
-    let mut seen = 0;
-    let mut v = 0;
-    while v < n {
+    let mut lower = 0;
+    for v in 0..n {
         if !words::is_set(bits, v) {
-            if seen == k {
+            if lower == k {
                 return v;
             }
-            seen += 1;
+            lower += 1;
         }
-        v += 1;
     }
     0
 }

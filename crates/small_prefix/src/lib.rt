@@ -12,30 +12,31 @@ pub struct Prefix {
     pub bits: u64,
 }
 
-// Vertex 0 alone.
-pub fn zero_first() -> Prefix
-    ensures { result ≡ alone }
-{
-    Prefix {
-        places: [0; 8],
-        size: 1,
-        bits: 1,
+impl Prefix {
+    // Vertex 0 alone.
+    pub fn zero_first() -> Prefix
+        ensures { result ≡ alone }
+    {
+        Prefix {
+            places: [0; 8],
+            size: 1,
+            bits: 1,
+        }
     }
-}
 
-// One further vertex behind them.
-pub fn extended(p: Prefix, v: usize) -> Prefix
-    ensures { result ≡ next_of p v }
-{
-    let at = p.size % 8;
-    let vertex = v % 64;
-    let mut places = p.places;
-    places[at] = vertex as u8;
-    let before = p.bits;
-    let bits = words::set(before, vertex);
-    Prefix {
-        places,
-        size: at + 1,
-        bits,
+    // One further vertex behind them.
+    #[tactic(auto, using(laws::specs::Sums::Bits::set_within), unfolding(crate::specs::Prefixes::next_of))]
+    pub fn extended(self, v: usize) -> Prefix
+        ensures { result ≡ next_of self v }
+    {
+        let at = self.size % 8;
+        let vertex = v % 64;
+        let mut places = self.places;
+        places[at] = vertex as u8;
+        Prefix {
+            places,
+            size: at + 1,
+            bits: words::set(self.bits, vertex),
+        }
     }
 }

@@ -1,17 +1,17 @@
 use Rattle.std.proofs.Common.{le_refl, arith, sym, ◌∙◌}
 use Rattle.small_prefix.specs.Prefixes.{in_bits}
-use Rattle.small_search.specs.Branches.{room, underway_next}
+use Rattle.small_search.specs.Branches.{room, next_asked}
 use Rattle.small_search.specs.Turns.{turns_start, turns_next, cut_right, leaf_right, inner_right, next_answered}
-use Rattle.small_search.proofs.+list_rest.Goals as goal
-use Rattle.small_search.proofs.+list_rest.Goals.{then-not-is_set, else-not-is_set}
+use Rattle.small_search.proofs.Branch.+list_rest.Goals as goal
+use Rattle.small_search.proofs.Branch.+list_rest.Goals.{then-not-is_set, else-not-is_set}
 
 -- left out
-pub returns-then-best-b-clause-result_value : goal.returns-then-best-b-clause-result_value
-returns-then-best-b-clause-result_value t c = cut_right c.requires.1.0 c.args.best c.if-best-b.true
+pub returns-then-best-self-clause-result_value : goal.returns-then-best-self-clause-result_value
+returns-then-best-self-clause-result_value t c = cut_right c.requires.1.0 c.args.best c.if-best-self.true
 
 -- an order that is complete
 pub returns-then-left-eq0-clause-result_value : goal.returns-then-left-eq0-clause-result_value
-returns-then-left-eq0-clause-result_value t c = leaf_right c.requires.1.0 c.args.best c.if-best-b.false c.if-left-eq0.true
+returns-then-left-eq0-clause-result_value t c = leaf_right c.requires.1.0 c.args.best c.if-best-self.false c.if-left-eq0.true
 
 pub loop-v-init : goal.loop-v-init
 loop-v-init t c = turns_start
@@ -23,13 +23,9 @@ put_behind-next-requires t c = room c.requires.0 c.requires.1.0 (omega (arith, c
 pub list_rest-found-requires : goal.list_rest-found-requires
 list_rest-found-requires t c =
     let u = c.requires.1.0 in
-    let out = sym (in_bits u.ready c.loop-v-test.true) ∙ sym c.is_set.ensures ∙ c.if-not-is_set.true in (
-      omega arith,
-      (
-        c.requires.0,
-        (underway_next c.requires.0 u c.loop-v-test.true (omega arith) out c.put_behind-next.ensures, omega (arith, c.loop-v.invariant.low, c.requires.1.1)),
-      ),
-    )
+    let out = sym (in_bits u.ready c.loop-v-test.true) ∙ sym c.is_set.ensures ∙ c.if-not-is_set.true in
+    let asked = next_asked c.requires.0 u c.loop-v-test.true (omega arith) out c.put_behind-next.ensures in
+    (omega arith, (asked.0, (asked.1, omega (arith, c.loop-v.invariant.low, c.requires.1.1))))
 
 -- a turn: the search of what starts with v, or nothing where v is placed
 pub loop-v-preserved : goal.loop-v-preserved
@@ -49,7 +45,7 @@ loop-v-preserved t c =
 
 -- after the last vertex
 pub returns-clause-result_value : goal.returns-clause-result_value
-returns-clause-result_value t c = inner_right c.requires.1.0 c.args.best c.if-best-b.false (omega arith) c.loop-v.invariant c.loop-v-test.false
+returns-clause-result_value t c = inner_right c.requires.1.0 c.args.best c.if-best-self.false (omega arith) c.loop-v.invariant c.loop-v-test.false
 
 pub returns-clause-low : goal.returns-clause-low
 returns-clause-low t c = c.loop-v.invariant.low
