@@ -5,7 +5,7 @@ ghost use Rattle.model.specs.Sifting.{sift_answer, sift_of};
 
 use super::layouts::relaid;
 use model::{Layout, Sifted};
-use sift_walk::best_order;
+use sift_walk::Table;
 use validity::vertex_refusal;
 use weights::row_weights;
 
@@ -29,16 +29,17 @@ fn sift_vertex(l: Layout, u: usize) -> Sifted
     requires { T (valid l) × (u < l.n) }
     ensures { result ≡ sift_answer l u }
 {
-    let n = l.n;
-    let present = l.order;
     let rows = row_weights(&l.weights);
-    let best = best_order(n, present, &l.weights, &rows, u);
-    let order = best.order;
-    let reduction = best.saving;
+    let table = Table {
+        n: l.n,
+        weights: &l.weights,
+        rows: &rows,
+    };
+    let best = table.best_order(l.order, u);
     Sifted {
         refusal: 0,
-        layout: relaid(l, order, reduction),
-        reduction,
+        layout: relaid(l, best.order, best.saving),
+        reduction: best.saving,
         optima: best.optima,
     }
 }
