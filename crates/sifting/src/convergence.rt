@@ -12,6 +12,7 @@ ghost use Rattle.sifting.specs.Settling.{settled_within, settled_next};
 use super::layouts::relaid;
 use super::rounds::{Swept, sift_all};
 use model::{ConvergeSummary, Layout, Refusal};
+use sift_walk::Table;
 use validity::check_limit;
 use weights::row_weights;
 
@@ -23,6 +24,21 @@ struct Settled {
     rounds: u32,
     converged: bool,
     optima: u32,
+}
+
+impl Settled {
+    // One round more.
+    fn add(&mut self, round: &Swept)
+        requires { (self.old.reduction + round.now.reduction ≤ most_weighted) × (self.old.rounds < 1000)
+            × (self.old.optima + round.now.optima ≤ most_optima * 1000) }
+        ensures { self.new ≡ settled_next self.old round.now }
+    {
+        self.order = round.order;
+        self.reduction += round.reduction;
+        self.rounds += 1;
+        self.converged = round.moved == 0;
+        self.optima += round.optima;
+    }
 }
 
 pub fn converge(l: Layout, limit: u32) -> Result<(Layout, ConvergeSummary), Refusal>
@@ -38,27 +54,25 @@ fn settle(l: Layout, limit: u32) -> (Layout, ConvergeSummary)
     ensures { as_converged l (Ok result) ≡ rounds_up_to limit l }
 {
     let rows = row_weights(&l.weights);
-    let end = run_rounds(l.n, l.order, &l.weights, &rows, limit);
-    let reduction = end.reduction;
+    let table = Table {
+        n: l.n,
+        weights: &l.weights,
+        rows: &rows,
+    };
+    let end = run_rounds(l.order, &table, limit);
     let summary = ConvergeSummary {
-        reduction,
+        reduction: end.reduction,
         rounds: end.rounds,
         converged: end.converged,
         optima: end.optima,
     };
-    (relaid(l, end.order, reduction), summary)
+    (relaid(l, end.order, end.reduction), summary)
 }
 
 // Rounds, counted against the limit.
-fn run_rounds(
-    n: usize,
-    order: [u8; 64],
-    weights: &[u8; 4096],
-    rows: &[u16; 64],
-    limit: u32,
-) -> Settled
-    requires { Drawn n weights.now order × RowsOf weights.now rows.now × (limit ≤ 1000) }
-    ensures { result ≡ settled_within n weights.now limit order }
+fn run_rounds(order: [u8; 64], table: &Table, limit: u32) -> Settled
+    requires { Drawn table.now.n table.now.weights.now order × RowsOf table.now.weights.now table.now.rows.now × (limit ≤ 1000) }
+    ensures { result ≡ settled_within table.now.n table.now.weights.now limit order }
 {
     let mut state = Settled {
         order,
@@ -67,32 +81,12 @@ fn run_rounds(
         converged: false,
         optima: 0,
     };
-    while state.rounds < limit {
-        let present = state.order;
-        let round = sift_all(n, present, weights, rows);
-        state = run_next(state, round);
+    for _ in 0..limit {
+        let round = sift_all(state.order, table);
+        state.add(&round);
         if state.converged {
-            return state;
+            break;
         }
     }
     state
-}
-
-// One round more.
-fn run_next(s: Settled, round: Swept) -> Settled
-    requires { (s.reduction + round.reduction ≤ most_weighted) × (s.rounds < 1000) × (s.optima + round.optima ≤ most_optima * 1000) }
-    ensures { result ≡ settled_next s round }
-{
-    let order = round.order;
-    let reduction = s.reduction + round.reduction;
-    let rounds = s.rounds + 1;
-    let optima = s.optima + round.optima;
-    let converged = round.moved == 0;
-    Settled {
-        order,
-        reduction,
-        rounds,
-        converged,
-        optima,
-    }
 }

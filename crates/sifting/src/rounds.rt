@@ -1,6 +1,5 @@
 // A sifting round (document 01: round): every vertex is sifted once, in rising number.
-ghost use Rattle.std.specs.Prelude.{◌≡◌, ◌+◌, ◌≤◌, T, Ok, if◌then◌else◌, nat_eq};
-ghost use Rattle.laws.specs.Sums.Numbers.{Bounded};
+ghost use Rattle.std.specs.Prelude.{◌≡◌, ◌+◌, ◌≤◌, T, Ok};
 ghost use Rattle.laws.specs.Crossings.Bound.{most_weighted};
 ghost use Rattle.laws.specs.Sifting.Optima.{most_optima};
 ghost use Rattle.laws.specs.Tables.Rows.{RowsOf};
@@ -12,7 +11,7 @@ ghost use Rattle.sifting.specs.Sweeps.{swept_round, swept_next};
 
 use super::layouts::relaid;
 use model::{Layout, Refusal, RoundSummary};
-use sift_walk::{Walk, best_order};
+use sift_walk::{Table, Walk};
 use validity::check_valid;
 use weights::row_weights;
 
@@ -24,6 +23,20 @@ pub(crate) struct Swept {
     pub(crate) reduction: u64,
     pub(crate) moved: u32,
     pub(crate) optima: u32,
+}
+
+impl Swept {
+    // One sift more.
+    fn add(&mut self, best: &Walk)
+        requires { (self.old.reduction + best.now.saving ≤ most_weighted) × (self.old.moved ≤ 64)
+            × (self.old.optima + best.now.optima ≤ most_optima) }
+        ensures { self.new ≡ swept_next self.old best.now }
+    {
+        self.order = best.order;
+        self.reduction += best.saving;
+        self.moved += u32::from(best.saving != 0);
+        self.optima += best.optima;
+    }
 }
 
 pub fn sifting_round(l: Layout) -> Result<(Layout, RoundSummary), Refusal>
@@ -39,21 +52,25 @@ fn sift_vertices(l: Layout) -> (Layout, RoundSummary)
     ensures { as_rounded l (Ok result) ≡ sift_round l }
 {
     let rows = row_weights(&l.weights);
-    let swept = sift_all(l.n, l.order, &l.weights, &rows);
-    let reduction = swept.reduction;
+    let table = Table {
+        n: l.n,
+        weights: &l.weights,
+        rows: &rows,
+    };
+    let swept = sift_all(l.order, &table);
     let summary = RoundSummary {
-        reduction,
+        reduction: swept.reduction,
         moved: swept.moved,
         optima: swept.optima,
     };
-    (relaid(l, swept.order, reduction), summary)
+    (relaid(l, swept.order, swept.reduction), summary)
 }
 
 // The vertices of an order sifted, over the table of weights alone. The weights of the vertices are
 // given.
-pub(crate) fn sift_all(n: usize, order: [u8; 64], weights: &[u8; 4096], rows: &[u16; 64]) -> Swept
-    requires { Drawn n weights.now order × RowsOf weights.now rows.now }
-    ensures { result ≡ swept_round n weights.now order }
+pub(crate) fn sift_all(order: [u8; 64], table: &Table) -> Swept
+    requires { Drawn table.now.n table.now.weights.now order × RowsOf table.now.weights.now table.now.rows.now }
+    ensures { result ≡ swept_round table.now.n table.now.weights.now order }
 {
     let mut state = Swept {
         order,
@@ -61,37 +78,9 @@ pub(crate) fn sift_all(n: usize, order: [u8; 64], weights: &[u8; 4096], rows: &[
         moved: 0,
         optima: 0,
     };
-    let mut u = 0;
-    while u < n {
-        let present = state.order;
-        let best = best_order(n, present, weights, rows, u);
-        state = sift_next(state, best);
-        u += 1;
+    for u in 0..table.n {
+        let best = table.best_order(state.order, u);
+        state.add(&best);
     }
     state
-}
-
-// One sift more.
-fn sift_next(s: Swept, best: Walk) -> Swept
-    requires { (s.reduction + best.saving ≤ most_weighted) × (s.moved ≤ 64) × (s.optima + best.optima ≤ most_optima) }
-    ensures { result ≡ swept_next s best }
-{
-    let order = best.order;
-    let saving = best.saving;
-    let reduction = s.reduction + saving;
-    let optima = s.optima + best.optima;
-    let moved = s.moved + moved_by(saving);
-    Swept {
-        order,
-        reduction,
-        moved,
-        optima,
-    }
-}
-
-// How many vertices a sift with this saving moved: none or one.
-fn moved_by(saving: u64) -> u32
-    ensures { Bounded (if nat_eq saving 0 then 0 else 1) 1 result }
-{
-    if saving == 0 { 0 } else { 1 }
 }

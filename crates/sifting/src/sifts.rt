@@ -6,7 +6,7 @@ ghost use Rattle.model.specs.Sifting.{sift_answer, sift_of};
 
 use super::layouts::relaid;
 use model::{Layout, Refusal, SiftSummary};
-use sift_walk::best_order;
+use sift_walk::Table;
 use validity::check_vertex;
 use weights::row_weights;
 
@@ -23,11 +23,15 @@ fn sift_vertex(l: Layout, u: usize) -> (Layout, SiftSummary)
     ensures { as_sifted l (Ok result) ≡ sift_answer l u }
 {
     let rows = row_weights(&l.weights);
-    let best = best_order(l.n, l.order, &l.weights, &rows, u);
-    let reduction = best.saving;
+    let table = Table {
+        n: l.n,
+        weights: &l.weights,
+        rows: &rows,
+    };
+    let best = table.best_order(l.order, u);
     let summary = SiftSummary {
-        reduction,
+        reduction: best.saving,
         optima: best.optima,
     };
-    (relaid(l, best.order, reduction), summary)
+    (relaid(l, best.order, best.saving), summary)
 }

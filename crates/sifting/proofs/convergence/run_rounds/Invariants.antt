@@ -1,9 +1,10 @@
-use Rattle.std.proofs.Common.{◌-◌}
+use Rattle.std.proofs.Common.{◌≡◌}
 use Rattle.sifting.specs.Settling.{SettlingUpTo}
 use Rattle.sifting.proofs.convergence.run_rounds.Given as goal
 
-abbrev pub invariant-loop-state : goal.invariant-loop-state
-invariant-loop-state l = SettlingUpTo l.n l.initial.state.order l.weights l.limit l.state
-
-abbrev pub decreases-loop-state : goal.decreases-loop-state
-decreases-loop-state l = l.limit - l.state.rounds
+abbrev pub invariant-loop : goal.invariant-loop
+invariant-loop l =
+    record {
+      settling : SettlingUpTo l.table.n l.initial.state.order l.table.weights.now l.limit l.state;
+      counted : l.state.rounds ≡ l.counter;
+    }

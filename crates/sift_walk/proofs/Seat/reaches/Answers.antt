@@ -1,6 +1,6 @@
 use native.Mathlib.Omega.{arith}
 use Rattle.sift_walk.specs.Reaching.{reaching_start, reaching_next, reaching_end}
-use Rattle.sift_walk.proofs.reaches_of.Goals as goal
+use Rattle.sift_walk.proofs.Seat.reaches.Goals as goal
 
 pub loop-i-init : goal.loop-i-init
 loop-i-init c = reaching_start
@@ -8,8 +8,8 @@ loop-i-init c = reaching_start
 pub loop-i-preserved : goal.loop-i-preserved
 loop-i-preserved c =
     let v = c.other_at-v.ensures in
-    let asked = c.requires in
-    reaching_next c.loop-i.invariant asked.0 asked.2 (omega (arith, c.loop-i-test.true)) v.0 v.1 c.weight_at-w.ensures.is
+    let seat = c.args.self.now in
+    reaching_next c.loop-i.invariant seat.few (omega arith) (omega (arith, c.loop-i-test.true)) v.0 v.1 c.weight_at-w.ensures.is
     c.weight_at-w.ensures.small
 
 pub returns : goal.returns
