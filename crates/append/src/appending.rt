@@ -4,7 +4,6 @@ ghost use Rattle.model.specs.Layouts.{weight, valid};
 ghost use Rattle.model.specs.GreedyAppend.{place_all, lay_answer, lay_of};
 
 use super::steps::place_linked;
-use append_line::{put_rest, written};
 use carrying::carried_to;
 use model::{Appended, Layout};
 use validity::vertex_refusal;
@@ -34,8 +33,9 @@ fn append_from(l: Layout, s: usize) -> Appended
     let weights = l.weights;
     // those with edges, and then the rest: the isolated ones (document 02, Note 2: unlinked devices)
     let linked = place_linked(n, &adjacency, &weights, s);
-    let line = put_rest(n, linked.line, linked.placed);
-    let order = written(line, before);
+    let mut line = linked.line;
+    line.put_rest(n, linked.placed);
+    let order = line.written(before);
     // the tally is the crossings of the laid order (document 02, Note 6), so that only those before
     // are counted
     let tally = linked.tally;
