@@ -1,14 +1,17 @@
 // A list of calls played from the empty layout, from a chart or from a graph in graph6.
 ghost use Rattle.std.specs.Prelude.{◌≡◌, ◌++◌, ◌+◌, ◌*◌, ◌≤◌, length, drop};
+ghost use Rattle.model.specs.Answers.{number};
+ghost use Rattle.model.specs.Charts.{as_read};
 ghost use Rattle.model.specs.Histories.{played};
 ghost use Rattle.model.specs.Playing.{calls_of, answer_width, answers_of, start_of, origin_of, played_calls, play_of, table_of};
 ghost use Rattle.laws.specs.Buffers.Writing.{written};
 ghost use Rattle.calls_encoding.specs.CallLists.{call_there};
+ghost use Rattle.calls_play.specs.PlayAnswers.{not_played};
 ghost use Rattle.history.specs.Demand3.{Demand3};
 
 use calls_encoding::{call_at, count_calls, origin_of, put_answer};
 use calls_step::step;
-use model::{ANSWER_WIDTH, Decoded, Layout, LayoutRead, Origin, Played};
+use model::{ANSWER_WIDTH, Layout, Origin, Played, Refusal};
 
 // Plays the calls, and writes the answer of each into the table. Refused where the chart or graph is,
 // and with 18 where the table is too short for the answers: nothing is then played or written.
@@ -18,23 +21,13 @@ pub fn play(origin: Origin, bytes: &[u8], calls: &[u64], answers: &mut [u64]) ->
     ensures claim { Demand3 (start_of origin bytes.now).layout
         (played_calls origin bytes.now calls.now (length answers.old)) }
 {
-    let start = start_of(origin, bytes);
-    let refusal = start.refusal;
-    let layout = start.layout;
-    if refusal != 0 {
-        return Played {
-            refusal,
-            layout,
-            calls: 0,
-        };
-    }
+    let layout = match start_of(origin, bytes) {
+        Ok(start) => start,
+        Err(refusal) => return not_played(refusal, layout::empty()),
+    };
     let count = count_calls(calls);
     if answers.len() / ANSWER_WIDTH < count {
-        return Played {
-            refusal: 18,
-            layout,
-            calls: 0,
-        };
+        return not_played(Refusal::ShortOrder, layout);
     }
     Played {
         refusal: 0,
@@ -54,14 +47,22 @@ pub fn play_from(origin: u8, bytes: &[u8], calls: &[u64], answers: &mut [u64]) -
     play(from, bytes, calls, answers)
 }
 
-fn start_of(origin: Origin, bytes: &[u8]) -> LayoutRead
-    ensures { result ≡ start_of origin bytes.now }
+// No call is played.
+fn not_played(refusal: Refusal, layout: Layout) -> Played
+    ensures { result ≡ not_played (number refusal) layout }
+{
+    Played {
+        refusal: refusal.number(),
+        layout,
+        calls: 0,
+    }
+}
+
+fn start_of(origin: Origin, bytes: &[u8]) -> Result<Layout, Refusal>
+    ensures { as_read result ≡ start_of origin bytes.now }
 {
     match origin {
-        Origin::Empty => LayoutRead {
-            refusal: 0,
-            layout: layout::empty(),
-        },
+        Origin::Empty => Ok(layout::empty()),
         Origin::Chart => chart::read(bytes),
         Origin::Graph6 => graph6::import(bytes),
     }
@@ -74,10 +75,8 @@ fn play_all(l: Layout, calls: &[u64], count: usize, answers: &mut [u64]) -> Layo
     ensures answers_after { answers.new ≡ answers_of l (calls_of calls.now) ++ drop (answer_width * count) answers.old }
 {
     let mut layout = l;
-    let mut i = 0;
-    while i < count {
+    for i in 0..count {
         layout = play_next(layout, calls, i, answers);
-        i += 1;
     }
     layout
 }
@@ -88,7 +87,7 @@ fn play_next(l: Layout, calls: &[u64], i: usize, answers: &mut [u64]) -> Layout
     ensures value { result ≡ played l (call_there calls.now i) }
     ensures answers_after { answers.new ≡ written answers.old (answer_width * i) (answers_of l (call_there calls.now i)) }
 {
-    let Decoded::Next(c) = call_at(calls, i) else {
+    let Some(c) = call_at(calls, i) else {
         return l;
     };
     let answer = step(l, c);

@@ -5,6 +5,7 @@ ghost use Rattle.model.specs.GreedyAppend.{lay_of};
 ghost use Rattle.model.specs.Sifting.{sift_of, round_of, settle_of};
 ghost use Rattle.model.specs.Reports.{add_report, append_report, sift_report, round_report, converge_report};
 
+use crate::stores::{change, store};
 use model::{AddReport, AppendReport, ConvergeReport, Layout, RoundReport, SiftReport};
 
 #[unsafe(no_mangle)]
@@ -12,11 +13,7 @@ pub extern "C" fn rl_add_vertex(l: &mut Layout) -> AddReport
     ensures { (result ≡ add_report (add_of l.old)) × (l.new ≡ (add_of l.old).layout) }
 {
     let answer = layout::add_vertex(*l);
-    *l = answer.layout;
-    AddReport {
-        refusal: answer.refusal,
-        vertex: answer.vertex,
-    }
+    AddReport::from(store(l, answer))
 }
 
 #[unsafe(no_mangle)]
@@ -24,8 +21,7 @@ pub extern "C" fn rl_add_edge(l: &mut Layout, a: usize, b: usize, weight: u8) ->
     ensures { (result ≡ (link_of l.old a b weight).refusal) × (l.new ≡ (link_of l.old a b weight).layout) }
 {
     let answer = edges::add_edge(*l, a, b, weight);
-    *l = answer.layout;
-    answer.refusal
+    change(l, answer)
 }
 
 #[unsafe(no_mangle)]
@@ -33,8 +29,7 @@ pub extern "C" fn rl_remove_edge(l: &mut Layout, a: usize, b: usize) -> u8
     ensures { (result ≡ (unlink_of l.old a b).refusal) × (l.new ≡ (unlink_of l.old a b).layout) }
 {
     let answer = edges::remove_edge(*l, a, b);
-    *l = answer.layout;
-    answer.refusal
+    change(l, answer)
 }
 
 #[unsafe(no_mangle)]
@@ -42,8 +37,7 @@ pub extern "C" fn rl_move_after(l: &mut Layout, a: usize, b: usize) -> u8
     ensures { (result ≡ (move_of l.old a b).refusal) × (l.new ≡ (move_of l.old a b).layout) }
 {
     let answer = layout::move_after(*l, a, b);
-    *l = answer.layout;
-    answer.refusal
+    change(l, answer)
 }
 
 #[unsafe(no_mangle)]
@@ -51,11 +45,7 @@ pub extern "C" fn rl_greedy_append(l: &mut Layout, start: usize) -> AppendReport
     ensures { (result ≡ append_report (lay_of l.old start)) × (l.new ≡ (lay_of l.old start).layout) }
 {
     let answer = append::greedy_append(*l, start);
-    *l = answer.layout;
-    AppendReport {
-        refusal: answer.refusal,
-        tally: answer.tally,
-    }
+    AppendReport::from(store(l, answer))
 }
 
 #[unsafe(no_mangle)]
@@ -63,12 +53,7 @@ pub extern "C" fn rl_sift(l: &mut Layout, u: usize) -> SiftReport
     ensures { (result ≡ sift_report (sift_of l.old u)) × (l.new ≡ (sift_of l.old u).layout) }
 {
     let answer = sifting::sift(*l, u);
-    *l = answer.layout;
-    SiftReport {
-        refusal: answer.refusal,
-        reduction: answer.reduction,
-        optima: answer.optima,
-    }
+    SiftReport::from(store(l, answer))
 }
 
 #[unsafe(no_mangle)]
@@ -76,13 +61,7 @@ pub extern "C" fn rl_sifting_round(l: &mut Layout) -> RoundReport
     ensures { (result ≡ round_report (round_of l.old)) × (l.new ≡ (round_of l.old).layout) }
 {
     let answer = sifting::sifting_round(*l);
-    *l = answer.layout;
-    RoundReport {
-        refusal: answer.refusal,
-        reduction: answer.reduction,
-        moved: answer.moved,
-        optima: answer.optima,
-    }
+    RoundReport::from(store(l, answer))
 }
 
 #[unsafe(no_mangle)]
@@ -90,12 +69,5 @@ pub extern "C" fn rl_converge(l: &mut Layout, limit: u32) -> ConvergeReport
     ensures { (result ≡ converge_report (settle_of l.old limit)) × (l.new ≡ (settle_of l.old limit).layout) }
 {
     let answer = sifting::converge(*l, limit);
-    *l = answer.layout;
-    ConvergeReport {
-        refusal: answer.refusal,
-        reduction: answer.reduction,
-        rounds: answer.rounds,
-        converged: answer.converged,
-        optima: answer.optima,
-    }
+    ConvergeReport::from(store(l, answer))
 }

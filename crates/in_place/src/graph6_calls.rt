@@ -3,6 +3,7 @@ ghost use Rattle.std.specs.Prelude.{◌≡◌};
 ghost use Rattle.model.specs.Writing.{write_of, written_bytes};
 ghost use Rattle.model.specs.Graph6.{import_of, graph6_format};
 
+use crate::stores::load;
 use model::{Layout, LayoutWritten};
 
 // A refused graph leaves the empty layout.
@@ -10,9 +11,7 @@ use model::{Layout, LayoutWritten};
 pub extern "C" fn rl_import_graph6(l: &mut Layout, graph: &[u8]) -> u8
     ensures { (result ≡ (import_of graph.now).refusal) × (l.new ≡ (import_of graph.now).layout) }
 {
-    let answer = graph6::import(graph);
-    *l = answer.layout;
-    answer.refusal
+    load(l, graph6::import(graph))
 }
 
 // Writes the layout's graph to the start of the buffer, and answers how many bytes it has.
@@ -21,5 +20,5 @@ pub extern "C" fn rl_export_graph6(l: &Layout, buffer: &mut [u8]) -> LayoutWritt
     ensures { (result ≡ write_of graph6_format l.now buffer.old)
         × (buffer.new ≡ written_bytes graph6_format l.now buffer.old) }
 {
-    graph6_export::export(*l, buffer)
+    LayoutWritten::from(graph6_export::export(*l, buffer))
 }

@@ -7,3 +7,4 @@ mod calls;
 mod graph6_calls;
 mod lists;
 mod reading;
+mod stores;

@@ -8,24 +8,23 @@ ghost use Rattle.model.specs.Writing.{write_of, written_bytes};
 ghost use Rattle.model.specs.WrittenCharts.{chart_format};
 ghost use Rattle.model.specs.EdgeCrossings.{edge_crossings_of, crossing_table};
 
+use crate::stores::load;
 use crossing_report::crossing_report;
-use model::{Counted, CrossingReport, EdgesCounted, Layout, LayoutWritten};
+use model::{Counted, CrossingReport, EdgesCounted, Layout, LayoutWritten, refusal_number};
 
 // A refused chart leaves the empty layout.
 #[unsafe(no_mangle)]
 pub extern "C" fn rl_read_chart(l: &mut Layout, chart: &[u8]) -> u8
     ensures { (result ≡ (read_of chart.now).refusal) × (l.new ≡ (read_of chart.now).layout) }
 {
-    let answer = chart::read(chart);
-    *l = answer.layout;
-    answer.refusal
+    load(l, chart::read(chart))
 }
 
 #[unsafe(no_mangle)]
 pub extern "C" fn rl_count(l: &Layout) -> Counted
     ensures { result ≡ count_of l.now }
 {
-    queries::count(*l)
+    Counted::from(queries::count(*l))
 }
 
 #[unsafe(no_mangle)]
@@ -48,7 +47,7 @@ pub extern "C" fn rl_order(l: &Layout, buffer: &mut [u8]) -> u8
     ensures { (result ≡ order_refusal l.now buffer.old)
         × (buffer.new ≡ order_bytes l.now buffer.old) }
 {
-    queries::order(*l, buffer)
+    refusal_number(&queries::order(*l, buffer))
 }
 
 // Writes the layout's chart to the start of the buffer, and answers its length.
@@ -57,7 +56,7 @@ pub extern "C" fn rl_write_chart(l: &Layout, buffer: &mut [u8]) -> LayoutWritten
     ensures { (result ≡ write_of chart_format l.now buffer.old)
         × (buffer.new ≡ written_bytes chart_format l.now buffer.old) }
 {
-    chart_writer::write(*l, buffer)
+    LayoutWritten::from(chart_writer::write(*l, buffer))
 }
 
 // Fills the start of the table with the crossings of every edge, and answers how many edges there are.
@@ -66,5 +65,5 @@ pub extern "C" fn rl_edge_crossings(l: &Layout, table: &mut [u64]) -> EdgesCount
     ensures { (result ≡ edge_crossings_of l.now table.old)
         × (table.new ≡ crossing_table l.now table.old) }
 {
-    edge_crossings::edge_crossings(*l, table)
+    EdgesCounted::from(edge_crossings::edge_crossings(*l, table))
 }

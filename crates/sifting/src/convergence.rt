@@ -28,6 +28,7 @@ struct Settled {
 
 impl Settled {
     // One round more.
+    #[tactic(auto, unfolding(crate::specs::Settling::settled_next))]
     fn add(&mut self, round: &Swept)
         requires { (self.old.reduction + round.now.reduction ≤ most_weighted) × (self.old.rounds < 1000)
             × (self.old.optima + round.now.optima ≤ most_optima * 1000) }

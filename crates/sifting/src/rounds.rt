@@ -27,6 +27,7 @@ pub(crate) struct Swept {
 
 impl Swept {
     // One sift more.
+    #[tactic(auto, unfolding(crate::specs::Sweeps::swept_next))]
     fn add(&mut self, best: &Walk)
         requires { (self.old.reduction + best.now.saving ≤ most_weighted) × (self.old.moved ≤ 64)
             × (self.old.optima + best.now.optima ≤ most_optima) }

@@ -15,18 +15,17 @@ loop-i-init c = played_start _ _ _
 
 pub play_next-layout-requires : goal.play_next-layout-requires
 play_next-layout-requires c =
-    omega (arith, same_size (goal.at.play_next-layout-requires c).At-loop-i, c.requires, c.loop-i-test.true)
+    omega (arith, same_size (goal.at.play_next-layout-requires c).At-loop-i, c.requires)
 
 pub loop-i-preserved : goal.loop-i-preserved
 loop-i-preserved c =
-    let inside = c.loop-i-test.true in
     let done = c.play_next-layout.ensures in
-    played_next c.loop-i.invariant (omega (arith, c.requires, inside)) (omega (arith, c.requires, inside)) done.value done.answers_after
+    played_next c.loop-i.invariant (omega (arith, c.requires)) (omega (arith, c.requires)) done.value done.answers_after
 
 pub shape_of-answers : goal.shape_of-answers
 shape_of-answers c = same_size (goal.at.shape_of-answers c).At-loop-i
 
 pub returns : goal.returns
 returns c =
-    let t = played_all c.loop-i.invariant c.requires.0 c.loop-i-test.false in
+    let t = played_all c.loop-i.invariant c.requires.0 (omega arith) in
     record { value = t.0; answers_after = t.1 }

@@ -11,5 +11,5 @@ returns-in_default c =
 pub returns : goal.returns
 returns c =
     let s = c.args in
-    let t = there_played s.calls.now s.i s.l s.answers.now (sym c.call_at.ensures ∙ c.in-Next.is) c.step-answer.ensures c.requires c.put_answer.ensures in
+    let t = there_played s.calls.now s.i s.l s.answers.now (sym c.call_at.ensures ∙ c.in-Some.is) c.step-answer.ensures c.requires c.put_answer.ensures in
     record { value = t.0; answers_after = t.1 }

@@ -1,11 +1,13 @@
-use mathlib.Core.Path.{sym, ap, ◌∙◌}
+use Rattle.std.proofs.Common.{sym, ap, ◌∙◌}
 use Rattle.model.specs.declared.Layout.{Layout}
 use Rattle.model.specs.declared.Origin.{Origin}
+use Rattle.model.specs.Answers.{told_by}
+use Rattle.model.specs.Charts.{as_read}
 use Rattle.model.specs.Playing.{start_of}
 use Rattle.calls_play.proofs.playing.start_of.Goals as goal
 
 pub returns-in-Empty : goal.returns-in-Empty
-unfolding start_of
+unfolding start_of as_read told_by
 returns-in-Empty c =
     let bytes = c.args.bytes.now in
     ap (λ (l : Layout). record { refusal = 0; layout = l }) c.empty.ensures

@@ -2,7 +2,7 @@ use Prim.Native.Nat.{◌+◌, ◌*◌, ◌≤◌}
 use native.Mathlib.Nat.{mul-le-mul}
 use native.Mathlib.Omega.{arith}
 use Rattle.std.specs.Prelude.{slice_index}
-use Rattle.sift_walk.specs.Walks.{Exchanged, passed_made}
+use Rattle.sift_walk.specs.Walks.{passed_made}
 use Rattle.sift_walk.proofs.Seat.passing.Goals as goal
 use Rattle.sift_walk.proofs.Seat.passing.Goals.{After-next}
 

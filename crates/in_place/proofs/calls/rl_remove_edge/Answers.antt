@@ -1,0 +1,10 @@
+use Rattle.std.proofs.Common.{ap, ◌∙◌}
+use Rattle.model.specs.Answers.{Changed}
+use Rattle.in_place.specs.Stores.{change_told}
+use Rattle.in_place.proofs.calls.rl_remove_edge.Goals as goal
+
+pub returns : goal.returns
+returns c = (
+      c.change.ensures.number ∙ change_told c.args.l.now c.remove_edge-answer.result ∙ ap (λ (a : Changed). a.refusal) c.remove_edge-answer.ensures,
+      c.change.ensures.layout ∙ ap (λ (a : Changed). a.layout) c.remove_edge-answer.ensures,
+    )

@@ -1,0 +1,2 @@
+-- What the proofs of the exports cite.
+pub mod Stores
