@@ -2,19 +2,18 @@
 // stands.
 #![tactic(auto)]
 
-ghost use Rattle.std.specs.Prelude.{◌≡◌, ◌+◌, ◌≤◌, ◌<◌, length};
+ghost use Rattle.std.specs.Prelude.{◌≡◌, ◌+◌, ◌*◌, ◌≤◌, length};
 
 use decimals::{put_bytes, put_number, put_small};
 use model::Layout;
 use text::put_text;
 
-// What a record did: the layout that now stands, how many bytes of the line are written, and whether
+// What a record did: how many bytes of the line are written, and the layout that then stands; none where
 // the list ends here.
 #[derive(Clone, Copy)]
 pub struct Played {
-    pub layout: Layout,
     pub written: usize,
-    pub ended: bool,
+    pub next: Option<Layout>,
 }
 
 // A record that prints nothing.
@@ -22,9 +21,8 @@ pub fn silent(l: Layout) -> Played
     ensures { result.written ≡ 0 }
 {
     Played {
-        layout: l,
         written: 0,
-        ended: false,
+        next: Some(l),
     }
 }
 
@@ -36,111 +34,82 @@ pub fn put_head(line: &mut [u8], name: &[u8], refusal: u8) -> usize
     put_small(line, at, refusal)
 }
 
+// Each number in turn.
+pub fn put_numbers(line: &mut [u8], at: usize, numbers: &[u64]) -> usize
+    ensures { result ≤ at + 21 * length numbers.now }
+{
+    let mut end = at;
+    for &number in numbers {
+        end = put_number(line, end, number);
+    }
+    end
+}
+
 // The line's second half, from place at on: the layout that now stands, and the words and weights that
 // differ from those before.
 pub fn told(line: &mut [u8], at: usize, before: Layout, after: Layout) -> Played
     ensures { result.written ≤ at + 51083 }
 {
-    let fields_end = put_fields(line, at, after);
-    let old_words = before.adjacency;
-    let words = after.adjacency;
-    let words_end = put_words(line, fields_end, &old_words, &words);
-    let old_weights = before.weights;
-    let weights = after.weights;
-    let weights_end = put_weights(line, words_end, &old_weights, &weights);
-    let end = put_text(line, weights_end, b"\n");
+    let fields_end = put_fields(line, at, &after);
+    let words_end = put_words(line, fields_end, &before.adjacency, &after.adjacency);
+    let weights_end = put_weights(line, words_end, &before.weights, &after.weights);
     Played {
-        layout: after,
-        written: end,
-        ended: false,
+        written: put_text(line, weights_end, b"\n"),
+        next: Some(after),
     }
 }
 
-// The same for a call that only reads: no word and no weight differs.
+// The same for a call that only reads: no word and no weight differs, so that the line has room for a
+// whole table before them.
 pub fn told_same(line: &mut [u8], at: usize, l: Layout) -> Played
     ensures { result.written ≤ at + 331 }
 {
-    let fields_end = put_fields(line, at, l);
-    let end = put_text(line, fields_end, b" words weights\n");
+    let fields_end = put_fields(line, at, &l);
     Played {
-        layout: l,
-        written: end,
-        ended: false,
+        written: put_text(line, fields_end, b" words weights\n"),
+        next: Some(l),
     }
 }
 
-fn put_fields(line: &mut [u8], at: usize, l: Layout) -> usize
+fn put_fields(line: &mut [u8], at: usize, l: &Layout) -> usize
     ensures { result ≤ at + 316 }
 {
-    let order = l.order;
     let n_end = put_field(line, at, b" n", l.n as u64);
-    let order_end = put_order(line, n_end, &order);
+    let order_name_end = put_text(line, n_end, b" order");
+    let order_end = put_bytes(line, order_name_end, &l.order);
     put_field(line, order_end, b" count", l.count)
 }
 
 fn put_field(line: &mut [u8], at: usize, name: &[u8], number: u64) -> usize
-    requires { length name.now ≤ 6 }
-    ensures { result ≤ at + 27 }
+    ensures { result ≤ at + length name.now + 21 }
 {
     let end = put_text(line, at, name);
     put_number(line, end, number)
 }
 
-fn put_order(line: &mut [u8], at: usize, order: &[u8]) -> usize
-    requires { length order.now ≡ 64 }
-    ensures { result ≤ at + 262 }
-{
-    let end = put_text(line, at, b" order");
-    put_bytes(line, end, order)
-}
-
 // The number and the value of each word that differs from the one before.
-fn put_words(line: &mut [u8], at: usize, before: &[u64], after: &[u64]) -> usize
-    requires { (length before.now ≡ 64) × (length after.now ≡ 64) }
+fn put_words(line: &mut [u8], at: usize, before: &[u64; 64], after: &[u64; 64]) -> usize
     ensures { result ≤ at + 1606 }
 {
     let mut end = put_text(line, at, b" words");
-    let mut v = 0;
-    while v < 64 {
-        end = put_changed(line, end, v, before[v], after[v]);
-        v += 1;
+    for v in 0..64 {
+        if before[v] != after[v] {
+            let number_end = put_small(line, end, v as u8);
+            end = put_number(line, number_end, after[v]);
+        }
     }
     end
 }
 
 // The two vertices and the value of each weight that differs from the one before.
-fn put_weights(line: &mut [u8], at: usize, before: &[u8], after: &[u8]) -> usize
-    requires { (length before.now ≡ 4096) × (length after.now ≡ 4096) }
+fn put_weights(line: &mut [u8], at: usize, before: &[u8; 4096], after: &[u8; 4096]) -> usize
     ensures { result ≤ at + 49160 }
 {
     let mut end = put_text(line, at, b" weights");
-    let mut i = 0;
-    while i < 4096 {
-        end = put_weight(line, end, i, before[i], after[i]);
-        i += 1;
+    for i in 0..4096 {
+        if before[i] != after[i] {
+            end = put_bytes(line, end, &[(i / 64) as u8, (i % 64) as u8, after[i]]);
+        }
     }
     end
-}
-
-fn put_weight(line: &mut [u8], at: usize, i: usize, before: u8, after: u8) -> usize
-    requires { i < 4096 }
-    ensures { result ≤ at + 12 }
-{
-    if before == after {
-        return at;
-    }
-    let first = put_small(line, at, (i / 64) as u8);
-    let second = put_small(line, first, (i % 64) as u8);
-    put_small(line, second, after)
-}
-
-fn put_changed(line: &mut [u8], at: usize, v: usize, before: u64, after: u64) -> usize
-    requires { v < 64 }
-    ensures { result ≤ at + 25 }
-{
-    if before == after {
-        return at;
-    }
-    let end = put_small(line, at, v as u8);
-    put_number(line, end, after)
 }

@@ -1,47 +1,34 @@
-// Layouts with one field set, to whatever a record says.
+// Layouts with one field set, to whatever a record says. A place that is not there sets nothing.
 use model::Layout;
 
 pub fn with_n(l: Layout, n: u64) -> Layout {
-    let mut next = l;
-    next.n = n as usize;
-    next
+    Layout { n: n as usize, ..l }
 }
 
-// A place that is not there sets nothing.
-pub fn with_place(l: Layout, place: u64, vertex: u64) -> Layout {
-    let mut next = l;
-    if place < 64 {
-        let p = place as usize;
-        next.order[p] = (vertex % 256) as u8;
-    }
-    next
+pub fn with_place(mut l: Layout, place: u64, vertex: u64) -> Layout {
+    set(&mut l.order, place, (vertex % 256) as u8);
+    l
 }
 
-pub fn with_word(l: Layout, place: u64, word: u64) -> Layout {
-    let mut next = l;
-    if place < 64 {
-        let v = place as usize;
-        next.adjacency[v] = word;
-    }
-    next
+pub fn with_word(mut l: Layout, place: u64, word: u64) -> Layout {
+    set(&mut l.adjacency, place, word);
+    l
 }
 
 pub fn with_count(l: Layout, count: u64) -> Layout {
-    let mut next = l;
-    next.count = count;
-    next
+    Layout { count, ..l }
 }
 
-// The weight of one vertex towards another, one way round. Vertices that are not there set nothing.
-pub fn with_weight(l: Layout, from: u64, to: u64, weight: u64) -> Layout {
-    let mut next = l;
-    if from < 64 {
-        if to < 64 {
-            let u = from as usize;
-            let v = to as usize;
-            let at = 64 * u + v;
-            next.weights[at] = (weight % 256) as u8;
-        }
+// The weight of one vertex towards another, one way round.
+pub fn with_weight(mut l: Layout, from: u64, to: u64, weight: u64) -> Layout {
+    if from < 64 && to < 64 {
+        set(&mut l.weights, 64 * from + to, (weight % 256) as u8);
     }
-    next
+    l
+}
+
+fn set<T: Copy>(entries: &mut [T], place: u64, entry: T) {
+    if let Some(there) = entries.get_mut(place as usize) {
+        *there = entry;
+    }
 }
