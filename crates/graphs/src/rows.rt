@@ -7,10 +7,7 @@ ghost use Rattle.model.specs.Layouts.{zero_from, loopless as loopless_words, bit
 pub fn is_bounded(n: usize, adjacency: &[u64; 64]) -> bool
     ensures { let a = adjacency.now in result ≡ (leb n 64 && loopless_words n a && bits_below n a && zero_from n a) }
 {
-    n <= 64
-        && loopless(n, adjacency)
-        && bits_below(n, adjacency)
-        && zero_from(n, adjacency)
+    n <= 64 && loopless(n, adjacency) && bits_below(n, adjacency) && zero_from(n, adjacency)
 }
 
 // Are the words of vertices that are not there 0?

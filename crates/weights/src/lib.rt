@@ -9,7 +9,8 @@ mod units;
 ghost use Rattle.std.specs.Prelude.{◌≡◌, ℕ, ◌*◌, ◌%◌, ◌<◌, ◌≤◌, length};
 ghost use Rattle.model.specs.Edits.{both_ways};
 ghost use Rattle.laws.specs.Sums.Numbers.{Bounded};
-ghost use Rattle.laws.specs.Tables.Rows.{table_weight, row_weight, row_sum, most_weight, most_sum, RowsOf, AddedRow, TakenRow, ChangingUpTo};
+ghost use Rattle.laws.specs.Tables.Rows.{table_weight, row_weight, row_sum, most_weight, most_sum, RowsOf};
+ghost use Rattle.laws.specs.Tables.Rows.{AddedRow, TakenRow, ChangingUpTo, added_to, taken_from};
 
 pub use light::all_unit;
 pub use units::unit_table;
@@ -88,14 +89,26 @@ fn product(a: u32, b: u16) -> u32
 pub fn add_row(numbers: &mut [u16; 64], weights: &[u8; 4096], v: usize)
     ensures { length numbers.old ≡ 64 → AddedRow weights.now (v % 64) numbers.old numbers.new }
 {
-    change(numbers, weights, v % 64, |x, w| x.wrapping_add(w))
+    change(numbers, weights, v % 64, grown)
 }
 
 // A row taken away from 64 numbers, each modulo 2^16.
 pub fn sub_row(numbers: &mut [u16; 64], weights: &[u8; 4096], v: usize)
     ensures { length numbers.old ≡ 64 → TakenRow weights.now (v % 64) numbers.old numbers.new }
 {
-    change(numbers, weights, v % 64, |x, w| x.wrapping_sub(w))
+    change(numbers, weights, v % 64, lessened)
+}
+
+fn grown(x: u16, w: u16) -> u16
+    ensures { result ≡ added_to x w }
+{
+    x.wrapping_add(w)
+}
+
+fn lessened(x: u16, w: u16) -> u16
+    ensures { result ≡ taken_from x w }
+{
+    x.wrapping_sub(w)
 }
 
 // Each of 64 numbers changed by its weight in a row: f says what is made of the two.

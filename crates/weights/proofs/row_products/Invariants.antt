@@ -5,4 +5,3 @@ use Rattle.weights.proofs.row_products.Given as goal
 
 abbrev pub invariant-loop-i : goal.invariant-loop-i
 invariant-loop-i l = SummedUpTo (λ y. table_weight l.weights l.v y * (get_or l.numbers y 0 % 32768)) 8355585 l.total l.i
-

@@ -12,4 +12,3 @@ passes adj bits k v = eqb (byte_of (get_or adj v 0) k) (get_or bits v 0)
 
 abbrev pub invariant-loop-v : goal.invariant-loop-v
 invariant-loop-v l = ToldBelow (passes l.adjacency l.bits l.k) 64 (eqb l.differences 0) l.v
-
