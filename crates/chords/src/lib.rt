@@ -3,7 +3,7 @@
 // the vertices passed grow by a row a step.
 #![tactic(auto)]
 
-ghost use Rattle.std.specs.Prelude.{◌≡◌, ◌<◌, ◌≤◌, length};
+ghost use Rattle.std.specs.Prelude.{◌<◌, ◌≤◌};
 ghost use Rattle.laws.specs.Tables.Rows.{RowsOf};
 ghost use Rattle.laws.specs.Tables.Drawn.{Weighted};
 ghost use Rattle.chords.specs.Chords.{ChordsOf, RowOf, NextChord};
@@ -62,6 +62,11 @@ fn next_chord(outgoing: u32, ending: u16, row: u16, start: u32) -> Chord
     ensures { NextChord outgoing ending row start result }
 {
     let crossed = outgoing.wrapping_sub(u32::from(ending));
-    let leaving = u32::from(row).wrapping_sub(u32::from(ending)).wrapping_sub(start);
-    Chord { crossed, outgoing: crossed.wrapping_add(leaving) }
+    let leaving = u32::from(row)
+        .wrapping_sub(u32::from(ending))
+        .wrapping_sub(start);
+    Chord {
+        crossed,
+        outgoing: crossed.wrapping_add(leaving),
+    }
 }

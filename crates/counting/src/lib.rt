@@ -2,7 +2,7 @@
 // the weight of all vertices before j towards k, times the weight of j towards all behind k.
 #![tactic(auto)]
 
-ghost use Rattle.std.specs.Prelude.{◌≡◌, ◌*◌, ◌≤◌, ◌<◌};
+ghost use Rattle.std.specs.Prelude.{◌≡◌, ◌≤◌, ◌<◌};
 ghost use Rattle.laws.specs.Tables.Rows.{table_weight};
 ghost use Rattle.laws.specs.Tables.Counts.{counted};
 ghost use Rattle.counting.specs.Loops.{Before, RowCounted};

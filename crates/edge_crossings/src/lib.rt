@@ -1,7 +1,7 @@
 // The crossings of every edge, each by the product of the two weights, filled into a lent table (document 02, Notes 7 and 8).
 #![tactic(auto)]
 
-ghost use Rattle.std.specs.Prelude.{◌≡◌, ◌*◌, ◌≤◌, ◌<◌, length};
+ghost use Rattle.std.specs.Prelude.{◌≡◌, ◌*◌, ◌≤◌, length};
 ghost use Rattle.model.specs.Answers.{as_edges};
 ghost use Rattle.model.specs.Crossings.{edges};
 ghost use Rattle.model.specs.EdgeCrossings.{edge_crossings_of, crossing_table};
