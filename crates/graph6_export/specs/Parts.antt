@@ -1,11 +1,13 @@
 -- The size part of a graph and the bits of its pairs, written one behind the other.
-use Rattle.std.specs.Prelude.{ℕ, ◌+◌, ◌/◌, ◌%◌, ◌≤◌, ◌<◌, min, ◌≡◌, List, [], ◌∷◌, ◌++◌, length, T}
+use Rattle.std.specs.Prelude.{Result, Ok, ℕ, ◌+◌, ◌/◌, ◌%◌, ◌≤◌, ◌<◌, min, ◌≡◌, List, [], ◌∷◌, ◌++◌, length, T}
 use Rattle.std.proofs.Math.Nat.{min-eq_left}
 use Rattle.std.proofs.Math.Decide.{dec_lt}
 use Rattle.std.proofs.Common.{arith, sym, ap₂, ◌∙◌, length-append}
 use Rattle.std.proofs.Math.Path.{ap}
 use Rattle.std.proofs.Math.ListN.{take}
 use Rattle.model.specs.declared.Layout.{Layout}
+use Rattle.model.specs.declared.refusal.Refusal.{Refusal}
+use Rattle.model.specs.Answers.{refusal_number, told_by, as_written}
 use Rattle.model.specs.Layouts.{valid}
 use Rattle.model.specs.Writing.{write_of, written_bytes}
 use Rattle.model.specs.Graph6.{bytes_for, packed, size_part, pairs_by_higher, pair_bits, graph6_of, graph6_format}
@@ -15,7 +17,7 @@ use Rattle.laws.specs.Graph6.Packing.{packed_in, packed_in_length, packed_is, pa
 use Rattle.laws.specs.Graph6.Sizes.{size_short, size_long}
 use Rattle.laws.specs.Graph6.Pairs.{pairs_most, pair_bits_length}
 use Rattle.text.specs.Room.{Put, put_behind}
-use Rattle.buffer_checks.specs.Answers.{Asked, is_valid_lem, room, written}
+use Rattle.buffer_checks.specs.Answers.{Asked, is_valid_lem, room, written, passed}
 
 -- a graph of n vertices
 unfoldable pub graph6_with : ℕ → List ℕ → List ℕ
@@ -95,11 +97,15 @@ module _ (n : ℕ) {size bits : ℕ} (p : size ≡ length (size_part n)) (q : bi
   parts_few = omega (arith, p, q, data_most n, size_most n)
 
 -- where all checks have passed
-module _ {l : Layout} {buffer : List ℕ} {own long code : ℕ} (a : Asked graph6_format l buffer own long code) (z : code ≡ 0) where
+module _ {l : Layout} {buffer : List ℕ} {own long : ℕ} {answer : Result (Unit {0}) Refusal} (a : Asked graph6_format l buffer own long (refusal_number answer))
+    {x : Unit {0}} (told : answer ≡ Ok x) where
+  z : refusal_number answer ≡ 0
+  z = passed a told
+
   pub fits : long ≡ counted l.n → (l.n ≤ 64) × (counted l.n ≤ length buffer)
   fits e = ((sound l (is_valid_lem a z)).small, rw e at (room a z))
 
   pub graph_written : {after : List ℕ} {end : ℕ} → Written buffer 0 (graph6_with l.n l.adjacency) after end
-      → (record { refusal = 0; length = long } ≡ write_of graph6_format l buffer) × (after ≡ written_bytes graph6_format l buffer)
-  unfolding graph6_with graph6_of
+      → (as_written (Ok long) ≡ write_of graph6_format l buffer) × (after ≡ written_bytes graph6_format l buffer)
+  unfolding graph6_with graph6_of as_written told_by
   graph_written w = written a z (written_whole w).0

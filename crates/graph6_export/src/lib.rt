@@ -3,6 +3,7 @@
 #![tactic(auto)]
 
 ghost use Rattle.std.specs.Prelude.{◌≡◌, ◌≤◌, length};
+ghost use Rattle.model.specs.Answers.{as_written, refusal_number};
 ghost use Rattle.model.specs.Writing.{write_of, written_bytes};
 ghost use Rattle.model.specs.Graph6.{size_part, graph6_format};
 ghost use Rattle.laws.specs.Buffers.Writing.{Written};
@@ -14,35 +15,35 @@ use buffer_checks::write_refusal;
 use graph6_packing::pack_pairs;
 use graph6_pairs::data_length;
 use graph6_size::size_length;
-use model::{Layout, LayoutWritten};
+use model::{Layout, Refusal};
 use text::put_text;
 use validity::is_valid;
 use weights::all_unit;
 
 // Writes the graph to the start of the buffer, and answers how many bytes it has. The bytes beyond it
 // keep their contents.
-pub fn export(l: Layout, buffer: &mut [u8]) -> LayoutWritten
-    ensures value { result ≡ write_of graph6_format l buffer.old }
+pub fn export(l: Layout, buffer: &mut [u8]) -> Result<usize, Refusal>
+    ensures value { as_written result ≡ write_of graph6_format l buffer.old }
     ensures buffer_after { buffer.new ≡ written_bytes graph6_format l buffer.old }
 {
     let n = l.n;
-    let adjacency = l.adjacency;
-    let weights = l.weights;
     let length = size_length(n) + data_length(n);
-    let own = weight_refusal(&weights);
-    let refusal = write_refusal(is_valid(l), own, length, buffer.len(), 19);
-    if refusal != 0 {
-        return LayoutWritten { refusal, length: 0 };
-    }
-    put_graph(buffer, n, &adjacency);
-    LayoutWritten { refusal: 0, length }
+    let own = weight_refusal(&l.weights);
+    let size = buffer.len();
+    write_refusal(is_valid(l), own, length, size, Refusal::ShortBuffer)?;
+    put_graph(buffer, n, &l.adjacency);
+    Ok(length)
 }
 
-// 26 where some weight is above 1, else 0.
-fn weight_refusal(weights: &[u8; 4096]) -> u8
-    ensures { result ≡ weight_code weights.now }
+// Is no weight above 1?
+fn weight_refusal(weights: &[u8; 4096]) -> Result<(), Refusal>
+    ensures { refusal_number result ≡ weight_code weights.now }
 {
-    if all_unit(weights) { 0 } else { 26 }
+    if all_unit(weights) {
+        Ok(())
+    } else {
+        Err(Refusal::Weighted)
+    }
 }
 
 // The size part, and the bits of the pairs behind it. Answers where they end.
