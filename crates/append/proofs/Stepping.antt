@@ -14,37 +14,43 @@ use Rattle.append.specs.declared.steps.Partial.{Partial}
 use Rattle.append.specs.Steps.{Graph, Stepped, PlacedUpTo, placing_of, placed_of, to_come, step_right, step_room, next_is, next_waits}
 
 module _ {n : ℕ} {adj ws : List ℕ} (g : Graph n adj ws) {first : ℕ} where
-  module _ {s : Partial} {opens : List ℕ} {v : ℕ} (p : PlacedUpTo n adj ws first s opens v) (h : v < n) where
-    module _ {left : List ℕ} {r : Partial} (t : TakenRow ws (v % 64) opens left) (e : r ≡ placed_of ws left s v) where
+  module _ {s : Partial} {opens : List ℕ} (p : PlacedUpTo n adj ws first s opens) {v : ℕ} (found : v ≡ (best_below n adj s.placed n).vertex) (h : v < n) where
+    -- of the table that the open edges go by, before and after the row is taken away
+    module _ {before after left : List ℕ} {r : Partial} (same : before ≡ ws) (kept : after ≡ before) (t : TakenRow before (v % 64) opens left)
+        (e : r ≡ placed_of after left s v) where
+      taken : TakenRow ws (v % 64) opens left
+      taken = subst (λ (k : List ℕ). TakenRow k (v % 64) opens left) same t
+
       stepped : Stepped n ws s v left r
-      stepped = subst (Stepped n ws s v left) (sym e) (step_right g p.underway (next_waits g p h) t)
+      stepped =
+          subst (Stepped n ws s v left) (sym (e ∙ ap (λ (k : List ℕ). placed_of k left s v) (kept ∙ same)))
+          (step_right g p.underway (next_waits g p found h) taken)
 
       -- one more place is taken
       pub place_less : (s.line.size < n) × (r.line.size ≡ s.line.size + 1)
-      place_less = (step_room g p.underway (next_waits g p h), stepped.size)
+      place_less = (step_room g p.underway (next_waits g p found h), stepped.size)
 
       -- and one less is to come
       to_come_less : suc (length (to_come n adj r)) ≡ length (to_come n adj s)
       unfolding placing_of
       to_come_less =
           ap (λ (x : Placing). suc (length (waiting n (has_edges adj) x.placed))) stepped.step
-          ∙ step_waiting n (table_weight ws) (placing_of s) (next_waits g p h)
+          ∙ step_waiting n (table_weight ws) (placing_of s) (next_waits g p found h)
 
-      pub place_next_lem : {v' : ℕ} → r.tally ≤ s.tally + most_at_end → v' ≡ (best_below n adj r.placed n).vertex → PlacedUpTo n adj ws first r left v'
+      pub place_next_lem : r.tally ≤ s.tally + most_at_end → PlacedUpTo n adj ws first r left
       unfolding place_more placing_of
-      place_next_lem {v'} few found =
+      place_next_lem few =
           record {
             underway =
                 record {
                   part = stepped.part;
                   open_edges = stepped.open_edges;
-                  size = t.size;
+                  size = taken.size;
                   bounded = omega (arith, p.underway.bounded, stepped.size);
                 };
-            next = found;
             rest =
                 ap (place_more n adj (table_weight ws) (has_edges adj) (length (to_come n adj r)))
-                (stepped.step ∙ ap (place_vertex n (table_weight ws) (placing_of s)) (next_is g p h).1)
+                (stepped.step ∙ ap (place_vertex n (table_weight ws) (placing_of s)) (next_is g p found h).1)
                 ∙ ap (λ (k : ℕ). place_more n adj (table_weight ws) (has_edges adj) k (placing_of s)) to_come_less
                 ∙ p.rest;
           }

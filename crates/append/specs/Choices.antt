@@ -17,7 +17,8 @@ use Rattle.laws.specs.Append.Order.{Placed, unplaced_next, next_waiting}
 use Rattle.append_choice.specs.declared.Choice.{Choice}
 use Rattle.append_choice.specs.Choices.{comes_before, preferred_of, candidate, considered_of, no_choice, best_below}
 use Rattle.append_choice.specs.Choices.{complement}
-use Rattle.append.specs.Masks.{Held, Words, placed_test, inside_count, outside_count}
+use Rattle.laws.specs.Append.Held.{Held, placed_test}
+use Rattle.append.specs.Masks.{Words, inside_count, outside_count}
 
 module _ (n : ℕ) (adj xs : List ℕ) where
   -- a vertex with the counts of the definition

@@ -1,83 +1,27 @@
 -- Neighbours counted as ones of an adjacency word: under a word that holds the placed vertices, and under its complement.
-use Prim.Native.Nat.{ℕ, zero, suc, ◌+◌, ◌*◌, ◌-◌, ◌^◌, ◌≤◌, ◌<◌}
+use Prim.Native.Nat.{ℕ, ◌+◌, ◌*◌, ◌-◌, ◌^◌, ◌≤◌, ◌<◌}
 use Rattle.std.proofs.Math.Nat.{mul_comm, add-zero, lt_of_lt_of_le}
-use Rattle.std.proofs.Common.{add-sub_of_le, zero-mul, arith, ◌∙◌, pow_pos}
-use Rattle.std.proofs.Math.Decide.{ℕ_discrete}
-use Rattle.std.specs.Prelude.{◌≡◌, Bool, not, List, [], ◌∷◌, ◌++◌, get_or, eqb, ltb}
-use Rattle.std.proofs.Math.Path.{refl, sym, ap, ap₂}
-use Rattle.model.specs.Lists.{one, member, occurrences}
+use Rattle.std.proofs.Common.{add-sub_of_le, zero-mul, arith, ◌∙◌}
+use Rattle.std.specs.Prelude.{◌≡◌, not, List, get_or}
+use Rattle.std.proofs.Math.Path.{sym, ap, ap₂}
+use Rattle.model.specs.Lists.{one, member}
 use Rattle.model.specs.Crossings.{bit, linked}
-use Rattle.model.specs.Edits.{with_bit}
 use Rattle.model.specs.GreedyAppend.{unplaced, degree_in}
-use Rattle.laws.specs.Sums.Indicators.{one_eq, one_ne}
 use Rattle.laws.specs.Sums.Ranges.{sum, sum_ext, sum_zero, sum_cut}
 use Rattle.laws.specs.Sums.Lists.{all_mono, sum_over_ext}
-use Rattle.laws.specs.Orders.Permutations.{occurrences_nil, occurrences_cons, occurrences_append, member_occurs}
-use Rattle.laws.specs.Sums.Bits.{bit_beyond, bit_complement, masked_ones, set_same, set_other}
-use Rattle.laws.specs.Crossings.Masks.{Holds, masked_sum, weight_bit}
+use Rattle.laws.specs.Sums.Bits.{bit_beyond, bit_complement, masked_ones}
+use Rattle.laws.specs.Crossings.Masks.{masked_sum, weight_bit}
 use Rattle.laws.specs.Append.Order.{Placed, sum_over_unplaced}
+use Rattle.laws.specs.Append.Held.{Held, placed_bit}
 use Rattle.append_choice.specs.Choices.{complement}
 use Rattle.append_line.specs.declared.Line.{Line}
 use Rattle.append_line.specs.Lines.{entries, Centred}
-
--- ---- a set of vertices as a word
-
--- the word m of 64 bits holds the vertices xs
-pub record Held (m : ℕ) (xs : List ℕ) : Type 0 where
-  pub fits : m < 2 ^ 64
-  pub holds : Holds m xs
-
-pub held_none : Held 0 []
-held_none = record { fits = pow_pos 64; holds = λ v l. bit_beyond 0 0 v (omega arith) (omega arith) ∙ sym (occurrences_nil v) }
-
--- one vertex more
-module _ {xs : List ℕ} {m next : ℕ} (v : ℕ) (h : Held m xs) (free : occurrences v xs ≡ 0) (l : next < 2 ^ 64) (e : next ≡ with_bit m v) where
-  met : (u : ℕ) → u < 64 → bit next u ≡ one (eqb u v) + occurrences u xs
-  met u b =
-      ap (λ (x : ℕ). bit x u) e
-      ∙ elim (ℕ_discrete u v) [
-        | yes d ↦ ap (bit (with_bit m v)) d ∙ set_same m v ∙ omega (arith, one_eq u v d, ap (λ (x : ℕ). occurrences x xs) d)
-        | no d ↦ set_other m v u d ∙ omega (arith, h.holds u b, one_ne u v d)
-      ]
-
-  pub held_front : Held next (v ∷ xs)
-  held_front = record { fits = l; holds = λ u b. met u b ∙ sym (occurrences_cons u v xs) }
-
-  pub held_back : Held next (xs ++ (v ∷ []))
-  held_back =
-      record {
-        fits = l;
-        holds = λ u b. met u b ∙ omega (arith, occurrences_append u xs (v ∷ []), occurrences_cons u v [], occurrences_nil u);
-      }
 
 -- some of n vertices are placed, in a line and as bits
 pub record Partly (n : ℕ) (l : Line) (placed : ℕ) : Type 0 where
   pub centred : Centred l
   pub order : Placed n (entries l)
   pub held : Held placed (entries l)
-
-module _ {n : ℕ} (small : n ≤ 64) {xs : List ℕ} (p : Placed n xs) {m : ℕ} (h : Held m xs) where
-  -- a vertex is placed, or not
-  pub placed_test : (u : ℕ) → u < n → eqb (bit m u) 1 ≡ member u xs
-  placed_test u l =
-      ap (λ (x : ℕ). eqb x 1) (h.holds u (omega (arith, small))) ∙ by_number (occurrences u xs) (p.once u) ∙ sym (member_occurs u xs)
-    where
-      by_number : (k : ℕ) → k ≤ 1 → eqb k 1 ≡ ltb 0 k
-      by_number zero b = refl
-      by_number (suc zero) b = refl
-      by_number (suc (suc k)) b = absurd (omega arith)
-
-  placed_bit : (u : ℕ) → u < n → 1 - bit m u ≡ one (not (member u xs))
-  unfolding one
-  placed_bit u l =
-      ap (λ (x : ℕ). 1 - x) (h.holds u (omega (arith, small)))
-      ∙ by_number (occurrences u xs) (p.once u)
-      ∙ ap (λ (b : Bool). one (not b)) (sym (member_occurs u xs))
-    where
-      by_number : (k : ℕ) → k ≤ 1 → 1 - k ≡ one (not (ltb 0 k))
-      by_number zero b = refl
-      by_number (suc zero) b = refl
-      by_number (suc (suc k)) b = absurd (omega arith)
 
 -- adjacency words of n vertices
 pub record Words (n : ℕ) (adj : List ℕ) : Type 0 where

@@ -12,7 +12,8 @@ use Rattle.laws.specs.Sums.Ranges.{sum, sum_cut}
 use Rattle.laws.specs.Append.Order.{unplaced_length, unplaced_next, placed_count}
 use Rattle.append_line.specs.declared.Line.{Line}
 use Rattle.append_line.specs.Lines.{entries, Centred, entries_length, at_back, back_centred, back_entries, rest_of}
-use Rattle.append.specs.Masks.{Partly, placed_test}
+use Rattle.laws.specs.Append.Held.{placed_test}
+use Rattle.append.specs.Masks.{Partly}
 
 -- the unplaced vertices below k, with k if it is one, are at most all
 unplaced_most : (xs : List ℕ) (n k : ℕ) → k < n → length (unplaced k xs) + one (not (member k xs)) ≤ length (unplaced n xs)

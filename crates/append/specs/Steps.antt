@@ -1,6 +1,6 @@
 -- A step of the code is a step of the definition, and as many as there are vertices with edges place them all.
 use Prim.Native.Nat.{ℕ, suc, ◌+◌, ◌*◌, ◌%◌, ◌^◌, ◌≤◌, ◌<◌}
-use Rattle.std.proofs.Common.{mod-eq_of_lt, arith, ◌∙◌, length-append, lt-ltb, le-ltb}
+use Rattle.std.proofs.Common.{le_refl, mod-eq_of_lt, arith, ◌∙◌, length-append, lt-ltb, le-ltb}
 use Rattle.std.specs.Prelude.{◌≡◌, Bool, length, ltb}
 use Rattle.std.proofs.Math.Path.{refl, sym, ap, ap₂, subst}
 use Rattle.std.proofs.Math.Bool.{cond}
@@ -23,7 +23,8 @@ use Rattle.append_ends.specs.declared.Ends.{Ends}
 use Rattle.append_ends.specs.Ends.{vertices, ends_of, most_at_end, ends_right}
 use Rattle.append_choice.specs.Choices.{best_below}
 use Rattle.append.specs.declared.steps.Partial.{Partial}
-use Rattle.append.specs.Masks.{Held, held_none, held_front, held_back, Partly, Words}
+use Rattle.laws.specs.Append.Held.{Held, held_none, held_front, held_back}
+use Rattle.append.specs.Masks.{Partly, Words}
 use Rattle.append.specs.Choices.{next_found, next_none}
 
 -- ---- what a step is
@@ -194,10 +195,9 @@ pub record LinkedPlaced (n : ℕ) (adj ws : List ℕ) (first : ℕ) (r : Partial
   pub none_left : length (to_come n adj r) ≡ 0
   pub placing : placing_of r ≡ place_linked n adj (table_weight ws) first
 
--- some are placed, the next one is v, or none if v is n, and the rest is still to come
-pub record PlacedUpTo (n : ℕ) (adj ws : List ℕ) (first : ℕ) (s : Partial) (opens : List ℕ) (v : ℕ) : Type 0 where
+-- some are placed, and the rest is still to come
+pub record PlacedUpTo (n : ℕ) (adj ws : List ℕ) (first : ℕ) (s : Partial) (opens : List ℕ) : Type 0 where
   pub underway : Underway n ws s opens
-  pub next : v ≡ (best_below n adj s.placed n).vertex
   pub rest : place_more n adj (table_weight ws) (has_edges adj) (length (to_come n adj s)) (placing_of s) ≡ place_linked n adj (table_weight ws) first
 
 module _ {n : ℕ} {adj ws : List ℕ} (g : Graph n adj ws) {first : ℕ} where
@@ -211,11 +211,11 @@ module _ {n : ℕ} {adj ws : List ℕ} (g : Graph n adj ws) {first : ℕ} where
       (open_start g.words.small g.blank rows_are)
       (subst (λ (k : ℕ). TakenRow ws k rows opens) (mod-eq_of_lt vertex) t))
 
-  pub place_start : {line : Line} {m v : ℕ} {rows opens : List ℕ} → first < n → line ≡ alone_at first → m < 2 ^ 64 → m ≡ with_bit 0 first
-      → RowsOf ws rows → TakenRow ws (first % 64) rows opens → v ≡ (best_below n adj m n).vertex
-      → PlacedUpTo n adj ws first (record { line = line; placed = m; tally = 0 }) opens v
+  pub place_start : {line : Line} {m : ℕ} {rows opens : List ℕ} → first < n → line ≡ alone_at first → m < 2 ^ 64 → m ≡ with_bit 0 first
+      → RowsOf ws rows → TakenRow ws (first % 64) rows opens
+      → PlacedUpTo n adj ws first (record { line = line; placed = m; tally = 0 }) opens
   unfolding place_linked placing_of alone
-  place_start {line} {m} {v} {rows} {opens} h a l set rows_are t found =
+  place_start {line} {m} {rows} {opens} h a l set rows_are t =
       let vertex : first < 64 = omega (arith, g.words.small) in
       let e : entries line ≡ first ∷ [] = ap entries a ∙ alone_entries first vertex in
       record {
@@ -231,7 +231,6 @@ module _ {n : ℕ} {adj ws : List ℕ} (g : Graph n adj ws) {first : ℕ} where
               size = t.size;
               bounded = omega arith;
             };
-        next = found;
         rest =
             ap
             (λ (xs : List ℕ).
@@ -239,10 +238,10 @@ module _ {n : ℕ} {adj ws : List ℕ} (g : Graph n adj ws) {first : ℕ} where
             e;
       }
 
-  module _ {s : Partial} {opens : List ℕ} {v : ℕ} (p : PlacedUpTo n adj ws first s opens v) where
-    module _ (h : v < n) where
+  module _ {s : Partial} {opens : List ℕ} (p : PlacedUpTo n adj ws first s opens) where
+    module _ {v : ℕ} (found : v ≡ (best_below n adj s.placed n).vertex) (h : v < n) where
       pub next_is : (0 < length (to_come n adj s)) × (v ≡ next_vertex n adj (entries s.line) (to_come n adj s))
-      next_is = next_found g.words p.underway.part.order p.underway.part.held p.next h
+      next_is = next_found g.words p.underway.part.order p.underway.part.held found h
 
       pub next_waits : Waiting n (has_edges adj) (entries s.line) v
       next_waits = rw next_is.1 (next_waiting n (has_edges adj) (entries s.line) adj next_is.0)
@@ -250,10 +249,10 @@ module _ {n : ℕ} {adj ws : List ℕ} (g : Graph n adj ws) {first : ℕ} where
       pub next_fits : Fitting s v
       next_fits = step_fits g p.underway next_waits
 
-    pub place_end : n ≤ v → LinkedPlaced n adj ws first s
+    pub place_end : n ≡ (best_below n adj s.placed n).vertex → LinkedPlaced n adj ws first s
     unfolding place_more
-    place_end h =
-        let none = next_none g.words p.underway.part.order p.underway.part.held p.next h in
+    place_end found =
+        let none = next_none g.words p.underway.part.order p.underway.part.held found (le_refl n) in
         record {
           part = p.underway.part;
           none_left = none;

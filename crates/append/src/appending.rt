@@ -5,7 +5,6 @@ ghost use Rattle.model.specs.Layouts.{weight, valid};
 ghost use Rattle.model.specs.GreedyAppend.{place_all, lay_answer, lay_of};
 
 use super::steps::place_linked;
-use append_line::{put_rest, written};
 use carrying::carried_to;
 use model::{Layout, Refusal};
 use validity::check_vertex;
@@ -24,8 +23,9 @@ fn append_from(l: Layout, s: usize) -> (Layout, u64)
 {
     // those with edges, and then the rest: the isolated ones (document 02, Note 2: unlinked devices)
     let linked = place_linked(l.n, &l.adjacency, &l.weights, s);
-    let line = put_rest(l.n, linked.line, linked.placed);
-    let order = written(line, l.order);
+    let mut line = linked.line;
+    line.put_rest(l.n, linked.placed);
+    let order = line.written(l.order);
     // the tally is the crossings of the laid order (document 02, Note 6), so that only those before
     // are counted
     let tally = linked.tally;

@@ -5,9 +5,8 @@ ghost use Rattle.append_ends.specs.Ends.{most_at_end};
 ghost use Rattle.append.specs.Steps.{Graph, Fitting, Few, put_of, placed_of, LinkedPlaced};
 
 use append_choice::next_vertex;
-use append_ends::{Ends, end_crossings};
-use append_line::{Line, alone, put_back, put_front};
-use weights::{row_weights, sub_row};
+use append_ends::{Ends, OpenEdges};
+use append_line::Line;
 
 // The vertices placed so far, as a list and as bits, and the tally.
 #[derive(Clone, Copy)]
@@ -18,7 +17,7 @@ pub struct Partial {
 }
 
 // s, and after it every vertex with edges. A vertex is chosen by numbers of edges, and put at an end by
-// weights. opens has for each vertex the weight of its edges to those that are not placed.
+// weights.
 pub(crate) fn place_linked(
     n: usize,
     adjacency: &[u64; 64],
@@ -29,46 +28,42 @@ pub(crate) fn place_linked(
     ensures { LinkedPlaced n adjacency.now weights.now s result }
 {
     let mut so_far = Partial {
-        line: alone(s),
+        line: Line::alone(s),
         placed: words::set(0, s),
         tally: 0,
     };
-    let mut opens = row_weights(weights);
-    sub_row(&mut opens, weights, s);
-    let mut v = next_vertex(n, adjacency, so_far.placed);
-    while v < n {
-        sub_row(&mut opens, weights, v);
-        so_far = place(weights, &opens, so_far, v);
-        v = next_vertex(n, adjacency, so_far.placed);
+    let mut edges = OpenEdges::all(weights);
+    edges.close(s);
+    while let Some(v) = next_vertex(n, adjacency, so_far.placed) {
+        edges.close(v);
+        so_far.place(&edges, v);
     }
     so_far
 }
 
-// One step: the edges to v are not open any more.
-fn place(weights: &[u8; 4096], opens: &[u16; 64], s: Partial, v: usize) -> Partial
-    requires { Fitting s v }
-    ensures { (result ≡ placed_of weights.now opens.now s v) × (result.tally ≤ s.tally + most_at_end) }
-{
-    let placed = words::set(s.placed, v);
-    let ends = end_crossings(s.line, weights, opens, v);
-    put(s, v, placed, ends)
-}
-
-// v at the end where it makes fewer crossings; on a tie, at the back. placed has it already.
-fn put(s: Partial, v: usize, placed: u64, ends: Ends) -> Partial
-    requires { Fitting s v × Few ends }
-    ensures { (result ≡ put_of s v placed ends) × (result.tally ≤ s.tally + most_at_end) }
-{
-    if ends.front < ends.back {
-        return Partial {
-            line: put_front(s.line, v),
-            placed,
-            tally: s.tally + ends.front,
-        };
+impl Partial {
+    // One step: the edges to v are not open any more.
+    fn place(&mut self, edges: &OpenEdges, v: usize)
+        requires { Fitting self.old v }
+        ensures { (self.new ≡ placed_of edges.now.weights.now edges.now.sums self.old v) × (self.new.tally ≤ self.old.tally + most_at_end) }
+    {
+        let ends = edges.ends_of(self.line.placed(), v);
+        self.placed = words::set(self.placed, v);
+        self.put(v, ends);
     }
-    Partial {
-        line: put_back(s.line, v),
-        placed,
-        tally: s.tally + ends.back,
+
+    // v at the end where it makes fewer crossings; on a tie, at the back. placed has it already.
+    #[tactic(auto, unfolding(crate::specs::Steps::put_of))]
+    fn put(&mut self, v: usize, ends: Ends)
+        requires { Fitting self.old v × Few ends }
+        ensures { (self.new ≡ put_of self.old v self.old.placed ends) × (self.new.tally ≤ self.old.tally + most_at_end) }
+    {
+        if ends.front < ends.back {
+            self.line.put_front(v);
+            self.tally += ends.front;
+        } else {
+            self.line.put_back(v);
+            self.tally += ends.back;
+        }
     }
 }

@@ -1,5 +1,6 @@
 -- The next vertex, found by going through all vertices with counts under the set of the placed ones and under its complement.
-use Rattle.std.specs.Prelude.{ℕ, zero, suc, ◌+◌, ◌-◌, ◌^◌, ◌≤◌, ◌<◌, ◌≡◌, Bool, true, false, cond, ◌&&◌, ◌||◌, List, get_or, eqb, ltb, leb, None, Some, IfSome, MatchOption}
+use Rattle.std.specs.Prelude.{ℕ, zero, suc, ◌+◌, ◌-◌, ◌^◌, ◌≤◌, ◌<◌, ◌≡◌, Bool, true, false, cond, ◌&&◌, ◌||◌, List, get_or, eqb, ltb, leb}
+use Rattle.std.specs.Prelude.{None, Some, IfSome, MatchOption}
 use Rattle.std.proofs.Common.{le_antisymm, le-leb, add-one, arith, sym, ◌∙◌}
 use Rattle.std.proofs.lemmas.Bool.{lt-ltb}
 use Rattle.std.specs.declared.option.Option.{Option}

@@ -48,7 +48,8 @@ impl<'a> OpenEdges<'a> {
     // neither placed nor v.
     pub fn ends_of(&self, placed: &[u8], v: usize) -> Ends
         requires { length placed.now ≤ 64 }
-        ensures { (result ≡ ends_of self.now.weights.now self.now.sums (v % 64) (as_vertices placed.now)) × ((result.front ≤ most_at_end) × (result.back ≤ most_at_end)) }
+        ensures { (result ≡ ends_of self.now.weights.now self.now.sums (v % 64) (as_vertices placed.now))
+            × ((result.front ≤ most_at_end) × (result.back ≤ most_at_end)) }
     {
         let mut met = Met {
             front: 0,

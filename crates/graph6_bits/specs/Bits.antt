@@ -1,9 +1,13 @@
--- Bit k of some bytes, by the byte that it stands in.
-use Rattle.std.specs.Prelude.{ℕ, ◌-◌, ◌/◌, ◌%◌, ◌≤◌, ◌<◌, ◌≡◌, Bool, false, List, length, get_or, eqb}
-use Rattle.std.proofs.Common.{arith, sym, ap, ◌∙◌}
+-- Bit k of some bytes, by the byte that it stands in; and what a test of every byte says.
+use Rattle.std.specs.Prelude.{ℕ, ◌-◌, ◌/◌, ◌%◌, ◌≤◌, ◌<◌, ◌≡◌, ◌↔◌, Bool, true, false, List, length, get_or, eqb, T}
+use Rattle.std.proofs.Common.{arith, sym, ap, subst, ◌∙◌}
 use Rattle.std.proofs.Math.ListN.{get_or-eq_default}
 use Rattle.model.specs.Crossings.{bit}
 use Rattle.model.specs.Graph6.{unpacked}
+use Rattle.model.specs.Lists.{every}
+use Rattle.laws.specs.Sums.Indicators.{T_true, bool_ext}
+use Rattle.laws.specs.Sums.Lists.{all_at, all_places}
+use Rattle.laws.specs.Sums.Every.{every_all, all_every}
 use Rattle.laws.specs.Sums.Bits.{bit_beyond}
 use Rattle.laws.specs.Graph6.Packing.{unpacked_length, unpacked_at}
 
@@ -18,3 +22,10 @@ module _ (bytes : List ℕ) (k : ℕ) where
   -- a byte below 63 has none
   pub bit_low : k / 6 < length bytes → get_or bytes (k / 6) 0 < 63 → false ≡ eqb (get_or (unpacked bytes) k 0) 1
   bit_low h l = bit_there h (sym (ap (λ (b : ℕ). eqb b 1) (bit_beyond 0 (get_or bytes (k / 6) 0 - 63) (5 - k % 6) (omega arith) (omega arith))))
+
+-- a test that is told of every entry
+pub told_every : (p : ℕ → Bool) (xs : List ℕ) {r : Bool} → (r ≡ true ↔ ((k : ℕ) → k < length xs → p (get_or xs k 0) ≡ true)) → r ≡ every p xs
+told_every p xs {r} told =
+    bool_ext r (every p xs)
+    (λ t. subst T (sym (every_all (all_places {P = λ x. p x ≡ true} xs (told.0 (T_true r t))))) tt)
+    (λ t. subst T (sym (told.1 (all_at {P = λ x. p x ≡ true} 0 (all_every p xs (T_true (every p xs) t))))) tt)

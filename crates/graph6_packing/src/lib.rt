@@ -5,18 +5,15 @@ ghost use Rattle.std.specs.Prelude.{◌≡◌, cond, suc, ◌+◌, ◌-◌, ◌/
 ghost use Rattle.model.specs.Graph6.{pair_bits};
 ghost use Rattle.laws.specs.Graph6.Packing.{packed_in};
 
-use graph6_pairs::{at_most_64, pair_place};
+use graph6_pairs::pair_place;
 
 // Room for the pairs of 64 vertices. A byte behind the last bit has no bit set.
 pub fn pack_pairs(n: usize, adjacency: &[u64; 64]) -> [u8; 336]
     ensures { result ≡ packed_in 336 (pair_bits (min n 64) adjacency.now) }
 {
-    let few = at_most_64(n);
     let mut bytes = [63u8; 336];
-    let mut b = 0;
-    while b < few {
+    for b in 0..n.min(64) {
         pack_lower(b, adjacency, &mut bytes);
-        b += 1;
     }
     bytes
 }
@@ -26,10 +23,8 @@ fn pack_lower(b: usize, adjacency: &[u64; 64], bytes: &mut [u8; 336])
     requires { (b < 64) × (bytes.old ≡ packed_in 336 (pair_bits b adjacency.now)) }
     ensures { bytes.new ≡ packed_in 336 (pair_bits (suc b) adjacency.now) }
 {
-    let mut a = 0;
-    while a < b {
+    for a in 0..b {
         pack_bit(pair_place(a, b), words::is_set(adjacency[a], b), bytes);
-        a += 1;
     }
 }
 

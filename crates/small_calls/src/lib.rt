@@ -1,6 +1,7 @@
 // The calls on layouts of at most eight vertices (document 02, Note 10), each into a lent buffer.
 #![tactic(auto)]
 
+mod checks;
 mod least;
 mod listed;
 mod order_buffer;

@@ -12,6 +12,7 @@ ghost use Rattle.small_order.specs.Indices.{free};
 use small_prefix::Prefix;
 
 // How many orders of n vertices there are.
+#[tactic(auto, unfolding(model::specs::SmallOrders::number_of_orders, model::specs::SmallOrders::factorial))]
 pub fn number_of_orders(n: usize) -> usize
     requires { n ≤ 8 }
     ensures { result ≡ number_of_orders n }

@@ -52,21 +52,21 @@ pub record Begins (ws : List ℕ) (b : Branch) : Type 0 where
   pub rows_are : RowsOf ws rows
   pub prefix_is : b.prefix ≡ alone
   pub met_is : b.met ≡ 0
-  pub weights_are : b.open.weights.now ≡ ws
-  pub opens_are : TakenRow ws 0 rows b.open.sums
+  pub weights_are : b.edges.weights.now ≡ ws
+  pub opens_are : TakenRow ws 0 rows b.edges.sums
 
 -- r is b with v placed
 pub record Extends (ws : List ℕ) (b : Branch) (v : ℕ) (r : Branch) : Type 0 where
   pub prefix_is : r.prefix ≡ next_of b.prefix v
-  pub weights_are : r.open.weights.now ≡ ws
-  pub opens_are : TakenRow ws (v % 64) b.open.sums r.open.sums
-  pub met_is : r.met ≡ b.met + (ends_of ws r.open.sums (v % 64) (as_vertices (entries b.prefix))).back
+  pub weights_are : r.edges.weights.now ≡ ws
+  pub opens_are : TakenRow ws (v % 64) b.edges.sums r.edges.sums
+  pub met_is : r.met ≡ b.met + (ends_of ws r.edges.sums (v % 64) (as_vertices (entries b.prefix))).back
 
 -- of n vertices all but left are placed, with the weight of each one's open edges
 pub record Underway (n left : ℕ) (ws : List ℕ) (b : Branch) : Type 0 where
   pub ready : Ready n left b.prefix
-  pub open_edges : StillOpen n (table_weight ws) (entries b.prefix) b.open.sums
-  pub size : length b.open.sums ≡ 64
+  pub open_edges : StillOpen n (table_weight ws) (entries b.prefix) b.edges.sums
+  pub size : length b.edges.sums ≡ 64
 
 -- ---- one vertex more
 
@@ -79,7 +79,7 @@ module _ {n : ℕ} {ws : List ℕ} (g : Graph n ws) where
       record {
         ready = subst (Ready n (n - 1)) (sym s.prefix_is) (ready_alone some g.small);
         open_edges =
-            subst (λ (p : Prefix). StillOpen n W (entries p) b.open.sums) (sym s.prefix_is)
+            subst (λ (p : Prefix). StillOpen n W (entries p) b.edges.sums) (sym s.prefix_is)
             (open_front
             (open_taken (omega (arith, g.small)) (λ y l. g.symmetry.swap y 0 l some) some (occurrences_nil 0)
             (open_start (omega (arith, g.small)) g.blank s.rows_are) s.opens_are));
@@ -87,7 +87,7 @@ module _ {n : ℕ} {ws : List ℕ} (g : Graph n ws) where
       }
 
   -- what the search of the rest asks for, of the weights that the branch goes by
-  pub begun_asked : {b : Branch} → 0 < n → Begins ws b → Graph n b.open.weights.now × Underway n (n - 1) b.open.weights.now b
+  pub begun_asked : {b : Branch} → 0 < n → Begins ws b → Graph n b.edges.weights.now × Underway n (n - 1) b.edges.weights.now b
   begun_asked {b} some s =
       subst (λ (k : List ℕ). Graph n k × Underway n (n - 1) k b) (sym s.weights_are) (g, underway_alone some s)
 
@@ -102,10 +102,10 @@ module _ {n : ℕ} {ws : List ℕ} (g : Graph n ws) where
       vertex : v % 64 ≡ v
       vertex = omega (arith, g.small)
 
-      left_open : OpenOf n W (entries b.prefix) v r.open.sums
+      left_open : OpenOf n W (entries b.prefix) v r.edges.sums
       left_open =
           open_taken (omega (arith, g.small)) (λ y l. g.symmetry.swap y v l h) h free u.open_edges
-          (subst (λ (k : ℕ). TakenRow ws k b.open.sums r.open.sums) vertex e.opens_are)
+          (subst (λ (k : ℕ). TakenRow ws k b.edges.sums r.edges.sums) vertex e.opens_are)
 
       pub entries_are : entries r.prefix ≡ entries b.prefix ++ (v ∷ [])
       entries_are = ap entries e.prefix_is ∙ entries_next u.ready h some free
@@ -114,11 +114,11 @@ module _ {n : ℕ} {ws : List ℕ} (g : Graph n ws) where
       underway_next =
           record {
             ready = subst (Ready n (left - 1)) (sym e.prefix_is) (ready_next u.ready h some free);
-            open_edges = subst (λ (xs : List ℕ). StillOpen n W xs r.open.sums) (sym entries_are) (open_back left_open);
+            open_edges = subst (λ (xs : List ℕ). StillOpen n W xs r.edges.sums) (sym entries_are) (open_back left_open);
             size = e.opens_are.size;
           }
 
-      pub next_asked : Graph n r.open.weights.now × Underway n (left - 1) r.open.weights.now r
+      pub next_asked : Graph n r.edges.weights.now × Underway n (left - 1) r.edges.weights.now r
       next_asked = subst (λ (k : List ℕ). Graph n k × Underway n (left - 1) k r) (sym e.weights_are) (g, underway_next)
 
       -- it adds what it adds to the tally of greedy append
@@ -128,5 +128,5 @@ module _ {n : ℕ} {ws : List ℕ} (g : Graph n ws) where
           let below = u.ready.begun.placed.below in
           let inside = as_itself (all_mono below (λ x l. lt_of_lt_of_le l (omega (arith, g.small)))) in
           e.met_is
-          ∙ ap₂ (λ (k : ℕ) (xs : List ℕ). b.met + (ends_of ws r.open.sums k xs).back) vertex inside
+          ∙ ap₂ (λ (k : ℕ) (xs : List ℕ). b.met + (ends_of ws r.edges.sums k xs).back) vertex inside
           ∙ ap (λ (k : ℕ). b.met + k) (back_open below left_open)

@@ -122,7 +122,7 @@ module _ {n left : ℕ} {ws : List ℕ} {b : Branch} (u : Underway n left ws b) 
 
   -- v is next: what the search of the rest gives
   pub next_answered : Graph n ws → {v : ℕ} → v < n → 0 < left → member v (entries b.prefix) ≡ false → {r : Branch} {f : Best} → Extends ws b v r
-      → f ≡ search_rest n (table_weight r.open.weights.now) (left - 1) (entries r.prefix) r.met (found_in n best)
+      → f ≡ search_rest n (table_weight r.edges.weights.now) (left - 1) (entries r.prefix) r.met (found_in n best)
       → f ≡ cond (member v (entries b.prefix)) (found_in n best)
       (step_at n (table_weight ws) (left - 1) (entries b.prefix) b.met (found_in n best) v)
   unfolding step_at
@@ -154,7 +154,7 @@ module _ {n : ℕ} {ws : List ℕ} (g : Graph n ws) (some : 0 < n) where
 
   -- from vertex 0 alone
   pub answered : {b : Branch} {f : Best} (order : List ℕ) → Begins ws b
-      → f ≡ search_rest n (table_weight b.open.weights.now) (n - 1) (entries b.prefix) b.met (found_in n (record { least = most; order = order }))
+      → f ≡ search_rest n (table_weight b.edges.weights.now) (n - 1) (entries b.prefix) b.met (found_in n (record { least = most; order = order }))
       → f ≡ least_found n (table_weight ws)
   unfolding least_found found_in
   answered {b} order s e =

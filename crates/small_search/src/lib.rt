@@ -17,7 +17,7 @@ use small_prefix::Prefix;
 pub struct Branch<'a> {
     pub prefix: Prefix,
     pub met: u64,
-    pub open: OpenEdges<'a>,
+    pub edges: OpenEdges<'a>,
 }
 
 // The least crossings so far, and the first order that has them.
@@ -52,23 +52,21 @@ impl<'a> Branch<'a> {
     fn begun(weights: &'a [u8; 4096]) -> Branch<'a>
         ensures { Begins weights.now result }
     {
-        let mut open = OpenEdges::all(weights);
-        open.close(0);
+        let mut edges = OpenEdges::all(weights);
+        edges.close(0);
         Branch {
             prefix: Prefix::zero_first(),
             met: 0,
-            open,
+            edges,
         }
     }
 
     // All orders that start with the placed vertices and have left more, by placing one further vertex and
     // listing the rest.
     fn list_rest(self, n: usize, left: usize, best: Found) -> Found
-        requires { Graph n self.open.weights.now × (Underway n left self.open.weights.now self × (best.least ≤ most)) }
-        ensures result_value {
-            let b = self.entry in
-            found_in n result ≡ search_rest n (table_weight b.open.weights.now) left (entries b.prefix) b.met (found_in n best)
-        }
+        requires { Graph n self.edges.weights.now × (Underway n left self.edges.weights.now self × (best.least ≤ most)) }
+        ensures result_value { let b = self.entry in
+            found_in n result ≡ search_rest n (table_weight b.edges.weights.now) left (entries b.prefix) b.met (found_in n best) }
         ensures low { result.least ≤ best.least }
     {
         if best.least <= self.met {
@@ -94,16 +92,16 @@ impl<'a> Branch<'a> {
     // greedy append.
     fn put_behind(self, v: usize) -> Branch<'a>
         requires { Room self }
-        ensures { Extends self.entry.open.weights.now self.entry v result }
+        ensures { Extends self.entry.edges.weights.now self.entry v result }
     {
-        let mut open = self.open;
-        open.close(v);
+        let mut edges = self.edges;
+        edges.close(v);
         let placed = &self.prefix.places[..self.prefix.size];
-        let ends = open.ends_of(placed, v);
+        let ends = edges.ends_of(placed, v);
         Branch {
             prefix: self.prefix.extended(v),
             met: self.met + ends.back,
-            open,
+            edges,
         }
     }
 }

@@ -1,21 +1,14 @@
-use native.Mathlib.Omega.{arith}
 use Rattle.graph6_packing.specs.Bits.{place_few, place_free, lower_start, lower_next, lower_end}
 use Rattle.graph6_packing.proofs.pack_lower.Goals as goal
 
 pub loop-a-init : goal.loop-a-init
-loop-a-init c = let s = c.requires in lower_start s.0 s.1
-
-pub offset_bounds-adjacency-a : goal.offset_bounds-adjacency-a
-offset_bounds-adjacency-a c = omega (arith, c.loop-a.invariant.few)
-
-pub bounds-adjacency-a : goal.bounds-adjacency-a
-bounds-adjacency-a c = omega (arith, c.loop-a.invariant.few)
+loop-a-init c = lower_start c.requires.0 c.requires.1
 
 pub pack_bit-requires : goal.pack_bit-requires
 pack_bit-requires c =
-    let inv = c.loop-a.invariant in
+    let so_far = c.loop-a.invariant in
     let place = c.pair_place.ensures in
-    (place_few inv c.loop-a-test.true place, place_free inv c.loop-a-test.true place)
+    (place_few so_far c.loop-a-test.true place, place_free so_far c.loop-a-test.true place)
 
 pub loop-a-preserved : goal.loop-a-preserved
 loop-a-preserved c =

@@ -8,5 +8,5 @@ place_linked-linked-requires c = (graph_valid c.args.l c.requires.0, c.requires.
 pub returns : goal.returns
 unfolding as_appended told_by
 returns c =
-    laid_right c.args.l c.args.s c.requires.0 c.requires.1 c.place_linked-linked.ensures c.put_rest-line.ensures
+    laid_right c.args.l c.args.s c.requires.0 c.requires.1 c.place_linked-linked.ensures c.put_rest.ensures
     c.written-order.ensures c.carried_to-next.ensures

@@ -1,6 +1,6 @@
 use Rattle.std.proofs.Common.{le_refl, arith, sym, ◌∙◌}
 use Rattle.small_prefix.specs.Prefixes.{in_bits}
-use Rattle.small_search.specs.Branches.{room, next_asked}
+use Rattle.small_search.specs.Branches.{next_asked}
 use Rattle.small_search.specs.Turns.{turns_start, turns_next, cut_right, leaf_right, inner_right, next_answered}
 use Rattle.small_search.proofs.Branch.+list_rest.Goals as goal
 use Rattle.small_search.proofs.Branch.+list_rest.Goals.{then-not-is_set, else-not-is_set}
@@ -15,10 +15,6 @@ returns-then-left-eq0-clause-result_value t c = leaf_right c.requires.1.0 c.args
 
 pub loop-v-init : goal.loop-v-init
 loop-v-init t c = turns_start
-
--- a vertex whose bit is not set is put behind
-pub put_behind-next-requires : goal.put_behind-next-requires
-put_behind-next-requires t c = room c.requires.0 c.requires.1.0 (omega (arith, c.requires.1.1))
 
 pub list_rest-found-requires : goal.list_rest-found-requires
 list_rest-found-requires t c =
@@ -46,6 +42,3 @@ loop-v-preserved t c =
 -- after the last vertex
 pub returns-clause-result_value : goal.returns-clause-result_value
 returns-clause-result_value t c = inner_right c.requires.1.0 c.args.best c.if-best-self.false (omega arith) c.loop-v.invariant c.loop-v-test.false
-
-pub returns-clause-low : goal.returns-clause-low
-returns-clause-low t c = c.loop-v.invariant.low

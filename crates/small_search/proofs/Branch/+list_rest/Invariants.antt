@@ -7,7 +7,7 @@ use Rattle.small_search.proofs.Branch.+list_rest.Given as goal
 abbrev pub invariant-loop-v : goal.invariant-loop-v
 invariant-loop-v l =
     let b = l.self in
-    TurnsUpTo l.n (step_at l.n (table_weight b.open.weights.now) (l.left - 1) (entries b.prefix) b.met) (entries b.prefix) l.initial.found l.found l.v
+    TurnsUpTo l.n (step_at l.n (table_weight b.edges.weights.now) (l.left - 1) (entries b.prefix) b.met) (entries b.prefix) l.initial.found l.found l.v
 
 -- one call for each vertex that is left, in a loop over the vertices
 abbrev pub decreases-list_rest : goal.decreases-list_rest
