@@ -29,6 +29,6 @@ fn append_from(l: Layout, s: usize) -> (Layout, u64)
     // the tally is the crossings of the laid order (document 02, Note 6), so that only those before
     // are counted
     let tally = linked.tally;
-    let next = carried_to(l, l.n, order, l.adjacency, l.weights, tally);
+    let next = carried_to(l, Layout { order, ..l }, tally);
     (next, tally)
 }

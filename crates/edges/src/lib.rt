@@ -18,7 +18,7 @@ pub fn add_edge(l: Layout, a: usize, b: usize, weight: u8) -> Result<Layout, Ref
     let mut weights = l.weights;
     ends::join(&mut adjacency, a, b);
     weights::set_both(&mut weights, a, b, weight);
-    Ok(recounted(l, l.n, l.order, adjacency, weights))
+    Ok(recounted(l, Layout { adjacency, weights, ..l }))
 }
 
 pub fn remove_edge(l: Layout, a: usize, b: usize) -> Result<Layout, Refusal>
@@ -29,7 +29,7 @@ pub fn remove_edge(l: Layout, a: usize, b: usize) -> Result<Layout, Refusal>
     let mut weights = l.weights;
     ends::part(&mut adjacency, a, b);
     weights::set_both(&mut weights, a, b, 0);
-    Ok(recounted(l, l.n, l.order, adjacency, weights))
+    Ok(recounted(l, Layout { adjacency, weights, ..l }))
 }
 
 // Are the two vertices not joined yet, and is there a weight?

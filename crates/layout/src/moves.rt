@@ -15,5 +15,5 @@ pub fn move_after(l: Layout, a: usize, b: usize) -> Result<Layout, Refusal>
     let p = place_of(&l.order[..l.n], a);
     let q = place_of(&l.order[..l.n], b);
     let order = moved(l.order, p, q);
-    Ok(recounted(l, l.n, order, l.adjacency, l.weights))
+    Ok(recounted(l, Layout { order, ..l }))
 }
