@@ -1,4 +1,4 @@
-use Rattle.std.proofs.Common.{◌≡◌, ◌≤◌, ◌<◌, length, take, get_or-take, length-take-le, sym, ◌∙◌, arith}
+use Rattle.std.proofs.Common.{◌≡◌, ◌<◌, get_or-take, length-take-le, sym, ◌∙◌, arith}
 use Rattle.laws.specs.Sums.Bits.{set_within}
 use Rattle.laws.specs.Orders.Permutations.{at}
 use Rattle.orders.specs.Seen.{seen_none, seen_next, seen_all, seen_again, not_a_vertex}

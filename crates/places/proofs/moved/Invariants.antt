@@ -1,4 +1,3 @@
-use Prim.Native.Nat.{◌-◌}
 use lib.ListN.{get_or}
 use Rattle.laws.specs.Sums.Loops.{FilledUpTo}
 use Rattle.laws.specs.Orders.Moves.{moved_from}

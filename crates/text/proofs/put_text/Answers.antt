@@ -1,4 +1,4 @@
-use Rattle.std.proofs.Common.{List, ◌++◌, take, drop, le_refl, refl, drop-drop, ap, ap₂, ◌∙◌, ◌+◌, ℕ, length}
+use Rattle.std.proofs.Common.{List, ◌++◌, take, drop, le_refl, refl, drop-drop, ap, ap₂, ◌∙◌, ℕ, length}
 use Rattle.std.proofs.Math.Nat.{add-sub_cancel_left}
 use Rattle.laws.specs.Buffers.Writing.{written}
 use Rattle.text.specs.Room.{put_full, put_fits, no_room, has_room_lem}

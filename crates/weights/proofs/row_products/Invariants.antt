@@ -1,4 +1,4 @@
-use Prim.Native.Nat.{◌*◌, ◌-◌, ◌%◌}
+use Prim.Native.Nat.{◌*◌, ◌%◌}
 use lib.ListN.{get_or}
 use Rattle.laws.specs.Tables.Rows.{table_weight, SummedUpTo}
 use Rattle.weights.proofs.row_products.Given as goal

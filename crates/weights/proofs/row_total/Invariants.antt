@@ -1,4 +1,3 @@
-use Prim.Native.Nat.{◌-◌}
 use Rattle.laws.specs.Tables.Rows.{table_weight, SummedUpTo}
 use Rattle.weights.proofs.row_total.Given as goal
 

@@ -1,4 +1,3 @@
-use Prim.Native.Nat.{◌-◌}
 use Rattle.laws.specs.Sums.Loops.{FilledUpTo}
 use Rattle.laws.specs.Tables.Rows.{row_weight}
 use Rattle.weights.proofs.row_weights.Given as goal

@@ -1,4 +1,3 @@
-use Prim.Native.Nat.{◌-◌}
 use Rattle.weights_valid.specs.Bytes.{AddedUpTo}
 use Rattle.weights_valid.proofs.add_row.Given as goal
 

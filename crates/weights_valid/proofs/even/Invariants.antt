@@ -1,4 +1,3 @@
-use Prim.Native.Nat.{◌-◌}
 use Rattle.laws.specs.Sums.Below.{PassedBelow}
 use Rattle.weights_valid.specs.Pairs.{even_row}
 use Rattle.weights_valid.proofs.even.Given as goal

@@ -1,4 +1,4 @@
-use Prim.Native.Nat.{suc, ◌+◌, ◌-◌}
+use Prim.Native.Nat.{suc}
 use lib.Dec.{eqb}
 use Rattle.laws.specs.Sums.Below.{ToldBelow}
 use Rattle.weights_valid.specs.Pairs.{even_pair}

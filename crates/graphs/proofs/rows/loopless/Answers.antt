@@ -1,4 +1,4 @@
-use Rattle.std.proofs.Common.{◌≡◌, ℕ, ◌<◌, ◌↔◌, true, false, not, List, length, get_or, take, eqb, get_or-take, length-take-le, ap, sym, ◌∙◌, arith, rules}
+use Rattle.std.proofs.Common.{◌≡◌, ℕ, ◌<◌, ◌↔◌, true, false, not, length, get_or, take, eqb, get_or-take, length-take-le, ap, sym, ◌∙◌, arith, rules}
 use Rattle.std.proofs.lemmas.Bool.{not-true}
 use Rattle.model.specs.Layouts.{loopless}
 use Rattle.model.specs.Crossings.{bit, linked}

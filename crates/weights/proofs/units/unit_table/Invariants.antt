@@ -1,4 +1,4 @@
-use Prim.Native.Nat.{◌-◌, ◌/◌, ◌%◌}
+use Prim.Native.Nat.{◌/◌, ◌%◌}
 use lib.ListN.{get_or}
 use Rattle.model.specs.Crossings.{bit}
 use Rattle.laws.specs.Sums.Loops.{FilledUpTo}
