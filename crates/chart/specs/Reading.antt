@@ -1,23 +1,21 @@
 -- Reading a chart: the questions that have passed so far, what is known then, and what is read where one fails or all have passed.
 use Prim.Native.Nat.{ℕ, zero, suc, ◌+◌, ◌≤◌}
-use Rattle.std.proofs.Common.{not-suc-le-zero, le_of_suc-le-suc, ◌∙◌, take-append-drop, take-add, lit<, lit≤}
-use Rattle.std.specs.Prelude.{◌≡◌, Bool, false, cond, drop, replicate, eqb, leb}
+use Rattle.std.proofs.Common.{Bor, not-suc-le-zero, le_of_suc-le-suc, ◌∙◌, take-append-drop, take-add, lit<, lit≤}
+use Rattle.std.specs.Prelude.{Option, Result, Ok, Err, MatchOption, ◌≡◌, Bool, false, cond, drop, replicate, eqb, leb}
 use Rattle.std.proofs.Math.Path.{refl, sym, ap, ap₂}
 use Rattle.std.proofs.Math.Bool.{true}
 use mathlib.Core.List.{List, [], ◌∷◌, ◌++◌, map}
 use Rattle.std.proofs.Math.ListN.{length, get_or, take}
 use borrow.Author.Tests.{leb-true, eqb-true}
-use Rattle.model.specs.Answers.{LayoutRead}
-use Rattle.model.specs.declared.Asked.{Asked}
-use Rattle.model.specs.declared.Asked.TheVariants as asks
-use Rattle.model.specs.declared.SizeFound.{SizeFound}
-use Rattle.model.specs.declared.SizeFound.TheVariants as size
+use Rattle.model.specs.declared.Layout.{Layout}
+use Rattle.model.specs.declared.refusal.Refusal.{Refusal}
+use Rattle.model.specs.Answers.{LayoutRead, told_by}
 use Rattle.model.specs.Lists.{every}
 use Rattle.model.specs.Crossings.{edge_weight}
 use Rattle.model.specs.Layouts.{each_once}
 use Rattle.model.specs.Checks.{Check, refusal, by_refusal, checked}
 use Rattle.model.specs.Charts.{body_of, chart_size, chart_edges, chart_order, chart_weights, has_weights, edges_in, edge_within, with_weights, table_in}
-use Rattle.model.specs.Charts.{chart_layout, read_of}
+use Rattle.model.specs.Charts.{chart_layout, as_read, read_of}
 use Rattle.model.specs.Charts.{Answer, accept, refuse, asked, size_found, answer, division_answer, tags_answer, size_answer}
 use Rattle.model.specs.Charts.{chart_checks, size_checks, end_checks, repeat_checks, place_checks, weight_checks}
 use Rattle.laws.specs.Sums.Lists.{All, none, also}
@@ -100,11 +98,11 @@ module _ (j : ℕ) {k : ℕ} {s : List ℕ} (p : PassedFirst k s) where
         ∙ ap (λ (cs : List Check). checked cs (accepted_read (chart_layout s)) refused_read) (take-append-drop k (chart_checks s))
 
   -- of a pass that finds nothing but its answer
-  asked_on : {r : Asked} → r ≡ asks.Passed → asked r ≡ answer next [] → PassedFirst (k + j) s
+  asked_on : {r : Result (Unit {0}) Refusal} {x : Unit {0}} → r ≡ Ok x → asked r ≡ answer next [] → PassedFirst (k + j) s
   asked_on told said = pass_on [] said (asked_passed told)
 
-  asked_back : {r : Asked} {c : ℕ} → r ≡ asks.Refused c → asked r ≡ answer next [] → refused_read c ≡ read_of s
-  unfolding asked refuse
+  asked_back : {r : Result (Unit {0}) Refusal} {e : Refusal} → r ≡ Err e → asked r ≡ answer next [] → as_read (Err e) ≡ read_of s
+  unfolding asked refuse as_read told_by refused_read
   asked_back told said = pass_back [] (ap asked (sym told) ∙ said) refl
 
 -- ---- what is known once they have passed
@@ -170,10 +168,10 @@ module _ (s : List ℕ) where
   unfolding division_answer
   division_asked = refl
 
-  pub read_divided : {r : Asked} → r ≡ asks.Passed → asked r ≡ division_answer s → PassedFirst 2 s
+  pub read_divided : {r : Result (Unit {0}) Refusal} {x : Unit {0}} → r ≡ Ok x → asked r ≡ division_answer s → PassedFirst 2 s
   read_divided told said = asked_on 2 none_asked told (said ∙ division_asked)
 
-  pub read_undivided : {r : Asked} {k : ℕ} → r ≡ asks.Refused k → asked r ≡ division_answer s → refused_read k ≡ read_of s
+  pub read_undivided : {r : Result (Unit {0}) Refusal} {e : Refusal} → r ≡ Err e → asked r ≡ division_answer s → as_read (Err e) ≡ read_of s
   read_undivided told said = asked_back 2 none_asked told (said ∙ division_asked)
 
 module _ {s : List ℕ} (p : PassedFirst 2 s) where
@@ -181,10 +179,10 @@ module _ {s : List ℕ} (p : PassedFirst 2 s) where
   unfolding tags_answer
   tags_asked = refl
 
-  pub read_tagged : {r : Asked} → r ≡ asks.Passed → asked r ≡ tags_answer s → PassedFirst 3 s
+  pub read_tagged : {r : Result (Unit {0}) Refusal} {x : Unit {0}} → r ≡ Ok x → asked r ≡ tags_answer s → PassedFirst 3 s
   read_tagged told said = asked_on 1 p told (said ∙ tags_asked)
 
-  pub read_untagged : {r : Asked} {k : ℕ} → r ≡ asks.Refused k → asked r ≡ tags_answer s → refused_read k ≡ read_of s
+  pub read_untagged : {r : Result (Unit {0}) Refusal} {e : Refusal} → r ≡ Err e → asked r ≡ tags_answer s → as_read (Err e) ≡ read_of s
   read_untagged told said = asked_back 1 p told (said ∙ tags_asked)
 
 module _ {s : List ℕ} (p : PassedFirst 3 s) where
@@ -192,24 +190,24 @@ module _ {s : List ℕ} (p : PassedFirst 3 s) where
   unfolding size_answer chart_checks size_checks chart_size
   size_asked = refl
 
-  pub read_sized : {r : SizeFound} {n : ℕ} → r ≡ size.Found n → size_found r ≡ size_answer (body_of s 0) → SizeRead 4 s n
+  pub read_sized : {r : Result ℕ Refusal} {n : ℕ} → r ≡ Ok n → size_found r ≡ size_answer (body_of s 0) → SizeRead 4 s n
   unfolding size_found accept
   read_sized {n = n} told said =
       let asks_size = take 1 (drop 3 (chart_checks s)) in
-      let found : size_found (size.Found n) ≡ answer asks_size (chart_size s ∷ []) = ap size_found (sym told) ∙ said ∙ size_asked in
+      let found : size_found (Ok n) ≡ answer asks_size (chart_size s ∷ []) = ap size_found (sym told) ∙ said ∙ size_asked in
       record {
         passed = pass_on 1 p (chart_size s ∷ []) found refl;
         size = ap (λ (x : List ℕ). get_or x 0 0) (answer_accepted asks_size (chart_size s ∷ []) found refl).1;
       }
 
-  pub read_missized : {r : SizeFound} {k : ℕ} → r ≡ size.Refused k → size_found r ≡ size_answer (body_of s 0) → refused_read k ≡ read_of s
-  unfolding size_found refuse
+  pub read_missized : {r : Result ℕ Refusal} {e : Refusal} → r ≡ Err e → size_found r ≡ size_answer (body_of s 0) → as_read (Err e) ≡ read_of s
+  unfolding size_found refuse as_read told_by refused_read
   read_missized told said = pass_back 1 p (chart_size s ∷ []) (ap size_found (sym told) ∙ said ∙ size_asked) refl
 
 -- ---- the others, of the bodies
 
 -- one pass further, the number of vertices known
-on_with : {s : List ℕ} {n : ℕ} (j : ℕ) {k : ℕ} (p : SizeRead k s n) {r : Asked} → r ≡ asks.Passed
+on_with : {s : List ℕ} {n : ℕ} (j : ℕ) {k : ℕ} (p : SizeRead k s n) {r : Result (Unit {0}) Refusal} {x : Unit {0}} → r ≡ Ok x
     → asked r ≡ answer (take j (drop k (chart_checks s))) [] → SizeRead (k + j) s n
 on_with j p told said = record { passed = asked_on j p.passed told said; size = p.size }
 
@@ -219,10 +217,10 @@ module _ {s : List ℕ} {n : ℕ} (p : SizeRead 4 s n) {links : List ℕ} (l : l
   unfolding chart_checks size_checks end_checks
   ends_asked = ap₂ (λ (k : ℕ) (x : List ℕ). answer (end_checks k x) []) p.size l
 
-  pub read_within : {r : Asked} → r ≡ asks.Passed → asked r ≡ answer (end_checks n links) [] → SizeRead 6 s n
+  pub read_within : {r : Result (Unit {0}) Refusal} {x : Unit {0}} → r ≡ Ok x → asked r ≡ answer (end_checks n links) [] → SizeRead 6 s n
   read_within told said = on_with 2 p told (said ∙ ends_asked)
 
-  pub read_outside : {r : Asked} {k : ℕ} → r ≡ asks.Refused k → asked r ≡ answer (end_checks n links) [] → refused_read k ≡ read_of s
+  pub read_outside : {r : Result (Unit {0}) Refusal} {e : Refusal} → r ≡ Err e → asked r ≡ answer (end_checks n links) [] → as_read (Err e) ≡ read_of s
   read_outside told said = asked_back 2 p.passed told (said ∙ ends_asked)
 
 -- 7
@@ -233,10 +231,10 @@ module _ {s : List ℕ} {n : ℕ} (p : SizeRead 6 s n) {links : List ℕ} (l : l
       ap (λ (x : List ℕ). answer (repeat_checks (wrapped x)) []) l
       ∙ ap (λ (cs : List Check). answer cs []) (wrapped_checks (body_of s 1) (ends_small p.passed))
 
-  pub read_once : {r : Asked} → r ≡ asks.Passed → asked r ≡ answer (repeat_checks (wrapped links)) [] → SizeRead 7 s n
+  pub read_once : {r : Result (Unit {0}) Refusal} {x : Unit {0}} → r ≡ Ok x → asked r ≡ answer (repeat_checks (wrapped links)) [] → SizeRead 7 s n
   read_once told said = on_with 1 p told (said ∙ repeats_asked)
 
-  pub read_repeated : {r : Asked} {k : ℕ} → r ≡ asks.Refused k → asked r ≡ answer (repeat_checks (wrapped links)) [] → refused_read k ≡ read_of s
+  pub read_repeated : {r : Result (Unit {0}) Refusal} {e : Refusal} → r ≡ Err e → asked r ≡ answer (repeat_checks (wrapped links)) [] → as_read (Err e) ≡ read_of s
   read_repeated told said = asked_back 1 p.passed told (said ∙ repeats_asked)
 
 -- 8
@@ -247,25 +245,28 @@ module _ {s : List ℕ} {n : ℕ} (p : SizeRead 7 s n) {o : List ℕ} (e : o ≡
       ap₂ (λ (k : ℕ) (x : List ℕ). answer (order_question k x) []) p.size e
       ∙ ap (λ (cs : List Check). answer cs []) (question_eight (chart_size s) (body_of s 2) (size_small (earlier 4 (lit≤ tt) p.passed)))
 
-  pub read_placed : {r : Asked} → r ≡ asks.Passed → asked r ≡ answer (order_question n o) [] → SizeRead 8 s n
+  pub read_placed : {r : Result (Unit {0}) Refusal} {x : Unit {0}} → r ≡ Ok x → asked r ≡ answer (order_question n o) [] → SizeRead 8 s n
   read_placed told said = on_with 1 p told (said ∙ order_asked)
 
-  pub read_misplaced : {r : Asked} {k : ℕ} → r ≡ asks.Refused k → asked r ≡ answer (order_question n o) [] → refused_read k ≡ read_of s
+  pub read_misplaced : {r : Result (Unit {0}) Refusal} {e : Refusal} → r ≡ Err e → asked r ≡ answer (order_question n o) [] → as_read (Err e) ≡ read_of s
   read_misplaced told said = asked_back 1 p.passed told (said ∙ order_asked)
 
 -- 24 and 25
-module _ {s : List ℕ} {n : ℕ} (p : SizeRead 8 s n) {listed : Bool} {links body : List ℕ} (h : listed ≡ has_weights s) (l : links ≡ body_of s 1)
-    (b : body ≡ body_of s 3) where
-  weights_asked : answer (weight_checks links (weights_in listed links body)) [] ≡ answer (take 2 (drop 8 (chart_checks s))) []
-  unfolding chart_checks size_checks end_checks repeat_checks place_checks weight_checks
-  weights_asked = rw (h, l, b) (ap (λ (ws : List ℕ). answer (weight_checks (body_of s 1) ws) []) (chart_weights_lem s))
+module _ {s : List ℕ} {n : ℕ} (p : SizeRead 8 s n) (listed : Option (Bor (List ℕ)))
+    (h : MatchOption listed (has_weights s ≡ false) (λ body. (has_weights s ≡ true) × (body.now ≡ body_of s 3))) {links : List ℕ} (l : links ≡ body_of s 1)
+  where
+    weights_asked : answer (weight_checks links (weights_in links listed)) [] ≡ answer (take 2 (drop 8 (chart_checks s))) []
+    unfolding chart_checks size_checks end_checks repeat_checks place_checks weight_checks
+    weights_asked =
+        ap (λ (x : List ℕ). answer (weight_checks x (weights_in x listed)) []) l
+        ∙ ap (λ (ws : List ℕ). answer (weight_checks (body_of s 1) ws) []) (chart_weights_lem s listed h)
 
-  pub read_weighed : {r : Asked} → r ≡ asks.Passed → asked r ≡ answer (weight_checks links (weights_in listed links body)) [] → SizeRead 10 s n
-  read_weighed told said = on_with 2 p told (said ∙ weights_asked)
+    pub read_weighed : {r : Result (Unit {0}) Refusal} {x : Unit {0}} → r ≡ Ok x → asked r ≡ answer (weight_checks links (weights_in links listed)) [] → SizeRead 10 s n
+    read_weighed told said = on_with 2 p told (said ∙ weights_asked)
 
-  pub read_unweighed : {r : Asked} {k : ℕ} → r ≡ asks.Refused k → asked r ≡ answer (weight_checks links (weights_in listed links body)) []
-      → refused_read k ≡ read_of s
-  read_unweighed told said = asked_back 2 p.passed told (said ∙ weights_asked)
+    pub read_unweighed : {r : Result (Unit {0}) Refusal} {e : Refusal} → r ≡ Err e → asked r ≡ answer (weight_checks links (weights_in links listed)) []
+        → as_read (Err e) ≡ read_of s
+    read_unweighed told said = asked_back 2 p.passed told (said ∙ weights_asked)
 
 -- the words, the order and the table of weights of a chart whose questions have passed so far
 module _ {s : List ℕ} where
@@ -284,13 +285,14 @@ module _ {s : List ℕ} where
   unfolding chart_order
   order_read p {o} e q = q ∙ padded_copy o (order_long p e) ∙ ap padded e
 
-  pub table_read : PassedFirst 6 s → {listed : Bool} {links body table : List ℕ} → listed ≡ has_weights s → links ≡ body_of s 1 → body ≡ body_of s 3
-      → table ≡ with_weights (replicate 4096 0) (edges_in (wrapped links)) (weights_in listed links body) → table ≡ table_in (chart_edges s) (chart_weights s)
+  pub table_read : PassedFirst 6 s → (listed : Option (Bor (List ℕ)))
+      → MatchOption listed (has_weights s ≡ false) (λ body. (has_weights s ≡ true) × (body.now ≡ body_of s 3)) → {links table : List ℕ} → links ≡ body_of s 1
+      → table ≡ with_weights (replicate 4096 0) (edges_in (wrapped links)) (weights_in links listed) → table ≡ table_in (chart_edges s) (chart_weights s)
   unfolding table_in chart_edges
-  table_read p {listed} {links} {body} h l b e =
+  table_read p listed h l e =
       e
-      ∙ rw (h, l, b)
-      (ap₂ (with_weights (replicate 4096 0)) (wrapped_edges (body_of s 1) (ends_small p)) (chart_weights_lem s))
+      ∙ ap (λ (x : List ℕ). with_weights (replicate 4096 0) (edges_in (wrapped x)) (weights_in x listed)) l
+      ∙ ap₂ (with_weights (replicate 4096 0)) (wrapped_edges (body_of s 1) (ends_small p)) (chart_weights_lem s listed h)
 
 -- ---- all have passed
 
@@ -299,9 +301,10 @@ unfolding chart_checks size_checks end_checks repeat_checks place_checks weight_
 all_asked p = p.passed
 
 pub read_all : {s : List ℕ} {n : ℕ} {order adj table : List ℕ} → SizeRead 10 s n → order ≡ padded (chart_order s)
-    → adj ≡ adjacency_of (chart_edges s) → table ≡ table_in (chart_edges s) (chart_weights s) → accepted_read (counted_layout n order adj table) ≡ read_of s
-read_all {s} p o a t =
-    rw (p.size, o, a, t ∙ ap (table_in (chart_edges s)) (accepted_weights s is_accepted).1)
+    → adj ≡ adjacency_of (chart_edges s) → table ≡ table_in (chart_edges s) (chart_weights s) → {l : Layout} → l ≡ counted_layout n order adj table → as_read (Ok l) ≡ read_of s
+unfolding as_read told_by
+read_all {s} p o a t e =
+    rw (e, p.size, o, a, t ∙ ap (table_in (chart_edges s)) (accepted_weights s is_accepted).1)
     (ap counted_as (count_read (accepted_weights s is_accepted).0) ∙ ap accepted_read (sym (layout_listed s is_accepted)) ∙ sym (read_is s is_accepted))
   where
     is_accepted : (read_of s).refusal ≡ 0

@@ -1,19 +1,17 @@
 -- Importing a graph in graph6: the passes together.
-use Rattle.std.specs.Prelude.{ℕ, ◌-◌, ◌≤◌, min, ◌≡◌, length, get_or, take, drop, replicate}
+use Rattle.std.specs.Prelude.{Result, Ok, Err, ℕ, ◌-◌, ◌≤◌, min, ◌≡◌, length, get_or, take, drop, replicate}
 use Rattle.std.proofs.Math.Nat.{min-eq_left}
 use Rattle.std.proofs.Math.Path.{refl, ap}
 use Rattle.std.proofs.Common.{sym, ◌∙◌, lit<}
 use mathlib.Core.List.{List, [], ◌∷◌, ◌++◌, map}
 use Rattle.model.specs.declared.Edge.{Edge}
-use Rattle.model.specs.Answers.{LayoutRead}
-use Rattle.model.specs.declared.Asked.{Asked}
-use Rattle.model.specs.declared.Asked.TheVariants as asks
-use Rattle.model.specs.declared.SizeFound.{SizeFound}
-use Rattle.model.specs.declared.SizeFound.TheVariants as size
+use Rattle.model.specs.declared.Layout.{Layout}
+use Rattle.model.specs.declared.refusal.Refusal.{Refusal}
+use Rattle.model.specs.Answers.{LayoutRead, told_by}
 use Rattle.model.specs.Lists.{upto}
 use Rattle.model.specs.Crossings.{edge_weight}
 use Rattle.model.specs.Checks.{Check, refusal, by_refusal, checked}
-use Rattle.model.specs.Charts.{accept, refuse, asked, size_found, answer, table_in, layout_with}
+use Rattle.model.specs.Charts.{accept, refuse, asked, size_found, answer, table_in, layout_with, as_read}
 use Rattle.model.specs.Graph6.{size_part, graph6_size, graph6_data, graph6_size_checks, data_checks, padding_checks, graph6_checks, graph6_edges, graph6_layout}
 use Rattle.model.specs.Graph6.{import_of, graph6_size_answer}
 use Rattle.laws.specs.Sums.Lists.{none, also, rest_whole}
@@ -43,18 +41,18 @@ module _ {n : ℕ} (few : n ≤ 64) (bytes : List ℕ) where
   same_checks : answer (data_checks (min n 64) bytes ++ padding_checks (min n 64) bytes) [] ≡ answer (data_checks n bytes ++ padding_checks n bytes) []
   same_checks = ap (λ (k : ℕ). answer (data_checks k bytes ++ padding_checks k bytes) []) (min-eq_left few)
 
-  module _ {r : Asked} (said : asked r ≡ answer (data_checks (min n 64) bytes ++ padding_checks (min n 64) bytes) []) where
-    pub bits_refused : {k : ℕ} → r ≡ asks.Refused k → refused_read k ≡ import_bits n bytes
-    unfolding import_bits data_checks padding_checks
+  module _ {r : Result (Unit {0}) Refusal} (said : asked r ≡ answer (data_checks (min n 64) bytes ++ padding_checks (min n 64) bytes) []) where
+    pub bits_refused : {e : Refusal} → r ≡ Err e → as_read (Err e) ≡ import_bits n bytes
+    unfolding import_bits data_checks padding_checks as_read told_by refused_read
     bits_refused told = asked_back (bits_numbered n bytes) [] _ told (said ∙ same_checks)
 
-    pub bits_accepted : r ≡ asks.Passed → {order adj ws : List ℕ} → order ≡ padded (upto n) → adj ≡ adjacency_of (graph6_edges (min n 64) bytes)
-        → ws ≡ unit_table adj → accepted_read (counted_layout n order adj ws) ≡ import_bits n bytes
-    unfolding import_bits data_checks padding_checks checked by_refusal refusal
-    bits_accepted told p q w =
+    pub bits_accepted : {x : Unit {0}} → r ≡ Ok x → {order adj ws : List ℕ} → order ≡ padded (upto n) → adj ≡ adjacency_of (graph6_edges (min n 64) bytes)
+        → ws ≡ unit_table adj → {l : Layout} → l ≡ counted_layout n order adj ws → as_read (Ok l) ≡ import_bits n bytes
+    unfolding import_bits data_checks padding_checks checked by_refusal refusal as_read told_by
+    bits_accepted told p q w c =
         let words : _ ≡ adjacency_of es = q ∙ ap (λ (k : ℕ). adjacency_of (graph6_edges k bytes)) (min-eq_left few) in
         let table = w ∙ ap unit_table words ∙ units_listed es (within_mono n 64 few es accepted.within) in
-        rw (p, words, table)
+        rw (c, p, words, table)
         (ap counted_as (count_read accepted)
         ∙ ap (λ (ones : List ℕ). accepted_read (layout_with n es ones (upto n))) (sym (unit_listed es))
         ∙ asked_on (bits_numbered n bytes) [] (accepted_read (layout_with n es (replicate (length es) 1) (upto n))) told (said ∙ same_checks))
@@ -82,8 +80,8 @@ module _ (s : List ℕ) where
   rest : List Check
   rest = data_checks (graph6_size s) (graph6_data s) ++ padding_checks (graph6_size s) (graph6_data s)
 
-  pub size_refused : {r : SizeFound} {k : ℕ} → r ≡ size.Refused k → size_found r ≡ graph6_size_answer s → refused_read k ≡ import_of s
-  unfolding import_of refused_read graph6_checks graph6_size_answer size_found refuse value rest graph6_size_checks data_checks
+  pub size_refused : {r : Result ℕ Refusal} {e : Refusal} → r ≡ Err e → size_found r ≡ graph6_size_answer s → as_read (Err e) ≡ import_of s
+  unfolding as_read told_by import_of refused_read graph6_checks graph6_size_answer size_found refuse value rest graph6_size_checks data_checks
   size_refused told said = pass_refused size_numbered value rest (accepted_read (graph6_layout s)) (ap size_found (sym told) ∙ said) refl
 
 -- it found n
@@ -92,10 +90,10 @@ pub record SizeRead (s : List ℕ) (n : ℕ) : Type 0 where
   pub inside : length (size_part n) ≤ length s
   pub left : import_bits n (drop (length (size_part n)) s) ≡ import_of s
 
-pub size_read : {s : List ℕ} {r : SizeFound} {n : ℕ} → r ≡ size.Found n → size_found r ≡ graph6_size_answer s → SizeRead s n
+pub size_read : {s : List ℕ} {r : Result ℕ Refusal} {n : ℕ} → r ≡ Ok n → size_found r ≡ graph6_size_answer s → SizeRead s n
 unfolding import_bits import_of refused_read graph6_checks graph6_size_answer graph6_size_checks graph6_layout graph6_data data_checks size_found accept value rest
 size_read {s} {r} {n} told said =
-    let size_said : size_found (size.Found n) ≡ graph6_size_answer s = ap size_found (sym told) ∙ said in
+    let size_said : size_found (Ok n) ≡ graph6_size_answer s = ap size_found (sym told) ∙ said in
     let passed = answer_accepted (graph6_size_checks s) (value s) size_said refl in
     let is : n ≡ graph6_size s = ap (λ (x : List ℕ). get_or x 0 0) passed.1 in
     let found = size_accepted s (last_passes (all_pass (size_numbered s) passed.0)) in

@@ -1,14 +1,14 @@
 -- The bits behind those of the pairs, looked at one after the other.
-use Rattle.std.specs.Prelude.{ℕ, ◌+◌, ◌*◌, ◌/◌, ◌%◌, ◌≤◌, ◌<◌, ◌≡◌, true, false, List, length, get_or, drop, eqb}
+use Rattle.std.specs.Prelude.{ℕ, ◌+◌, ◌*◌, ◌-◌, ◌/◌, ◌≤◌, ◌<◌, ◌≡◌, refl, Bool, true, false, not, ◌&&◌, zero, suc, List, length, get_or, drop, eqb}
 use Rattle.std.proofs.Math.Decide.{dec_lt}
-use Rattle.std.proofs.Common.{arith, subst, eq-eqb, ne_eqb, eqb-true}
+use Rattle.std.specs.List.{list_all, range_with_len}
+use Rattle.std.proofs.Common.{arith, ap, ap₂, ◌∙◌, add-one, drop-cons, drop_of_length-le, eq-eqb, ne_eqb, eqb-true}
 use Rattle.std.proofs.Math.Path.{sym}
 use Rattle.std.proofs.Math.ListN.{get_or-eq_default}
 use Rattle.std.proofs.lemmas.Bool.{eqb-false}
 use Rattle.model.specs.Lists.{every}
 use Rattle.model.specs.Graph6.{bytes_for, unpacked}
 use Rattle.laws.specs.Sums.Bits.{bit_lt}
-use Rattle.laws.specs.Sums.Every.{PassedUpTo, passed_start, passed_next, passed_not, passed_end}
 use Rattle.laws.specs.Graph6.Packing.{unpacked_length, unpacked_at}
 
 module _ (bytes : List ℕ) (k : ℕ) where
@@ -28,44 +28,22 @@ module _ (bytes : List ℕ) (k : ℕ) where
   set_other : eqb (get_or (unpacked bytes) k 0) 1 ≡ true → eqb 0 (get_or (unpacked bytes) k 0) ≡ false
   set_other e = ne_eqb 0 (get_or (unpacked bytes) k 0) (λ z. omega (arith, eqb-true (get_or (unpacked bytes) k 0) 1 e))
 
--- behind p bits, none before bit k is set, where the bytes are as many as the p bits take
-pub record PaddedUpTo (p : ℕ) (bytes : List ℕ) (k : ℕ) : Type 0 where
-  pub few : p ≤ 2016
-  pub from : p ≤ k
-  pub inside : k ≤ 6 * bytes_for p
-  pub passed : length bytes ≡ bytes_for p → PassedUpTo (eqb 0) (unpacked bytes) p k
+-- from place k on, n bits up to the end
+pub padding_clear : (bytes : List ℕ) (k n : ℕ) → k + n ≡ length (unpacked bytes)
+    → list_all (λ i. not (eqb (get_or (unpacked bytes) i 0) 1)) (range_with_len k n) ≡ every (eqb 0) (drop k (unpacked bytes))
+unfolding every
+padding_clear bytes k zero e = sym (ap (every (eqb 0)) (drop_of_length-le (unpacked bytes) {i = k} (omega arith)))
+padding_clear bytes k (suc n) e =
+    let bit = get_or (unpacked bytes) k 0 in
+    ap₂ (λ (a b : Bool). a && b) (unset_is_zero (eqb bit 1) refl) (padding_clear bytes (k + 1) n (omega arith))
+    ∙ sym (ap (every (eqb 0)) (drop-cons (unpacked bytes) k 0 (omega arith)) ∙ ap (λ (i : ℕ). eqb 0 bit && every (eqb 0) (drop i (unpacked bytes))) (sym (add-one k)))
+  where
+    unset_is_zero : (t : Bool) → eqb (get_or (unpacked bytes) k 0) 1 ≡ t → not t ≡ eqb 0 (get_or (unpacked bytes) k 0)
+    unset_is_zero true h = sym (set_other bytes k h)
+    unset_is_zero false h = sym (unset_zero bytes k h)
 
-pub padded_start : {p k : ℕ} {bytes : List ℕ} → p ≤ 2016 → k ≡ p → PaddedUpTo p bytes k
+-- the bits behind those of p pairs, in as many bytes as these take
+pub padding_all : (p : ℕ) (bytes : List ℕ) → length bytes ≡ bytes_for p
+    → list_all (λ i. not (eqb (get_or (unpacked bytes) i 0) 1)) (range_with_len p (6 * bytes_for p - p)) ≡ every (eqb 0) (drop p (unpacked bytes))
 unfolding bytes_for
-padded_start {p} {k} {bytes} h e =
-    subst (PaddedUpTo p bytes) (sym e) (record { few = h; from = omega arith; inside = omega arith; passed = λ z. passed_start })
-
-module _ {p : ℕ} {bytes : List ℕ} {k : ℕ} (u : PaddedUpTo p bytes k) where
-  module _ (h : k % 6 ≡ 0 → ⊥) where
-    further : k + 1 ≤ 6 * bytes_for p
-    further = omega (arith, u.inside)
-
-    there : length bytes ≡ bytes_for p → k < length (unpacked bytes)
-    there e = omega (arith, unpacked_length bytes, further)
-
-    pub padded_next : eqb (get_or (unpacked bytes) k 0) 1 ≡ false → PaddedUpTo p bytes (k + 1)
-    padded_next e =
-        record {
-          few = u.few;
-          from = omega (arith, u.from);
-          inside = further;
-          passed = λ long. passed_next (u.passed long) 0 (there long) (unset_zero bytes k e);
-        }
-
-    pub padded_not : eqb (get_or (unpacked bytes) k 0) 1 ≡ true → length bytes ≡ bytes_for p → false ≡ every (eqb 0) (drop p (unpacked bytes))
-    padded_not e long = sym (passed_not (u.passed long) 0 (there long) (set_other bytes k e))
-
-  -- at a whole byte
-  pub padded_end : k % 6 ≡ 0 → length bytes ≡ bytes_for p → true ≡ every (eqb 0) (drop p (unpacked bytes))
-  unfolding bytes_for
-  padded_end h long = sym (passed_end (u.passed long) (omega (arith, unpacked_length bytes, u.from, u.inside)))
-
-  -- a place that a number can hold
-  pub padded_few : k ≤ 2021
-  unfolding bytes_for
-  padded_few = omega (arith, u.few, u.inside)
+padding_all p bytes long = padding_clear bytes p (6 * ((p + 5) / 6) - p) (omega (arith, unpacked_length bytes, long))

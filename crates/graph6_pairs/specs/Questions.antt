@@ -1,7 +1,8 @@
 -- What questions 21 and 22 answer, from what the code has asked.
-use Rattle.std.specs.Prelude.{ℕ, ◌≡◌, Bool, List, [], ◌∷◌, ◌++◌, length, drop, eqb}
+use Rattle.std.specs.Prelude.{Err, ℕ, ◌≡◌, Bool, List, [], ◌∷◌, ◌++◌, length, drop, eqb}
 use borrow.Author.Tests.{eq-eqb, ne_eqb}
-use Rattle.model.specs.declared.Asked.TheVariants as asked-variants
+use Rattle.model.specs.declared.refusal.Refusal.TheVariants as because
+use Rattle.model.specs.Answers.{number}
 use Rattle.model.specs.Lists.{every}
 use Rattle.model.specs.Checks.{Check, refusal, by_refusal, checked}
 use Rattle.model.specs.Charts.{Answer, asked, answer}
@@ -18,8 +19,8 @@ module _ (n : ℕ) (bytes : List ℕ) where
   abbrev bits_answer : Answer
   bits_answer = answer (data_checks n bytes ++ padding_checks n bytes) []
 
-  pub another_length : (length bytes ≡ needed → ⊥) → asked (asked-variants.Refused 21) ≡ bits_answer
-  unfolding data_checks padding_checks answer checked by_refusal refusal asked
+  pub another_length : (length bytes ≡ needed → ⊥) → asked (Err because.WrongBits) ≡ bits_answer
+  unfolding data_checks padding_checks answer checked by_refusal refusal asked number
   another_length d = rw (ne_eqb (length bytes) needed d)
 
   pub right_length : length bytes ≡ needed → {six padded : Bool} → six ≡ every holds_six bytes

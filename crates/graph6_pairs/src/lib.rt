@@ -2,9 +2,8 @@
 // 64 is taken as 64.
 #![tactic(auto)]
 
-ghost use Rattle.std.specs.Prelude.{◌≡◌, cond, [], ◌++◌, suc, ◌+◌, ◌%◌, ◌<◌, min, length, drop, eqb};
+ghost use Rattle.std.specs.Prelude.{◌≡◌, [], ◌++◌, suc, ◌+◌, ◌%◌, ◌<◌, min, length, drop, eqb};
 ghost use Rattle.model.specs.Lists.{every};
-ghost use Rattle.model.specs.Edits.{with_bit, at_both_ends};
 ghost use Rattle.model.specs.Charts.{asked, answer};
 ghost use Rattle.model.specs.Graph6.{bytes_for, pairs_by_higher, unpacked, data_checks, padding_checks, graph6_edges};
 ghost use Rattle.laws.specs.Charts.Words.{adjacency_of};
@@ -13,13 +12,13 @@ ghost use Rattle.laws.specs.Crossings.Bound.{most_edges};
 ghost use Rattle.laws.specs.Sums.Numbers.{Bounded};
 
 use graph6_bits::{all_hold_six, bit_at};
-use model::Asked;
+use model::Refusal;
 
 // How many pairs there are.
 pub fn pair_count(n: usize) -> usize
     ensures { Bounded (length (pairs_by_higher (min n 64))) most_edges result }
 {
-    let few = at_most_64(n);
+    let few = n.min(64);
     (few * few - few) / 2
 }
 
@@ -38,35 +37,29 @@ pub fn data_length(n: usize) -> usize
     (pair_count(n) + 5) / 6
 }
 
-pub fn at_most_64(n: usize) -> usize
-    ensures { result ≡ min n 64 }
-{
-    if n < 64 { n } else { 64 }
-}
-
 // Questions 21 and 22: as many bytes as the pairs take, six bits each; and no bit is set behind those
 // of the pairs.
-pub fn ask_bits(n: usize, bytes: &[u8]) -> Asked
+pub fn ask_bits(n: usize, bytes: &[u8]) -> Result<(), Refusal>
     ensures { asked result ≡ answer (data_checks (min n 64) bytes.now ++ padding_checks (min n 64) bytes.now) [] }
 {
     if bytes.len() != data_length(n) {
-        Asked::Refused(21)
+        Err(Refusal::WrongBits)
     } else {
         answer_of(all_hold_six(bytes), is_padded(n, bytes))
     }
 }
 
-#[tactic(auto, unfolding(model::specs::Charts::asked, model::specs::Charts::answer, model::specs::Checks::checked, model::specs::Checks::by_refusal, model::specs::Checks::refusal))]
-fn answer_of(six: bool, padded: bool) -> Asked
+#[tactic(auto, unfolding(model::specs::Charts::asked, model::specs::Charts::answer, model::specs::Checks::checked, model::specs::Checks::by_refusal, model::specs::Checks::refusal, model::specs::Answers::number))]
+fn answer_of(six: bool, padded: bool) -> Result<(), Refusal>
     ensures { asked result ≡ answer (asks six padded) [] }
 {
     if !six {
-        return Asked::Refused(21);
+        return Err(Refusal::WrongBits);
     }
     if !padded {
-        return Asked::Refused(22);
+        return Err(Refusal::PaddingSet);
     }
-    Asked::Passed
+    Ok(())
 }
 
 // In as many bytes as the pairs take: is no bit set behind those of the pairs?
@@ -74,26 +67,16 @@ fn is_padded(n: usize, bytes: &[u8]) -> bool
     ensures { let pairs = length (pairs_by_higher (min n 64)) in
         (length bytes.now ≡ bytes_for pairs → result ≡ every (eqb 0) (drop pairs (unpacked bytes.now))) }
 {
-    let mut k = pair_count(n);
-    while k % 6 != 0 {
-        if bit_at(bytes, k) {
-            return false;
-        }
-        k += 1;
-    }
-    true
+    (pair_count(n)..6 * data_length(n)).all(|k| !bit_at(bytes, k))
 }
 
 // The adjacency words of the pairs whose bit is set.
 pub fn join_pairs(n: usize, bytes: &[u8]) -> [u64; 64]
     ensures { result ≡ adjacency_of (graph6_edges (min n 64) bytes.now) }
 {
-    let few = at_most_64(n);
-    let mut adjacency = [0u64; 64];
-    let mut b = 0;
-    while b < few {
+    let mut adjacency = [0; 64];
+    for b in 0..n.min(64) {
         join_lower(b, bytes, &mut adjacency);
-        b += 1;
     }
     adjacency
 }
@@ -103,18 +86,9 @@ fn join_lower(b: usize, bytes: &[u8], adjacency: &mut [u64; 64])
     requires { (b < 64) × (adjacency.old ≡ adjacency_of (graph6_edges b bytes.now)) }
     ensures { adjacency.new ≡ adjacency_of (graph6_edges (suc b) bytes.now) }
 {
-    let mut a = 0;
-    while a < b {
-        join_pair(a, b, bit_at(bytes, pair_place(a, b)), adjacency);
-        a += 1;
-    }
-}
-
-// The edge a-b, if its bit is set. A vertex is taken modulo 64.
-fn join_pair(a: usize, b: usize, is_set: bool, adjacency: &mut [u64; 64])
-    ensures { adjacency.new ≡ cond is_set (at_both_ends with_bit adjacency.old (a % 64) (b % 64)) adjacency.old }
-{
-    if is_set {
-        ends::join(adjacency, a, b);
+    for a in 0..b {
+        if bit_at(bytes, pair_place(a, b)) {
+            ends::join(adjacency, a, b);
+        }
     }
 }

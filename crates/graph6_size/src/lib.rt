@@ -7,61 +7,48 @@ ghost use Rattle.model.specs.Graph6.{size_part, graph6_size_answer};
 ghost use Rattle.graph6_size.specs.Sizes.{short_answer, long_answer};
 
 use graph6_bits::holds_six;
-use model::SizeFound;
+use model::Refusal;
 
 // Question 20: the number of vertices whose size part the bytes start with.
-pub fn find_size(bytes: &[u8]) -> SizeFound
+pub fn find_size(bytes: &[u8]) -> Result<usize, Refusal>
     ensures { size_found result ≡ graph6_size_answer bytes.now }
 {
-    if bytes.len() < 1 {
-        return SizeFound::Refused(20);
-    }
-    let first = bytes[0];
+    let &[first, ..] = bytes else {
+        return Err(Refusal::NoGraphSize);
+    };
     if first != 126 {
         return short_size(first);
     }
-    if bytes.len() < 4 {
-        return SizeFound::Refused(20);
-    }
-    long_size(bytes[1], bytes[2], bytes[3])
+    let &[_, high, middle, low, ..] = bytes else {
+        return Err(Refusal::NoGraphSize);
+    };
+    long_size(high, middle, low)
 }
 
 // The form of one byte: up to 62 vertices. The byte 126 starts the other form.
-#[tactic(auto, using(crate::specs::Sizes::short_low, crate::specs::Sizes::short_high, crate::specs::Sizes::short_found), unfolding(model::specs::Charts::size_found))]
-fn short_size(byte: u8) -> SizeFound
+#[tactic(auto, using(crate::specs::Sizes::short_low, crate::specs::Sizes::short_high, crate::specs::Sizes::short_found), unfolding(model::specs::Charts::size_found, model::specs::Answers::number))]
+fn short_size(byte: u8) -> Result<usize, Refusal>
     ensures { size_found result ≡ short_answer byte }
 {
-    if byte < 63 {
-        return SizeFound::Refused(20);
+    match byte {
+        63..=125 => Ok((byte - 63) as usize),
+        _ => Err(Refusal::NoGraphSize),
     }
-    if 125 < byte {
-        return SizeFound::Refused(20);
-    }
-    SizeFound::Found((byte - 63) as usize)
 }
 
 // The form of three bytes behind the byte 126, six bits each: 63 and 64 vertices. The high six bits
 // of these are 0.
-fn long_size(high: u8, middle: u8, low: u8) -> SizeFound
+fn long_size(high: u8, middle: u8, low: u8) -> Result<usize, Refusal>
     ensures { size_found result ≡ long_answer high middle low }
 {
-    if high != 63 {
-        return SizeFound::Refused(20);
+    if high != 63 || !holds_six(middle) || !holds_six(low) {
+        return Err(Refusal::NoGraphSize);
     }
-    if !holds_six(middle) {
-        return SizeFound::Refused(20);
+    let n = 64 * (middle - 63) as usize + (low - 63) as usize;
+    if n < 63 || 64 < n {
+        return Err(Refusal::NoGraphSize);
     }
-    if !holds_six(low) {
-        return SizeFound::Refused(20);
-    }
-    let n = 64 * (middle as usize - 63) + (low as usize - 63);
-    if n < 63 {
-        return SizeFound::Refused(20);
-    }
-    if 64 < n {
-        return SizeFound::Refused(20);
-    }
-    SizeFound::Found(n)
+    Ok(n)
 }
 
 // How many bytes the size part of n vertices has.

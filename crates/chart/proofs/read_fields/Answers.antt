@@ -1,6 +1,5 @@
-use mathlib.Core.Path.{◌≡◌, ap, ◌∙◌}
+use Rattle.std.proofs.Common.{◌≡◌, ap, ◌∙◌}
 use Rattle.model.specs.Charts.{body_of, size_found, size_answer}
-use Rattle.laws.specs.Charts.Passes.{size_number}
 use Rattle.chart.specs.Reading.{read_sized, read_missized}
 use Rattle.chart.proofs.read_fields.Goals as goal
 use Rattle.chart.proofs.read_fields.Goals.{After-find_size-found}
@@ -11,9 +10,7 @@ size_said c = c.find_size-found.ensures ∙ ap size_answer c.body_of.ensures
 
 pub returns-in_default : goal.returns-in_default
 returns-in_default c =
-    let e = c.in_default.is in
-    c.refused.ensures ∙ size_number e c.size_code.ensures ∙ read_missized c.requires e (size_said (goal.at.returns-in_default c).After-find_size-found)
+    read_missized c.requires c.unwrap_err.ensures (size_said (goal.at.returns-in_default c).After-find_size-found)
 
 pub read_links-requires : goal.read_links-requires
-read_links-requires c =
-    read_sized c.requires c.in-Found.is (size_said (goal.at.read_links-requires c).After-find_size-found)
+read_links-requires c = read_sized c.requires c.in-Ok.is (size_said (goal.at.read_links-requires c).After-find_size-found)

@@ -1,4 +1,3 @@
-use Prim.Native.Nat.{◌-◌}
 use Rattle.model.specs.Lists.{upto}
 use Rattle.laws.specs.Sums.Loops.{MadeUpTo}
 use Rattle.laws.specs.Charts.Padded.{padded}
@@ -6,6 +5,3 @@ use Rattle.graph6.proofs.rising_order.Given as goal
 
 abbrev pub invariant-loop-v : goal.invariant-loop-v
 invariant-loop-v l = MadeUpTo (λ k. padded (upto k)) l.n l.order l.v
-
-abbrev pub decreases-loop-v : goal.decreases-loop-v
-decreases-loop-v l = l.n - l.v

@@ -5,21 +5,21 @@ use lib.ListN.{length}
 use Rattle.model.specs.Graph6.{pairs_by_higher}
 use Rattle.laws.specs.Graph6.Pairs.{pairs_twice, pairs_length, pairs_most}
 use Rattle.graph6_pairs.proofs.pair_count.Goals as goal
-use Rattle.graph6_pairs.proofs.pair_count.Goals.{After-at_most_64-few}
+use Rattle.graph6_pairs.proofs.pair_count.Goals.{After-min-few}
 
 -- so many pairs at most
-few : (c : After-at_most_64-few) → length (pairs_by_higher c.at_most_64-few.result) ≤ 2016
-few c = pairs_most (omega (arith, c.at_most_64-few.ensures))
+few : (c : After-min-few) → length (pairs_by_higher c.min-few.result) ≤ 2016
+few c = pairs_most (omega (arith, c.min-few.ensures))
 
 -- a square is twice the pairs and the number itself
 pub overflow_mul-result : goal.overflow_mul-result
-overflow_mul-result c = omega (arith, pairs_twice c.at_most_64-few.result, few c)
+overflow_mul-result c = omega (arith, pairs_twice c.min-few.result, few c)
 
 pub overflow_sub-result : goal.overflow_sub-result
-overflow_sub-result c = omega (arith, pairs_twice c.at_most_64-few.result)
+overflow_sub-result c = omega (arith, pairs_twice c.min-few.result)
 
 pub returns : goal.returns
 returns c =
-    let n = c.at_most_64-few.result in
+    let n = c.min-few.result in
     let counted : (n * n - n) / 2 ≡ length (pairs_by_higher n) = sym (pairs_length n) in
-    record { is = counted ∙ ap (λ (k : ℕ). length (pairs_by_higher k)) c.at_most_64-few.ensures; small = omega (arith, few c) }
+    record { is = counted ∙ ap (λ (k : ℕ). length (pairs_by_higher k)) c.min-few.ensures; small = omega (arith, few c) }
