@@ -38,7 +38,7 @@ fn even_row(weights: &[u8; 4096], u: usize) -> bool
     ensures { result ≡ even_row weights.now u }
 {
     let mut differences: u32 = 0;
-    for v in 0..=u {
+    for v in 0..u + 1 {
         differences = joined(differences, weights[64 * u + v], weights[64 * v + u]);
     }
     differences == 0

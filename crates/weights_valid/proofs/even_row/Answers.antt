@@ -1,9 +1,8 @@
-use Rattle.std.proofs.Common.{ℕ, eqb, ap, ◌∙◌, arith}
+use native.Mathlib.Omega.{arith}
 use Rattle.model.specs.Layouts.{table_weight}
 use Rattle.laws.specs.Sums.Below.{told_start, told_next, told_end}
 use Rattle.weights_valid.specs.Pairs.{even_row}
 use Rattle.weights_valid.proofs.even_row.Goals as goal
-use Rattle.weights_valid.proofs.even_row.Goals.{else-loop-v-test, then-loop-v-test+else-v-u}
 
 pub loop-v-init : goal.loop-v-init
 loop-v-init c = told_start
@@ -14,11 +13,5 @@ loop-v-preserved c =
     told_next c.loop-v.invariant (omega (arith, c.loop-v-test.true)) c.joined-differences.ensures
 
 pub returns : goal.returns
-unfolding even_row table_weight
-returns c =
-    elim c.loop-v-test.branch [
-      | else-loop-v-test w ↦ ap (λ (d : ℕ). eqb d 0) w.differences-is ∙ told_end c.loop-v.invariant (omega (arith, w.loop-v-test.false))
-      | then-loop-v-test+else-v-u w ↦
-          ap (λ (d : ℕ). eqb d 0) w.differences-is
-          ∙ told_end (told_next c.loop-v.invariant (omega arith) w.joined-differences.ensures) (omega arith)
-    ]
+unfolding even_row
+returns c = told_end c.loop-v.invariant (omega (arith, c.loop-v-test.false))
