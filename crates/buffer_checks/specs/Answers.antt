@@ -91,7 +91,8 @@ module _ {f : Format} {l : Layout} {buffer : List ℕ} {own long code : ℕ} (a 
 
 -- ---- the code is that of a result, which is handed on or handed back
 
-module _ {f : Format} {l : Layout} {buffer : List ℕ} {own long : ℕ} {answer : Result (Unit {0}) Refusal} (a : Asked f l buffer own long (refusal_number answer)) where
+module _ {f : Format} {l : Layout} {buffer : List ℕ} {own long : ℕ} {answer : Result (Unit {0}) Refusal}
+    (a : Asked f l buffer own long (refusal_number answer)) where
   pub passed : {x : Unit {0}} → answer ≡ Ok x → refusal_number answer ≡ 0
   passed told = passed_on refl told
 

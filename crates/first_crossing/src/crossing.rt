@@ -7,15 +7,13 @@ ghost use Rattle.edge_list.specs.Listed.{listed};
 ghost use Rattle.first_crossing.specs.Search.{cross_at, Searchable};
 
 use model::{Edge, Layout, Refusal};
-use validity::is_valid;
+use validity::check_valid;
 
 // The first pair of edges that crosses, if there is one.
 pub fn first_crossing(l: Layout) -> Result<Option<(Edge, Edge)>, Refusal>
     ensures { shown result ≡ first_crossing_of l }
 {
-    if !is_valid(l) {
-        return Err(Refusal::NotValid);
-    }
+    check_valid(l)?;
     let mut ends = [0u8; 4032];
     let end = edge_list::put_edges(&mut ends, 0, l.n, &l.adjacency);
     Ok(first_pair(l.n, &l.order, end / 2, &ends))
