@@ -234,7 +234,8 @@ module _ {s : List ℕ} {n : ℕ} (p : SizeRead 6 s n) {links : List ℕ} (l : l
   pub read_once : {r : Result (Unit {0}) Refusal} {x : Unit {0}} → r ≡ Ok x → asked r ≡ answer (repeat_checks (wrapped links)) [] → SizeRead 7 s n
   read_once told said = on_with 1 p told (said ∙ repeats_asked)
 
-  pub read_repeated : {r : Result (Unit {0}) Refusal} {e : Refusal} → r ≡ Err e → asked r ≡ answer (repeat_checks (wrapped links)) [] → as_read (Err e) ≡ read_of s
+  pub read_repeated : {r : Result (Unit {0}) Refusal} {e : Refusal} → r ≡ Err e → asked r ≡ answer (repeat_checks (wrapped links)) []
+      → as_read (Err e) ≡ read_of s
   read_repeated told said = asked_back 1 p.passed told (said ∙ repeats_asked)
 
 -- 8
@@ -261,7 +262,8 @@ module _ {s : List ℕ} {n : ℕ} (p : SizeRead 8 s n) (listed : Option (Bor (Li
         ap (λ (x : List ℕ). answer (weight_checks x (weights_in x listed)) []) l
         ∙ ap (λ (ws : List ℕ). answer (weight_checks (body_of s 1) ws) []) (chart_weights_lem s listed h)
 
-    pub read_weighed : {r : Result (Unit {0}) Refusal} {x : Unit {0}} → r ≡ Ok x → asked r ≡ answer (weight_checks links (weights_in links listed)) [] → SizeRead 10 s n
+    pub read_weighed : {r : Result (Unit {0}) Refusal} {x : Unit {0}} → r ≡ Ok x → asked r ≡ answer (weight_checks links (weights_in links listed)) []
+        → SizeRead 10 s n
     read_weighed told said = on_with 2 p told (said ∙ weights_asked)
 
     pub read_unweighed : {r : Result (Unit {0}) Refusal} {e : Refusal} → r ≡ Err e → asked r ≡ answer (weight_checks links (weights_in links listed)) []
@@ -301,7 +303,8 @@ unfolding chart_checks size_checks end_checks repeat_checks place_checks weight_
 all_asked p = p.passed
 
 pub read_all : {s : List ℕ} {n : ℕ} {order adj table : List ℕ} → SizeRead 10 s n → order ≡ padded (chart_order s)
-    → adj ≡ adjacency_of (chart_edges s) → table ≡ table_in (chart_edges s) (chart_weights s) → {l : Layout} → l ≡ counted_layout n order adj table → as_read (Ok l) ≡ read_of s
+    → adj ≡ adjacency_of (chart_edges s) → table ≡ table_in (chart_edges s) (chart_weights s) → {l : Layout} → l ≡ counted_layout n order adj table
+    → as_read (Ok l) ≡ read_of s
 unfolding as_read told_by
 read_all {s} p o a t e =
     rw (e, p.size, o, a, t ∙ ap (table_in (chart_edges s)) (accepted_weights s is_accepted).1)

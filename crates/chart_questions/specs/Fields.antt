@@ -1,7 +1,7 @@
 -- The fields of a chart, as the passes find them.
-use Rattle.std.specs.Prelude.{Option, Some, None, Ok, Err, MatchOption, ℕ, zero, suc, ◌+◌, ◌-◌, ◌≤◌, ◌<◌, ◌≡◌, refl, Bool, true, false, not, cond, List, [], ◌∷◌, map, length, get_or, take, drop, eqb, slice_get}
+use Rattle.std.specs.Prelude.{Option, Some, None, Ok, Err, MatchOption, IsSomeAnd, ℕ, zero, suc, ◌+◌, ◌-◌, ◌≤◌, ◌<◌, ◌≡◌, refl, Bool, true, false, not, cond, List, [], ◌∷◌, map, length, get_or, take, drop, eqb, slice_get}
 use Rattle.std.specs.Option.{is_some, option_map}
-use Rattle.std.proofs.Common.{zero-le, arith, sym, ap, subst, ◌∙◌, true≢false, length-drop, drop_of_length-le, drop-cons, drop-drop, add-one, le-leb, eq-eqb, ne_eqb}
+use Rattle.std.proofs.Common.{Bor, zero-le, arith, sym, ap, subst, ◌∙◌, true≢false, length-drop, drop_of_length-le, drop-cons, drop-drop, add-one, le-leb, eq-eqb, ne_eqb}
 use Rattle.std.proofs.Math.ListN.{get_or-eq_default}
 use Rattle.std.proofs.lemmas.Bool.{false≢true, lt-leb}
 use Rattle.std.proofs.lemmas.Iterator.{YieldsList}
@@ -12,7 +12,7 @@ use Rattle.chart_questions.specs.declared.fields.Field as one
 use Rattle.chart_questions.specs.declared.fields.Fields as some
 use Rattle.model.specs.Answers.{number}
 use Rattle.model.specs.Checks.{refusal, by_refusal, checked}
-use Rattle.model.specs.Charts.{Field, Fields, body_length, starts_with_field, first_field, fields_of, tags_of, body_of, same_list, chart_tags, weighted_tags, chart_checks}
+use Rattle.model.specs.Charts.{Field, Fields, body_length, starts_with_field, first_field, fields_of, tags_of, body_of, has_weights, same_list, chart_tags, weighted_tags, chart_checks}
 use Rattle.model.specs.Charts.{Answer, accept, refuse, asked, field_found, answer, field_answer, division_answer, tags_answer, size_found}
 use Rattle.model.specs.Charts.{size_checks, size_answer}
 use Rattle.laws.specs.Charts.Fields.{behind_field, in_front, no_field, field_fits, fields_there, fields_none}
@@ -213,6 +213,23 @@ module _ (s : List ℕ) (i : ℕ) (r : Option one.Field) (said : option_map seen
   body_missing told =
       let h = subst (λ o. Got (fields_of s).fields i (option_map seen o)) told here in
       (h, sym (ap (λ (x : Field). x.body) (get_or-eq_default (fields_of s).fields (record { tag = 0; body = [] }) h)))
+
+-- what is made of it: its body, or nothing
+pub body_told : (s : List ℕ) (i : ℕ) (r : Option one.Field) → option_map seen r ≡ slice_get (fields_of s).fields i → (b nothing : Bor (List ℕ)) → nothing.now ≡ []
+    → (P : one.Field → Type 0) → ((f : one.Field) → P f → b ≡ f.body) → MatchOption r (b ≡ nothing) P → b.now ≡ body_of s i
+body_told s i None said b nothing n P h m = ap (λ (x : Bor (List ℕ)). x.now) m ∙ n ∙ (body_missing s i None said refl).1
+body_told s i (Some f) said b nothing n P h m = ap (λ (x : Bor (List ℕ)). x.now) (h f m) ∙ (body_there s i (Some f) said refl).1
+
+pub weights_told : (s : List ℕ) (r : Option one.Field) → option_map seen r ≡ slice_get (fields_of s).fields 3 → (o : Option (Bor (List ℕ)))
+    → (P : one.Field → Bor (List ℕ) → Type 0) → ((f : one.Field) (b : Bor (List ℕ)) → P f b → b ≡ f.body) → MatchOption r (o ≡ None) (λ f. IsSomeAnd o (P f))
+    → MatchOption o (has_weights s ≡ false) (λ body. (has_weights s ≡ true) × (body.now ≡ body_of s 3))
+unfolding has_weights
+weights_told s None said None P h m = let t = body_missing s 3 None said refl in lt-leb 4 _ (omega (arith, t.0))
+weights_told s None said (Some b) P h m = absurd (cc)
+weights_told s (Some f) said None P h m = absurd m
+weights_told s (Some f) said (Some b) P h m =
+    let t = body_there s 3 (Some f) said refl in
+    (le-leb 4 _ (omega (arith, t.0)), ap (λ (x : Bor (List ℕ)). x.now) (h f b m) ∙ t.1)
 
 -- ---- question 4
 

@@ -68,20 +68,16 @@ fn has_tags(bytes: &[u8], tags: &[u8]) -> bool
 pub fn weights_of(bytes: &[u8]) -> Option<&[u8]>
     ensures { MatchOption result (has_weights bytes.now ≡ false) (λ body. (has_weights bytes.now ≡ true) × (body.now ≡ body_of bytes.now 3)) }
 {
-    match (Fields { rest: bytes }).nth(3) {
-        Some(field) => Some(field.body),
-        None => None,
-    }
+    Fields { rest: bytes }.nth(3).map(|field| field.body)
 }
 
 // The body of field i, counted from 0; empty where there are not so many fields.
 pub fn body_of(bytes: &[u8], i: usize) -> &[u8]
     ensures { result.now ≡ body_of bytes.now i }
 {
-    match (Fields { rest: bytes }).nth(i) {
-        Some(field) => field.body,
-        None => &[],
-    }
+    Fields { rest: bytes }
+        .nth(i)
+        .map_or(&[], |field| field.body)
 }
 
 // Question 4: the body of field 44 is one byte, at most 64.

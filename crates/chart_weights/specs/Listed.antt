@@ -1,5 +1,6 @@
 -- The weights of a chart's links, listed or all 1: asked, and set in a table one after the other.
-use Rattle.std.specs.Prelude.{Option, Some, None, Ok, Err, MatchOption, ℕ, zero, suc, ◌+◌, ◌*◌, ◌/◌, ◌%◌, ◌<◌, ◌≡◌, refl, Bool, true, false, not, ◌&&◌, eqb, List, [], ◌∷◌, map, length, get_or, replicate}
+use Rattle.std.specs.Prelude.{Option, Some, None, Ok, Err, MatchOption, ℕ, zero, suc, ◌+◌, ◌*◌, ◌/◌, ◌%◌, ◌<◌, ◌≡◌, refl}
+use Rattle.std.specs.Prelude.{Bool, true, false, not, ◌&&◌, eqb, List, [], ◌∷◌, map, length, get_or, replicate}
 use Rattle.std.specs.List.{list_all}
 use Rattle.std.specs.Simd.{first_chunks}
 use Rattle.std.proofs.Common.{Bor, le_of_lt, le_refl, arith, sym, ap, ap₂, ◌∙◌, le-leb, eq-eqb, ne_eqb}
@@ -159,7 +160,8 @@ module _ (table links : List ℕ) {pairs : List (List ℕ)} (whole : pairs ≡ f
   same_edges : map pair_edge pairs ≡ edges_in (wrapped links)
   same_edges = ap (map pair_edge) whole ∙ pairs_wrapped links
 
-  pub listed_set : {next : List ℕ} {listed : Option (Bor (List ℕ))} {body : Bor (List ℕ)} → listed ≡ Some body → next ≡ with_weights table (map pair_edge pairs) body.now
+  pub listed_set : {next : List ℕ} {listed : Option (Bor (List ℕ))} {body : Bor (List ℕ)} → listed ≡ Some body
+      → next ≡ with_weights table (map pair_edge pairs) body.now
       → next ≡ with_weights table (edges_in (wrapped links)) (weights_in links listed)
   unfolding weights_in
   listed_set told e = e ∙ ap₂ (with_weights table) same_edges (sym (ap (weights_in links) told))

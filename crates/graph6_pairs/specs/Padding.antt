@@ -36,7 +36,9 @@ padding_clear bytes k zero e = sym (ap (every (eqb 0)) (drop_of_length-le (unpac
 padding_clear bytes k (suc n) e =
     let bit = get_or (unpacked bytes) k 0 in
     ap₂ (λ (a b : Bool). a && b) (unset_is_zero (eqb bit 1) refl) (padding_clear bytes (k + 1) n (omega arith))
-    ∙ sym (ap (every (eqb 0)) (drop-cons (unpacked bytes) k 0 (omega arith)) ∙ ap (λ (i : ℕ). eqb 0 bit && every (eqb 0) (drop i (unpacked bytes))) (sym (add-one k)))
+    ∙ sym
+    (ap (every (eqb 0)) (drop-cons (unpacked bytes) k 0 (omega arith))
+    ∙ ap (λ (i : ℕ). eqb 0 bit && every (eqb 0) (drop i (unpacked bytes))) (sym (add-one k)))
   where
     unset_is_zero : (t : Bool) → eqb (get_or (unpacked bytes) k 0) 1 ≡ t → not t ≡ eqb 0 (get_or (unpacked bytes) k 0)
     unset_is_zero true h = sym (set_other bytes k h)

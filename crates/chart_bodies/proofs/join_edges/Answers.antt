@@ -7,7 +7,8 @@ loop-a-init c = joined_start refl c.as_chunks.ensures.front
 
 pub returns-then-is_set : goal.returns-then-is_set
 returns-then-is_set c =
-    let t = joined_again c.loop-a.invariant (drop-cons c.as_chunks.result.0.now c.loop-a.a-index [] c.loop-a-test.true) (sym c.is_set.ensures ∙ c.if-is_set.true) c.args.adjacency.now in
+    let more = drop-cons c.as_chunks.result.0.now c.loop-a.a-index [] c.loop-a-test.true in
+    let t = joined_again c.loop-a.invariant more (sym c.is_set.ensures ∙ c.if-is_set.true) c.args.adjacency.now in
     record { result_value = t.0; adjacency_after = t.1 }
 
 pub loop-a-preserved : goal.loop-a-preserved

@@ -1,9 +1,9 @@
+use Rattle.std.proofs.Common.{rules, refl}
 use Rattle.std.proofs.lemmas.Iterator.Consumers.{nth_from_yields_List}
-use Rattle.chart_questions.specs.Fields.{fields_yielded, body_there, body_missing}
+use Rattle.chart_questions.specs.Fields.{fields_yielded, body_told}
 use Rattle.chart_questions.proofs.body_of.Goals as goal
 
-pub returns-in-Some : goal.returns-in-Some
-returns-in-Some c = (body_there c.args.bytes.now c.args.i _ (nth_from_yields_List _ _ _ c.nth.ensures.ran (fields_yielded _)) c.in-Some.is).1
-
-pub returns-in-None : goal.returns-in-None
-returns-in-None c = (body_missing c.args.bytes.now c.args.i _ (nth_from_yields_List _ _ _ c.nth.ensures.ran (fields_yielded _)) c.in-None.is).1
+pub returns : goal.returns
+returns c =
+    let said = nth_from_yields_List _ _ _ c.nth.ensures.ran (fields_yielded _) in
+    body_told c.args.bytes.now c.args.i c.nth.result said c.map_or.result _ refl _ (λ f q. search rules) c.map_or.ensures

@@ -15,4 +15,6 @@ pub loop-tag-preserved : goal.loop-tag-preserved
 loop-tag-preserved c = tags_next c.loop-tag.invariant _ _ c.in-Some.ensures.steps.0 c.loop-tag-test.true c.if-field-tag.false
 
 pub returns : goal.returns
-returns c = tags_last c.loop-tag.fields c.loop-tag.invariant c.loop-tag-test.false c.next-2.result c.next-2.new.self c.next-2.ensures.steps c.is_none.result c.is_none.ensures
+returns c =
+    tags_last c.loop-tag.fields c.loop-tag.invariant c.loop-tag-test.false c.next-2.result c.next-2.new.self c.next-2.ensures.steps
+    c.is_none.result c.is_none.ensures
