@@ -4,11 +4,10 @@ ghost use Rattle.io.specs.Counts.{IsPrefixLen};
 ghost use Rattle.play_answers.specs.Lines.{line_room};
 
 use crate::starts;
-use model::{Decoded, Layout};
+use model::Layout;
 use play_answers::{Played, silent};
 use play_records::number;
 use play_replies::play_call;
-use play_views::Format;
 use text::put_text;
 
 // Plays a record that no bytes follow, and ends the list at one that is cut short.
@@ -16,49 +15,33 @@ pub fn play(l: Layout, record: &[u8], line: &mut [u8; 65536]) -> Played
     ensures { IsPrefixLen result.written line.new }
 {
     if record.len() < 32 {
-        return end(l, line);
+        return end(line);
     }
-    let op = number(record, 0);
-    let a = number(record, 8);
-    let b = number(record, 16);
-    let c = number(record, 24);
+    let [op, a, b, c] = [0, 8, 16, 24].map(|at| number(record, at));
     play_op(l, op, a, b, c, line)
 }
 
 // Is the record whole, and a start from bytes that follow it in the list: a chart, or a graph in
 // graph6?
 pub fn starts_from_bytes(record: &[u8]) -> bool {
-    if record.len() < 32 {
-        return false;
-    }
-    match number(record, 0) {
-        1 => true,
-        28 => true,
-        _ => false,
-    }
+    record.len() >= 32 && matches!(number(record, 0), 1 | 28)
 }
 
 // Starts from the bytes kept of those that follow a record, and ends the list where they are cut
 // short.
-pub fn play_start(
-    l: Layout,
-    record: &[u8],
-    bytes: &[u8],
-    is_whole: bool,
-    line: &mut [u8; 65536],
-) -> Played
+pub fn play_start(l: Layout, record: &[u8], bytes: Option<&[u8]>, line: &mut [u8; 65536]) -> Played
     ensures { IsPrefixLen result.written line.new }
 {
-    if !is_whole {
-        return end(l, line);
-    }
+    let Some(bytes) = bytes else {
+        return end(line);
+    };
     if number(record, 0) == 28 {
         return starts::import_graph(l, bytes, line);
     }
     starts::read_chart(l, bytes, line)
 }
 
-// What the table of ops says, but for starts from bytes.
+// What the table of ops says, but for starts from bytes. Any other op ends the list.
 fn play_op(l: Layout, op: u64, a: u64, b: u64, c: u64, line: &mut [u8]) -> Played
     ensures { result.written ≤ line_room }
 {
@@ -72,35 +55,22 @@ fn play_op(l: Layout, op: u64, a: u64, b: u64, c: u64, line: &mut [u8]) -> Playe
         24 => play_views::count(l, line),
         25 => play_views::order(l, a, b, line),
         26 => play_views::pair(l, line),
-        27 => play_views::write(l, Format::Chart, a, b, line),
-        29 => play_views::write(l, Format::Graph6, a, b, line),
+        27 => play_views::write(l, a, b, line),
+        29 => play_views::export(l, a, b, line),
         30 => play_tables::edge_crossings(l, a, b, line),
-        _ => play_decoded(
-            l,
-            calls_encoding::call_of(op, a as usize, b as usize, c),
-            line,
-        ),
+        _ => match calls_encoding::call_of(op, a as usize, b as usize, c) {
+            Some(call) => play_call(l, call, line),
+            None => end(line),
+        },
     }
 }
 
-// A call, or the end of the list.
-fn play_decoded(l: Layout, decoded: Decoded, line: &mut [u8]) -> Played
-    ensures { result.written ≤ line_room }
-{
-    let Decoded::Next(c) = decoded else {
-        return end(l, line);
-    };
-    play_call(l, c, line)
-}
-
 // The list ends here.
-fn end(l: Layout, line: &mut [u8]) -> Played
+fn end(line: &mut [u8]) -> Played
     ensures { result.written ≤ line_room }
 {
-    let written = put_text(line, 0, b"end\n");
     Played {
-        layout: l,
-        written,
-        ended: true,
+        written: put_text(line, 0, b"end\n"),
+        next: None,
     }
 }
