@@ -6,7 +6,7 @@
 ghost use Rattle.std.specs.Prelude.{◌≡◌, ◌≤◌, length};
 ghost use Rattle.append_line.specs.Lines.{alone_at, at_front, at_back, rest_of, placed_in, written_over};
 
-// The size places from first on are taken.
+// The size places from first on are taken. An array with a size beside it: the library has no heap.
 #[derive(Clone, Copy)]
 pub struct Line {
     pub places: [u8; 128],

@@ -3,8 +3,6 @@
 
 mod answers;
 mod calls;
-mod origins;
 
 pub use answers::put_answer;
 pub use calls::{call_at, call_of, count_calls};
-pub use origins::origin_of;

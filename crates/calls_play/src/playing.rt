@@ -9,7 +9,7 @@ ghost use Rattle.calls_encoding.specs.CallLists.{call_there};
 ghost use Rattle.calls_play.specs.PlayAnswers.{not_played};
 ghost use Rattle.history.specs.Demand3.{Demand3};
 
-use calls_encoding::{call_at, count_calls, origin_of, put_answer};
+use calls_encoding::{call_at, count_calls, put_answer};
 use calls_step::step;
 use model::{ANSWER_WIDTH, Layout, Origin, Played, Refusal};
 
@@ -43,8 +43,7 @@ pub fn play_from(origin: u8, bytes: &[u8], calls: &[u64], answers: &mut [u64]) -
     ensures claim { Demand3 (start_of (origin_of origin) bytes.now).layout
         (played_calls (origin_of origin) bytes.now calls.now (length answers.old)) }
 {
-    let from = origin_of(origin);
-    play(from, bytes, calls, answers)
+    play(Origin::from(origin), bytes, calls, answers)
 }
 
 // No call is played.

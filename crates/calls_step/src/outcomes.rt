@@ -60,7 +60,15 @@ pub(crate) fn of_converged(l: Layout, answer: Result<(Layout, ConvergeSummary), 
     ensures { result ≡ of_converged (as_converged l answer) }
 {
     match answer {
-        Ok((next, s)) => outcome(next, [s.reduction, s.rounds as u64, s.converged as u64, s.optima as u64]),
+        Ok((next, s)) => outcome(
+            next,
+            [
+                s.reduction,
+                s.rounds as u64,
+                s.converged as u64,
+                s.optima as u64,
+            ],
+        ),
         Err(refusal) => refused(l, refusal),
     }
 }

@@ -43,6 +43,7 @@ fn put_numbers(
 {
     let chords = chord_crossings(n, order, weights);
     let places = places_of(n, order);
+    // room for the edges of 64 vertices, as many as there may be: the library has no heap
     let mut ends = [0u8; 4032];
     let end = put_edges(&mut ends, 0, n, adjacency);
     put_each(table, &chords, &places, weights, &ends, end / 2)

@@ -1,4 +1,5 @@
-// Adding and removing an edge (document 01: link, unlink), with its weight (document 02, Note 8).
+// Adding and removing an edge (document 01: link, unlink), with its weight (document 02, Note 8). The two
+// calls share no step but the last, so one over closures would be no plainer.
 #![tactic(auto)]
 
 ghost use Rattle.std.specs.Prelude.{◌≡◌};
@@ -18,7 +19,14 @@ pub fn add_edge(l: Layout, a: usize, b: usize, weight: u8) -> Result<Layout, Ref
     let mut weights = l.weights;
     ends::join(&mut adjacency, a, b);
     weights::set_both(&mut weights, a, b, weight);
-    Ok(recounted(l, Layout { adjacency, weights, ..l }))
+    Ok(recounted(
+        l,
+        Layout {
+            adjacency,
+            weights,
+            ..l
+        },
+    ))
 }
 
 pub fn remove_edge(l: Layout, a: usize, b: usize) -> Result<Layout, Refusal>
@@ -29,7 +37,14 @@ pub fn remove_edge(l: Layout, a: usize, b: usize) -> Result<Layout, Refusal>
     let mut weights = l.weights;
     ends::part(&mut adjacency, a, b);
     weights::set_both(&mut weights, a, b, 0);
-    Ok(recounted(l, Layout { adjacency, weights, ..l }))
+    Ok(recounted(
+        l,
+        Layout {
+            adjacency,
+            weights,
+            ..l
+        },
+    ))
 }
 
 // Are the two vertices not joined yet, and is there a weight?

@@ -14,6 +14,7 @@ pub fn first_crossing(l: Layout) -> Result<Option<(Edge, Edge)>, Refusal>
     ensures { shown result ≡ first_crossing_of l }
 {
     check_valid(l)?;
+    // room for the edges of 64 vertices, as many as there may be: the library has no heap
     let mut ends = [0u8; 4032];
     let end = edge_list::put_edges(&mut ends, 0, l.n, &l.adjacency);
     Ok(first_pair(l.n, &l.order, end / 2, &ends))

@@ -17,7 +17,11 @@ pub fn add_vertex(l: Layout) -> Result<(Layout, usize), Refusal>
     }
     let order = with_last(l.order, n);
     // without edges it crosses nothing: the count stays
-    let next = Layout { n: n + 1, order, ..l };
+    let next = Layout {
+        n: n + 1,
+        order,
+        ..l
+    };
     Ok((next, n))
 }
 

@@ -66,6 +66,47 @@ pub struct Header {
     pub length: usize,
 }
 
+// A call that changes a layout, with what it names: any numbers at all.
+#[derive(Clone, Copy)]
+pub enum Call {
+    AddVertex,
+    AddEdge(usize, usize, u8),
+    RemoveEdge(usize, usize),
+    MoveAfter(usize, usize),
+    GreedyAppend(usize),
+    Sift(usize),
+    SiftingRound,
+    Converge(usize),
+}
+
+// What any of these calls answers: the refusal code, the layout, and the further numbers of its answer in their sequence, 0 where it has fewer;
+// a bool counts as 0 or 1. It keeps a refusal number: it is a row of the table that rl_play fills for C, and Demand3 (history) speaks of it.
+#[derive(Clone, Copy)]
+pub struct Outcome {
+    pub refusal: u8,
+    pub layout: Layout,
+    pub first: u64,
+    pub second: u64,
+    pub third: u64,
+    pub fourth: u64,
+}
+
+// How many numbers an answer takes in the table of a list of calls: its refusal code, and those of its outcome.
+pub const ANSWER_WIDTH: usize = 5;
+
+// How many numbers a call takes in a list: which one, what it names, and the weight of an edge.
+pub const CALL_WIDTH: usize = 4;
+
+// Where a list of calls starts: from the empty layout, from a chart, or from a graph in graph6.
+#[derive(Clone, Copy)]
+pub enum Origin {
+    Empty,
+    Chart,
+    Graph6,
+}
+
+// What C gets, and no call by value answers: the C interface has no Result, so each struct keeps the refusal number beside the values.
+
 // The carried count.
 #[repr(C)]
 #[derive(Clone, Copy)]
@@ -97,45 +138,6 @@ pub struct EdgesCounted {
 pub struct LeastFound {
     pub refusal: u8,
     pub crossings: u64,
-}
-
-// A call that changes a layout, with what it names: any numbers at all.
-#[derive(Clone, Copy)]
-pub enum Call {
-    AddVertex,
-    AddEdge(usize, usize, u8),
-    RemoveEdge(usize, usize),
-    MoveAfter(usize, usize),
-    GreedyAppend(usize),
-    Sift(usize),
-    SiftingRound,
-    Converge(usize),
-}
-
-// What any of these calls answers: the refusal code, the layout, and the further numbers of its answer in their sequence, 0 where it has fewer;
-// a bool counts as 0 or 1.
-#[derive(Clone, Copy)]
-pub struct Outcome {
-    pub refusal: u8,
-    pub layout: Layout,
-    pub first: u64,
-    pub second: u64,
-    pub third: u64,
-    pub fourth: u64,
-}
-
-// How many numbers an answer takes in the table of a list of calls: its refusal code, and those of its outcome.
-pub const ANSWER_WIDTH: usize = 5;
-
-// How many numbers a call takes in a list: which one, what it names, and the weight of an edge.
-pub const CALL_WIDTH: usize = 4;
-
-// Where a list of calls starts: from the empty layout, from a chart, or from a graph in graph6.
-#[derive(Clone, Copy)]
-pub enum Origin {
-    Empty,
-    Chart,
-    Graph6,
 }
 
 // A list of calls played: the refusal code, the layout at the end, and how many calls were played.

@@ -1,13 +1,16 @@
-// What C gets of a result: the refusal number, 0 where the call is accepted, and its numbers.
+// What C gets of a result: the refusal number, 0 where the call is accepted, and its numbers. And what a
+// number that C gives stands for.
 ghost use Rattle.std.specs.Prelude.{◌≡◌, []};
 ghost use Rattle.model.specs.Answers.{refusal_number, as_counted, as_written, as_edges, as_least};
 ghost use Rattle.model.specs.Reading.{shown};
 ghost use Rattle.model.specs.Reports.{as_add_report, as_append_report, as_sift_report, as_round_report, as_converge_report, crossing_report, pair_report};
+ghost use Rattle.model.specs.Playing.{origin_of};
 
 use crate::refusal::Refusal;
 use crate::{
     AddReport, AppendReport, ConvergeReport, ConvergeSummary, Counted, CrossingReport, Edge,
-    EdgesCounted, LayoutWritten, LeastFound, RoundReport, RoundSummary, SiftReport, SiftSummary,
+    EdgesCounted, LayoutWritten, LeastFound, Origin, RoundReport, RoundSummary, SiftReport,
+    SiftSummary,
 };
 
 // The refusal number of any answer.
@@ -208,5 +211,20 @@ fn no_pair(refusal: u8) -> CrossingReport
         found: false,
         first: nothing,
         second: nothing,
+    }
+}
+
+// Where a list of calls starts: 1 for a chart, 2 for a graph in graph6, and any other number for the
+// empty layout.
+impl From<u8> for Origin {
+    ghost from_gives = { λ number o. o ≡ origin_of number };
+
+    #[tactic(auto, unfolding(crate::specs::Playing::origin_of))]
+    fn from(number: u8) -> Origin {
+        match number {
+            1 => Origin::Chart,
+            2 => Origin::Graph6,
+            _ => Origin::Empty,
+        }
     }
 }

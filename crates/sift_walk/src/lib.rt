@@ -212,7 +212,8 @@ impl Seat<'_> {
         (self.order[self.turned(j)] % 64) as usize
     }
 
-    // The place of the vertex j behind the next one clockwise.
+    // The place of the vertex j behind the next one clockwise. By a test, as its definition: `%` would divide
+    // in the inner loop.
     #[tactic(auto, using(crate::specs::Seats::turned_on, crate::specs::Seats::turned_round))]
     fn turned(&self, j: usize) -> usize
         requires { j ≤ 64 }

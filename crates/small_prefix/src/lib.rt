@@ -5,6 +5,7 @@
 ghost use Rattle.std.specs.Prelude.{◌≡◌};
 ghost use Rattle.small_prefix.specs.Prefixes.{alone, next_of};
 
+// An array with a size beside it: the library has no heap.
 #[derive(Clone, Copy)]
 pub struct Prefix {
     pub places: [u8; 8],

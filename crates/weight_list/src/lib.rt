@@ -22,6 +22,7 @@ pub fn put_weights(
     ensures { let es = listed_edges n adjacency.now in
         Put (length es) out.old at (map (edge_weight (table_weight weights.now)) es) out.new result }
 {
+    // room for the edges of 64 vertices, as many as there may be: the library has no heap
     let mut ends = [0u8; 4032];
     let count = edge_list::put_edges(&mut ends, 0, n, adjacency) / 2;
     if text::lacks(out.len(), at, count) {

@@ -5,5 +5,5 @@ pub returns : goal.returns
 returns c =
     let s = c.args in
     let e = c.play.ensures in
-    let t = played_from_lem s.bytes.now s.calls.now s.answers.now c.origin_of-from.ensures (e.returned, (e.table, e.claim)) in
+    let t = played_from_lem s.bytes.now s.calls.now s.answers.now c.from.ensures (e.returned, (e.table, e.claim)) in
     record { returned = t.0; table = t.1.0; claim = t.1.1 }

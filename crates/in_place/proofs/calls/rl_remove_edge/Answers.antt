@@ -5,6 +5,6 @@ use Rattle.in_place.proofs.calls.rl_remove_edge.Goals as goal
 
 pub returns : goal.returns
 returns c = (
-      c.change.ensures.number ∙ change_told c.args.l.now c.remove_edge-answer.result ∙ ap (λ (a : Changed). a.refusal) c.remove_edge-answer.ensures,
-      c.change.ensures.layout ∙ ap (λ (a : Changed). a.layout) c.remove_edge-answer.ensures,
-    )
+  c.change.ensures.number ∙ change_told c.args.l.now c.remove_edge-answer.result ∙ ap (λ (a : Changed). a.refusal) c.remove_edge-answer.ensures,
+  c.change.ensures.layout ∙ ap (λ (a : Changed). a.layout) c.remove_edge-answer.ensures,
+)
