@@ -19,13 +19,10 @@ pub fn list_chart(bytes: &[u8], out: &mut [u8]) -> usize
     if out.len() < 1024 {
         return 0;
     }
-    let read = chart::read(bytes);
-    let refusal = read.refusal;
-    if refusal != 0 {
-        return put_line(out, 0, b"refused", refusal as u64);
+    match chart::read(bytes) {
+        Ok(l) => list_layout(l, out),
+        Err(refusal) => put_line(out, 0, b"refused", u64::from(refusal.number())),
     }
-    let layout = read.layout;
-    list_layout(layout, out)
 }
 
 fn list_layout(l: Layout, out: &mut [u8]) -> usize
@@ -33,18 +30,15 @@ fn list_layout(l: Layout, out: &mut [u8]) -> usize
     ensures { (out.new ≡ listing l ++ drop (length (listing l)) out.old) × (result ≡ length (listing l)) }
 {
     let n = l.n;
-    let adjacency = l.adjacency;
-    let settled = converge(l, 50);
-    let after = settled.layout;
+    let (after, settled) = converge(l, 50).unwrap();
     let numbers = Numbers {
         vertices: n as u64,
-        edges: edge_list::edge_count(n, &adjacency) as u64,
+        edges: edge_list::edge_count(n, &l.adjacency) as u64,
         before: l.count,
         after: after.count,
         rounds: settled.rounds as u64,
     };
-    let order = after.order;
     let state = put_numbers(out, 0, numbers);
     let order_line = put_settled(out, state, settled.converged);
-    put_order_line(out, order_line, &order[..n])
+    put_order_line(out, order_line, &after.order[..n])
 }

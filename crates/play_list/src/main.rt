@@ -2,7 +2,8 @@
 // is in play_calls; here records and the bytes behind them are read, and lines are written.
 #![tactic(auto)]
 
-ghost use Rattle.std.specs.Prelude.{◌≡◌, ◌≤◌, min, length};
+ghost use Rattle.std.specs.Prelude.{◌≤◌, length};
+ghost use Rattle.io.specs.Counts.{IsPrefixLen};
 
 use model::Layout;
 use play_calls::Played;
@@ -13,110 +14,69 @@ fn main(rt: HostRuntime) {
     // A proved loop has to end, and nothing says that the input does: the turns are counted, up to
     // a number that no run reaches.
     for _ in 0..u64::MAX {
-        let played = play_next(&mut rt.stdin(), &mut rt.stdout(), l);
-        if played.ended {
+        let Some(next) = play_next(&mut rt.stdin(), &mut rt.stdout(), l) else {
             return;
-        }
-        l = played.layout;
-    }
-}
-
-// Reads a record, with the bytes that follow it if some do, plays it and writes its line.
-fn play_next(input: &mut impl Read, output: &mut impl Write, l: Layout) -> Played {
-    let mut record = [0u8; 32];
-    let got = read_full(input, &mut record);
-    if got == 0 {
-        return Played {
-            layout: l,
-            written: 0,
-            ended: true,
         };
+        l = next;
     }
-    if play_calls::starts_from_bytes(&record[..got]) {
-        return play_start(input, output, l, &record[..got]);
-    }
+}
+
+// Reads a record, with the bytes that follow it if some do, plays it and writes its line. Answers the
+// layout that then stands, or none where the list ends.
+fn play_next(input: &mut impl Read, output: &mut impl Write, l: Layout) -> Option<Layout> {
+    let mut space = [0u8; 32];
+    let got = read_full(input, &mut space);
+    let record = &space[..got];
     let mut line = [0u8; 65536];
-    let played = play_calls::play(l, &record[..got], &mut line);
-    let written = played.written;
-    let _ = output.write_all(&line[..written]);
-    played
+    let played = if record.is_empty() {
+        return None;
+    } else if play_calls::starts_from_bytes(record) {
+        play_start(input, l, record, &mut line)
+    } else {
+        play_calls::play(l, record, &mut line)
+    };
+    let _ = output.write_all(&line[..played.written]);
+    played.next
 }
 
-fn play_start(input: &mut impl Read, output: &mut impl Write, l: Layout, record: &[u8]) -> Played {
-    let mut bytes = start_buffer();
-    let kept = play_calls::bytes_kept(play_calls::number(record, 8));
-    play_kept(input, output, l, record, &mut bytes[..kept])
+// Reads the bytes that follow a record and starts from them.
+fn play_start(input: &mut impl Read, l: Layout, record: &[u8], line: &mut [u8; 65536]) -> Played
+    ensures { IsPrefixLen result.written line.new }
+{
+    // Room for a chart, and for one byte more, which tells that it is too long. A graph needs less.
+    let mut space = [0u8; 8193];
+    let length = play_calls::number(record, 8);
+    let bytes = &mut space[..play_calls::bytes_kept(length)];
+    let is_whole = input.read_exact(bytes).is_ok()
+        && pass_over(input, play_calls::bytes_rest(length));
+    play_calls::play_start(l, record, is_whole.then_some(bytes), line)
 }
 
-fn play_kept(
-    input: &mut impl Read,
-    output: &mut impl Write,
-    l: Layout,
-    record: &[u8],
-    bytes: &mut [u8],
-) -> Played {
-    let is_whole = read_bytes(input, play_calls::number(record, 8), bytes);
-    let mut line = [0u8; 65536];
-    let played = play_calls::play_start(l, record, bytes, is_whole, &mut line);
-    let written = played.written;
-    let _ = output.write_all(&line[..written]);
-    played
-}
-
-// Reads length bytes, fills the buffer with the first of them and passes over the rest and the
-// padding. False if the input ends before.
-fn read_bytes(input: &mut impl Read, length: u64, bytes: &mut [u8]) -> bool {
-    let got = read_full(input, bytes);
-    if got < bytes.len() {
-        return false;
-    }
-    pass_over(input, play_calls::bytes_rest(length))
-}
-
+// Reads so many bytes and leaves them. False if the input ends before.
 fn pass_over(input: &mut impl Read, count: u64) -> bool {
+    let mut space = [0u8; 4096];
     let mut left = count;
     while left > 0 {
-        let step = at_most_4096(left);
-        if !pass_over_some(input, step) {
+        let step = left.min(4096);
+        if input.read_exact(&mut space[..step as usize]).is_err() {
             return false;
         }
-        left -= step as u64;
+        left -= step;
     }
     true
 }
 
-fn pass_over_some(input: &mut impl Read, count: usize) -> bool
-    requires { count ≤ 4096 }
-{
-    let mut space = [0u8; 4096];
-    read_full(input, &mut space[..count]) == count
-}
-
-// Reads until the buffer is full, the input ends or a read fails. Answers how many bytes were put
-// at the buffer's start.
+// Reads until the buffer is full, the input ends or a read fails. Answers how many bytes were put at the
+// buffer's start, which read_exact does not: a list may end behind a record, and not within one.
 fn read_full(input: &mut impl Read, buffer: &mut [u8]) -> usize
     ensures { result ≤ length buffer.new }
 {
     let mut done = 0;
     while done < buffer.len() {
-        let more = input.read(&mut buffer[done..]).unwrap_or(0);
-        if more == 0 {
+        let Ok(more @ 1..) = input.read(&mut buffer[done..]) else {
             break;
-        }
+        };
         done += more;
     }
     done
-}
-
-fn at_most_4096(count: u64) -> usize
-    ensures { result ≡ min count 4096 }
-{
-    if count < 4096 { count as usize } else { 4096 }
-}
-
-// Room for a chart, and for one byte more, which tells that it is too long. A graph needs less.
-fn start_buffer() -> [u8; 8193]
-    ensures { 8193 ≡ length result }
-{
-    [0; 8193]
 }
