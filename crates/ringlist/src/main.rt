@@ -11,16 +11,9 @@ ghost use Rattle.ringlist.specs.Input.{Within, TakenFrom};
 use std::io;
 use std::io::{Read, Write};
 
-// The input, read to its end or as far as the buffer goes; or a read that failed.
-#[derive(Clone, Copy)]
-enum Input {
-    Read(usize),
-    Failed,
-}
-
 fn main(rt: HostRuntime) {
     let mut input = [0u8; 8193];
-    let Input::Read(got) = read_input(&mut rt.stdin(), &mut input) else {
+    let Ok(got) = read_input(&mut rt.stdin(), &mut input) else {
         let _ = eprintln!(rt; "ringlist: standard input cannot be read");
         return;
     };
@@ -42,19 +35,18 @@ fn write_listing<W: Write>(output: &mut W, chart: &[u8]) -> io::Result<()>
     output.write_all(&out[..n])
 }
 
-fn read_input<R: Read>(from: &mut R, input: &mut [u8]) -> Input
+// Reads to the input's end or as far as the buffer goes.
+fn read_input<R: Read>(from: &mut R, input: &mut [u8]) -> io::Result<usize>
     ensures within { Within result (length input.new) }
     ensures taken { TakenFrom result (R.remaining from.old) (R.remaining from.new) input.new }
 {
     let mut got = 0;
     while got < input.len() {
-        let Ok(more) = from.read(&mut input[got..]) else {
-            return Input::Failed;
-        };
+        let more = from.read(&mut input[got..])?;
         if more == 0 {
-            return Input::Read(got);
+            break;
         }
         got += more;
     }
-    Input::Read(got)
+    Ok(got)
 }

@@ -8,6 +8,6 @@ pub loop-got-preserved : goal.loop-got-preserved
 loop-got-preserved g c = record {
   within = search rules;
   taken =
-      let more = take_more _ _ _ _ _ c.loop-got.invariant.within c.in-Ok.ensures.bound.0 in
-      subst (Consumes _ _) (sym more) (Consumes-trans _ _ _ _ _ c.loop-got.invariant.taken c.in-Ok.ensures.bytes.0);
+      let more = take_more _ _ _ _ _ c.loop-got.invariant.within c.in_ok-more.ensures.bound.0 in
+      subst (Consumes _ _) (sym more) (Consumes-trans _ _ _ _ _ c.loop-got.invariant.taken c.in_ok-more.ensures.bytes.0);
 }

@@ -21,7 +21,8 @@ unfolding line text upto
 returns-in-Err c =
     let s = c.args.bytes.now in
     let told = refused_listing s c.read.ensures c.in-Err.is in
-    let t = listed_as s c.args.out.now c.if-out-lt1024.false told (written_whole (rw (c.from.ensures, c.number.ensures) at (c.put_line.ensures.fits (omega arith)))) in
+    let put = rw (c.from.ensures, c.number.ensures) at (c.put_line.ensures.fits (omega arith)) in
+    let t = listed_as s c.args.out.now c.if-out-lt1024.false told (written_whole put) in
     record { value = t.0; out_after = t.1 }
 
 pub returns-in-Ok : goal.returns-in-Ok
