@@ -56,6 +56,7 @@ fn play_start(input: &mut impl Read, l: Layout, record: &[u8], line: &mut [u8; 6
 fn pass_over(input: &mut impl Read, count: u64) -> bool {
     let mut space = [0u8; 4096];
     let mut left = count;
+    // no index is counted: what is left, a buffer at a time
     while left > 0 {
         let step = left.min(4096);
         if input.read_exact(&mut space[..step as usize]).is_err() {

@@ -41,6 +41,7 @@ fn read_input<R: Read>(from: &mut R, input: &mut [u8]) -> io::Result<usize>
     ensures taken { TakenFrom result (R.remaining from.old) (R.remaining from.new) input.new }
 {
     let mut got = 0;
+    // no index is counted: each read says how many bytes came, which read_exact does not
     while got < input.len() {
         let more = from.read(&mut input[got..])?;
         if more == 0 {
