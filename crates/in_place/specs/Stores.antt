@@ -24,31 +24,31 @@ module _ {T : Type 0} where
 
 pub add_told : (l : Layout) (a : Result (Layout × ℕ) Refusal)
     → (as_add_report (told a) ≡ add_report (as_added l a)) × (stored l a ≡ (as_added l a).layout)
-unfolding add_report as_add_report as_added told_by
+unfolding add_report as_add_report as_added told_by told stored
 add_told l (Ok x) = (refl, refl)
 add_told l (Err r) = (refl, refl)
 
 pub append_told : (l : Layout) (a : Result (Layout × ℕ) Refusal)
     → (as_append_report (told a) ≡ append_report (as_appended l a)) × (stored l a ≡ (as_appended l a).layout)
-unfolding append_report as_append_report as_appended told_by
+unfolding append_report as_append_report as_appended told_by told stored
 append_told l (Ok x) = (refl, refl)
 append_told l (Err r) = (refl, refl)
 
 pub sift_told : (l : Layout) (a : Result (Layout × SiftSummary) Refusal)
     → (as_sift_report (told a) ≡ sift_report (as_sifted l a)) × (stored l a ≡ (as_sifted l a).layout)
-unfolding sift_report as_sift_report as_sifted told_by
+unfolding sift_report as_sift_report as_sifted told_by told stored
 sift_told l (Ok x) = (refl, refl)
 sift_told l (Err r) = (refl, refl)
 
 pub round_told : (l : Layout) (a : Result (Layout × RoundSummary) Refusal)
     → (as_round_report (told a) ≡ round_report (as_rounded l a)) × (stored l a ≡ (as_rounded l a).layout)
-unfolding round_report as_round_report as_rounded told_by
+unfolding round_report as_round_report as_rounded told_by told stored
 round_told l (Ok x) = (refl, refl)
 round_told l (Err r) = (refl, refl)
 
 pub converge_told : (l : Layout) (a : Result (Layout × ConvergeSummary) Refusal)
     → (as_converge_report (told a) ≡ converge_report (as_converged l a)) × (stored l a ≡ (as_converged l a).layout)
-unfolding converge_report as_converge_report as_converged told_by
+unfolding converge_report as_converge_report as_converged told_by told stored
 converge_told l (Ok x) = (refl, refl)
 converge_told l (Err r) = (refl, refl)
 
