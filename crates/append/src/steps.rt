@@ -47,7 +47,7 @@ impl Partial {
         requires { Fitting self.old v }
         ensures { (self.new ≡ placed_of edges.now.weights.now edges.now.sums self.old v) × (self.new.tally ≤ self.old.tally + most_at_end) }
     {
-        let ends = edges.ends_of(self.line.placed(), v);
+        let ends = edges.end_crossings(&self.line, v);
         self.placed = words::set(self.placed, v);
         self.put(v, ends);
     }

@@ -121,16 +121,17 @@ module _ {n : ℕ} {adj : List ℕ} {placed : ℕ} where
         below = turn_below best word placed b.below h (eqb word 0) (eqb (bit placed k) 1);
       })
 
+  -- after all vertices it is the definition's choice, whole
+  pub best_whole : {best : Option Choice} {k : ℕ} → BestUpTo n adj placed best k → k ≤ n → n ≤ k → shown n best ≡ best_below n adj placed n
+  best_whole b l h = b.found ∙ ap (best_below n adj placed) (le_antisymm l h)
+
   -- none, which the number n stands for in the definition, or a vertex
   pub best_end : {best : Option Choice} {k : ℕ} → BestUpTo n adj placed best k → k ≤ n → n ≤ k → n ≤ 64
       → let chosen = cond (leb n 64) (best_below n adj placed n).vertex n in
       MatchOption best (n ≡ chosen) (λ c. (c.vertex ≡ chosen) × (c.vertex < n))
   unfolding shown no_choice
-  best_end {best} {k} b l h small = rw (le-leb n 64 small) (by_cases best last b.below)
+  best_end {best} {k} b l h small = rw (le-leb n 64 small) (by_cases best (best_whole b l h) b.below)
     where
-      last : shown n best ≡ best_below n adj placed n
-      last = b.found ∙ ap (best_below n adj placed) (le_antisymm l h)
-
       by_cases : (best : Option Choice) → shown n best ≡ best_below n adj placed n → IfSome best (λ c. c.vertex < n)
           → MatchOption best (n ≡ (best_below n adj placed n).vertex) (λ c. (c.vertex ≡ (best_below n adj placed n).vertex) × (c.vertex < n))
       by_cases None e i = ap (λ (c : Choice). c.vertex) e

@@ -5,9 +5,11 @@
 
 ghost use Rattle.std.specs.Prelude.{◌≡◌, ◌%◌, ◌≤◌, length};
 ghost use Rattle.laws.specs.Tables.Rows.{RowsOf, TakenRow};
-ghost use Rattle.append_ends.specs.Ends.{ends_of, most_at_end};
+ghost use Rattle.append_ends.specs.Ends.{vertices, ends_of, most_at_end};
 ghost use Rattle.append_ends.specs.Passes.{passed_of, Small};
 ghost use Rattle.append_ends.specs.Placed.{as_vertices};
+
+use append_line::Line;
 
 // A closing edge crosses an open one: at the front where the open one starts before the other, and at
 // the back where it starts behind.
@@ -42,6 +44,15 @@ impl<'a> OpenEdges<'a> {
         ensures row { TakenRow self.old.weights.now (v % 64) self.old.sums self.new.sums }
     {
         weights::sub_row(&mut self.sums, self.weights, v);
+    }
+
+    // The ends of any line: its start and its size are taken modulo 65, which changes nothing for 64
+    // vertices or fewer around the middle (append_line).
+    pub fn end_crossings(&self, line: &Line, v: usize) -> Ends
+        ensures { (result ≡ ends_of self.now.weights.now self.now.sums (v % 64) (vertices line.now))
+            × ((result.front ≤ most_at_end) × (result.back ≤ most_at_end)) }
+    {
+        self.ends_of(line.placed(), v)
     }
 
     // Goes once through the placed vertices, a byte each. The open edges are those to vertices that are

@@ -1,11 +1,14 @@
 // What the calls share that fill a lent buffer or table from its start: their checks.
 #![tactic(auto)]
 
+mod codes;
+
 ghost use Rattle.std.specs.Prelude.{◌≡◌};
 ghost use Rattle.model.specs.Answers.{number, refusal_number};
 ghost use Rattle.model.specs.Checks.{refusal};
 ghost use Rattle.buffer_checks.specs.Answers.{asks};
 
+pub use codes::write_code;
 use model::Refusal;
 
 // Is the layout valid, do the format's own checks pass, and has a buffer of size entries room for length

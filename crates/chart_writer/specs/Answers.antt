@@ -14,16 +14,11 @@ use Rattle.laws.proofs.Layouts.Units.{unit_asked}
 use Rattle.laws.specs.Buffers.Writing.{Written, written_whole}
 use Rattle.laws.specs.Buffers.Charts.{chart_with, chart_edges_lem, chart_size_lem}
 use Rattle.buffer_checks.specs.Answers.{Asked, is_valid_lem, room, written, passed}
-use Rattle.chart_writer.specs.declared.Chart.{Chart}
 use Rattle.chart_writer.specs.Fields.{weight_room, weight_bytes, weight_bytes_length, ChartFits}
 
 -- the table of weights that is written, or none
 abbrev pub weights_kept : List ℕ → Option (List ℕ)
 weights_kept ws = cond (none_above_one ws) None (Some ws)
-
--- what the chart of a layout holds
-abbrev pub charted : Layout → Chart
-charted l = record { n = l.n; order = l.order; adjacency = l.adjacency; weights = weights_kept l.weights }
 
 -- how many bytes a chart has, by what the call counts
 abbrev pub counted : ℕ → List ℕ → Option (List ℕ) → ℕ

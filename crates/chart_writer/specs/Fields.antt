@@ -1,6 +1,6 @@
 -- A field written: its header, and the body behind it. A chart written: three fields, one behind the other, and the weights.
 use Rattle.std.specs.Prelude.{Option, Some, None, ℕ, ◌+◌, ◌*◌, ◌/◌, ◌%◌, ◌≤◌, ◌<◌, ◌≡◌, refl}
-use Rattle.std.proofs.Common.{mod-eq_of_lt, arith, ◌∙◌}
+use Rattle.std.proofs.Common.{Bor, mod-eq_of_lt, arith, ◌∙◌}
 use Rattle.std.proofs.Math.Path.{ap}
 use mathlib.Core.List.{List, [], ◌∷◌, ◌++◌, map, append-nil}
 use Rattle.std.proofs.Math.ListN.{length, length-map}
@@ -53,6 +53,11 @@ module _ {start : List ℕ} {at tag size : ℕ} {bytes : List ℕ} {to : ℕ} (h
 chart_last : (n : ℕ) (es : List Edge) (o last : List ℕ) → chart_with n es o [] ++ last ≡ chart_with n es o last
 unfolding chart_with
 chart_last n es o last = rw append-nil
+
+-- the table that is lent, or none
+unfoldable pub lent : Option (Bor (List ℕ)) → Option (List ℕ)
+lent None = None
+lent (Some ws) = Some ws.now
 
 -- the bytes of field 57: none where there are no weights to write
 unfoldable pub weight_bytes : Option (List ℕ) → List Edge → List ℕ

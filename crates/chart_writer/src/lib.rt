@@ -9,8 +9,8 @@ ghost use Rattle.model.specs.WrittenCharts.{field_bytes, edge_bytes, chart_forma
 ghost use Rattle.laws.specs.Buffers.Writing.{Written};
 ghost use Rattle.laws.specs.Buffers.Charts.{chart_with};
 ghost use Rattle.text.specs.Room.{Put};
-ghost use Rattle.chart_writer.specs.Fields.{weight_room, weight_bytes, FieldsFit, ChartFits};
-ghost use Rattle.chart_writer.specs.Answers.{counted, charted};
+ghost use Rattle.chart_writer.specs.Fields.{lent, weight_room, weight_bytes, FieldsFit, ChartFits};
+ghost use Rattle.chart_writer.specs.Answers.{counted, weights_kept};
 
 use buffer_checks::write_refusal;
 use edge_list::{edge_count, put_edges};
@@ -25,7 +25,7 @@ pub fn write(l: Layout, buffer: &mut [u8]) -> Result<usize, Refusal>
     ensures value { as_written result ≡ write_of chart_format l buffer.old }
     ensures buffer_after { buffer.new ≡ written_bytes chart_format l buffer.old }
 {
-    let chart = Chart::from(l);
+    let chart = Chart::of(&l);
     let length = chart.length();
     let size = buffer.len();
     write_refusal(is_valid(l), Ok(()), length, size, Refusal::ShortBuffer)?;
@@ -34,23 +34,27 @@ pub fn write(l: Layout, buffer: &mut [u8]) -> Result<usize, Refusal>
 }
 
 // What the chart of a layout holds: its vertices in their order, its edges, and their weights unless
-// all edges weigh 1.
+// all edges weigh 1, which are lent: a copy would be made before the checks.
 #[derive(Clone, Copy)]
-struct Chart {
+struct Chart<'a> {
     n: usize,
     order: [u8; 64],
     adjacency: [u64; 64],
-    weights: Option<[u8; 4096]>,
+    weights: Option<&'a [u8; 4096]>,
 }
 
-impl From<Layout> for Chart {
-    ghost from_gives = { λ l c. c ≡ charted l };
-
-    fn from(l: Layout) -> Chart {
+impl<'a> Chart<'a> {
+    #[tactic(auto, unfolding(crate::specs::Fields::lent))]
+    fn of(l: &'a Layout) -> Chart<'a>
+        ensures size { result.n ≡ l.now.n }
+        ensures order { result.order ≡ l.now.order }
+        ensures words { result.adjacency ≡ l.now.adjacency }
+        ensures weights { lent result.weights ≡ weights_kept l.now.weights }
+    {
         let weights = if all_unit(&l.weights) {
             None
         } else {
-            Some(l.weights)
+            Some(&l.weights)
         };
         Chart {
             n: l.n,
@@ -59,13 +63,11 @@ impl From<Layout> for Chart {
             weights,
         }
     }
-}
 
-impl Chart {
     // How many bytes it has: three headers, n itself, the edges and the order, and the weights. 0 above 64
     // vertices, which no chart has.
     fn length(&self) -> usize
-        ensures { result ≡ counted self.now.n self.now.adjacency self.now.weights }
+        ensures { result ≡ counted self.now.n self.now.adjacency (lent self.now.weights) }
     {
         if 64 < self.n {
             return 0;
@@ -75,8 +77,9 @@ impl Chart {
     }
 
     // How many bytes field 57 has: none where all edges weigh 1.
+    #[tactic(auto, unfolding(crate::specs::Fields::lent))]
     fn weights_length(&self, edges: u32) -> usize
-        ensures { result ≡ weight_room self.now.weights edges }
+        ensures { result ≡ weight_room (lent self.now.weights) edges }
     {
         match self.weights {
             None => 0,
@@ -86,9 +89,9 @@ impl Chart {
 
     // Writes the fields to the start of a buffer, and answers where they end.
     fn put(&self, out: &mut [u8]) -> usize
-        requires { ChartFits self.now.n self.now.adjacency self.now.weights out.old }
+        requires { ChartFits self.now.n self.now.adjacency (lent self.now.weights) out.old }
         ensures { let c = self.now in let es = edges c.n c.adjacency in
-            Written out.old 0 (chart_with c.n es (take c.n c.order) (weight_bytes c.weights es)) out.new result }
+            Written out.old 0 (chart_with c.n es (take c.n c.order) (weight_bytes (lent c.weights) es)) out.new result }
     {
         let at = self.put_fields(out);
         self.put_weights(out, at)
@@ -119,10 +122,10 @@ impl Chart {
     // Field 57, unless all edges weigh 1.
     fn put_weights(&self, out: &mut [u8], at: usize) -> usize
         requires { let c = self.now in
-            (c.n ≤ 64) × (at + weight_room c.weights (length (edges c.n c.adjacency)) ≤ length out.old) }
-        ensures { let c = self.now in Written out.old at (weight_bytes c.weights (edges c.n c.adjacency)) out.new result }
+            (c.n ≤ 64) × (at + weight_room (lent c.weights) (length (edges c.n c.adjacency)) ≤ length out.old) }
+        ensures { let c = self.now in Written out.old at (weight_bytes (lent c.weights) (edges c.n c.adjacency)) out.new result }
     {
-        let Some(weights) = &self.weights else {
+        let Some(weights) = self.weights else {
             return at;
         };
         let count = edge_count(self.n, &self.adjacency) as usize;

@@ -47,8 +47,8 @@ fn play_start(input: &mut impl Read, l: Layout, record: &[u8], line: &mut [u8; 6
     let mut space = [0u8; 8193];
     let length = play_calls::number(record, 8);
     let bytes = &mut space[..play_calls::bytes_kept(length)];
-    let is_whole = input.read_exact(bytes).is_ok()
-        && pass_over(input, play_calls::bytes_rest(length));
+    let is_whole =
+        read_whole(input, bytes) && pass_over(input, play_calls::bytes_rest(length));
     play_calls::play_start(l, record, is_whole.then_some(bytes), line)
 }
 
@@ -59,12 +59,18 @@ fn pass_over(input: &mut impl Read, count: u64) -> bool {
     // no index is counted: what is left, a buffer at a time
     while left > 0 {
         let step = left.min(4096);
-        if input.read_exact(&mut space[..step as usize]).is_err() {
+        if !read_whole(input, &mut space[..step as usize]) {
             return false;
         }
         left -= step;
     }
     true
+}
+
+// Reads until the buffer is full. False if the input ends or a read fails before; one that a signal interrupts
+// counts as failed, as between records, where read_exact would try it again.
+fn read_whole(input: &mut impl Read, buffer: &mut [u8]) -> bool {
+    read_full(input, buffer) == buffer.len()
 }
 
 // Reads until the buffer is full, the input ends or a read fails. Answers how many bytes were put at the

@@ -13,7 +13,8 @@ asked : (c : After-write_refusal) → let s = c.args in ChartAsked s.l s.buffer.
 unfolding refusal refusal_number number
 asked c =
     let l = c.args.l in
-    let measured = rw c.from-chart.ensures at c.length-length.ensures in
+    let chart = c.of-chart.ensures in
+    let measured = rw (chart.size, chart.words, chart.weights) at c.length-length.ensures in
     record {
       asked =
           record {
@@ -32,9 +33,13 @@ returns-in_err-write_refusal c =
     rw back (record { value = t.0; buffer_after = t.1 })
 
 pub put-requires : goal.put-requires
-put-requires c = rw c.from-chart.ensures (fits (asked (goal.at.put-requires c).After-write_refusal) c.in_ok-write_refusal.was)
+put-requires c =
+    let chart = c.of-chart.ensures in
+    rw (chart.size, chart.words, chart.weights) (fits (asked (goal.at.put-requires c).After-write_refusal) c.in_ok-write_refusal.was)
 
 pub returns : goal.returns
 returns c =
-    let t = chart_written (asked (goal.at.returns c).After-write_refusal) c.in_ok-write_refusal.was (rw c.from-chart.ensures at c.put.ensures) in
+    let chart = c.of-chart.ensures in
+    let put = rw (chart.size, chart.order, chart.words, chart.weights) at c.put.ensures in
+    let t = chart_written (asked (goal.at.returns c).After-write_refusal) c.in_ok-write_refusal.was put in
     record { value = t.0; buffer_after = t.1 }

@@ -1,8 +1,7 @@
 use Rattle.std.proofs.Common.{ℕ, ◌≡◌, ap, ap₂, ◌∙◌, mod-eq_of_lt}
 use Rattle.laws.specs.Sums.Bits.{set_within}
 use Rattle.append_ends.specs.declared.Ends.{Ends}
-use Rattle.append_ends.specs.Ends.{vertices, ends_of, placed_vertices}
-use Rattle.append_ends.specs.Placed.{as_vertices}
+use Rattle.append_ends.specs.Ends.{vertices, ends_of}
 use Rattle.append.specs.Steps.{put_of, placed_of}
 use Rattle.append.proofs.steps.Partial.place.Goals as goal
 
@@ -11,9 +10,9 @@ unfolding placed_of put_of
 returns c =
     let s = c.args.self.now in
     let table = c.args.edges.now in
-    let ends : c.ends_of-ends.result ≡ ends_of table.weights.now table.sums c.args.v (vertices s.line) =
-    c.ends_of-ends.ensures.0
-    ∙ ap₂ (ends_of table.weights.now table.sums) (mod-eq_of_lt c.requires.vertex) (ap as_vertices c.placed.ensures.value ∙ placed_vertices s.line) in (
+    let ends : c.end_crossings-ends.result ≡ ends_of table.weights.now table.sums c.args.v (vertices s.line) =
+    c.end_crossings-ends.ensures.0
+    ∙ ap (λ (v : ℕ). ends_of table.weights.now table.sums v (vertices s.line)) (mod-eq_of_lt c.requires.vertex) in (
       c.put.ensures.0
           ∙ ap₂ (λ (m : ℕ) (e : Ends). put_of (record { line = s.line; placed = m; tally = s.tally }) c.args.v m e)
           (set_within _ _ c.requires.vertex c.set-self.ensures) ends,
