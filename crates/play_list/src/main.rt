@@ -47,8 +47,7 @@ fn play_start(input: &mut impl Read, l: Layout, record: &[u8], line: &mut [u8; 6
     let mut space = [0u8; 8193];
     let length = play_calls::number(record, 8);
     let bytes = &mut space[..play_calls::bytes_kept(length)];
-    let is_whole =
-        read_whole(input, bytes) && pass_over(input, play_calls::bytes_rest(length));
+    let is_whole = read_whole(input, bytes) && pass_over(input, play_calls::bytes_rest(length));
     play_calls::play_start(l, record, is_whole.then_some(bytes), line)
 }
 
