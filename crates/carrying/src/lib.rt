@@ -5,7 +5,7 @@ ghost use Rattle.std.specs.Prelude.{◌≡◌};
 ghost use Rattle.model.specs.Layouts.{carried as carried_count};
 ghost use Rattle.laws.specs.Layouts.Recount.{carried_to, recounted as recounted_layout};
 
-use counting::{count_crossings, crossings_of};
+use counting::crossings_of;
 use model::Layout;
 
 // The count plus the crossings after, less the crossings before, modulo 2^64, whatever count came
@@ -35,7 +35,6 @@ pub fn carried_to(l: Layout, next: Layout, after: u64) -> Layout
 pub fn recounted(l: Layout, next: Layout) -> Layout
     ensures { result ≡ recounted_layout l next.n next.order next.adjacency next.weights }
 {
-    // of its parts: a layout handed on is copied whole
-    let after = count_crossings(next.n, &next.order, &next.weights);
+    let after = crossings_of(next);
     carried_to(l, next, after)
 }
