@@ -63,9 +63,9 @@ impl<'a> Branch<'a> {
 
     // All orders that start with the placed vertices and have left more, by placing one further vertex and
     // listing the rest.
-    fn list_rest(self, n: usize, left: usize, best: Found) -> Found
-        requires { Graph n self.edges.weights.now × (Underway n left self.edges.weights.now self × (best.least ≤ most)) }
-        ensures result_value { let b = self.entry in
+    fn list_rest(&self, n: usize, left: usize, best: Found) -> Found
+        requires { Graph n self.now.edges.weights.now × (Underway n left self.now.edges.weights.now self.now × (best.least ≤ most)) }
+        ensures result_value { let b = self.now in
             found_in n result ≡ search_rest n (table_weight b.edges.weights.now) left (entries b.prefix) b.met (found_in n best) }
         ensures low { result.least ≤ best.least }
     {
@@ -90,18 +90,24 @@ impl<'a> Branch<'a> {
 
     // v behind the placed vertices, with the crossings of the edges that it closes: those at the back end of
     // greedy append.
-    fn put_behind(self, v: usize) -> Branch<'a>
-        requires { Room self }
-        ensures { Extends self.entry.edges.weights.now self.entry v result }
+    fn put_behind(&self, v: usize) -> Branch<'a>
+        requires { Room self.now }
+        ensures { Extends self.now.edges.weights.now self.now v result }
     {
-        let mut edges = self.edges;
-        edges.close(v);
+        // part by part: each is small enough to be copied in place
+        let mut next = Branch {
+            prefix: self.prefix,
+            met: self.met,
+            edges: OpenEdges {
+                weights: self.edges.weights,
+                sums: self.edges.sums,
+            },
+        };
+        next.edges.close(v);
         let placed = &self.prefix.places[..self.prefix.size];
-        let ends = edges.ends_of(placed, v);
-        Branch {
-            prefix: self.prefix.extended(v),
-            met: self.met + ends.back,
-            edges,
-        }
+        let ends = next.edges.ends_of(placed, v);
+        next.prefix = self.prefix.extended(v);
+        next.met += ends.back;
+        next
     }
 }
