@@ -26,6 +26,9 @@ returns-in_err-check_pair c =
 pub bounds-l-a : goal.bounds-l-a
 bounds-l-a c = inside (goal.at.bounds-l-a c).In_ok-check_pair
 
+-- the edge is there:
+-- that is told
+-- whatever the weight is
 pub returns-then-is_set : goal.returns-then-is_set
 unfolding linked refusal_number number
 returns-then-is_set c =
